@@ -1,0 +1,6 @@
+pub mod Cuts
+pub mod PathLemmas
+pub mod Known
+pub mod LineLemmas
+pub mod StoreLemmas
+pub mod NumberLemmas

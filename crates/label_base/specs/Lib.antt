@@ -1,0 +1,13 @@
+pub mod Answers
+pub mod Cut
+pub mod Escape
+pub mod Kind
+pub mod Lines
+pub mod Number
+pub mod Path
+pub mod PathCause
+pub mod Pieces
+pub mod Reading
+pub mod Sink
+pub mod Source
+pub mod Store

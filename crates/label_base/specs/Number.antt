@@ -1,0 +1,28 @@
+-- Numbers in decimal digits, of at most 64 bits.
+use Rattle.std.specs.Prelude.{ℕ, ◌+◌, ◌*◌, ◌-◌, ◌^◌, Bool, nat_lt, nat_le, ◌&&◌, List, [], ◌∷◌, Option, Some, None, if◌then◌else◌}
+use Rattle.std.specs.List.{list_all}
+
+abbrev pub is_digit : ℕ → Bool
+is_digit b = nat_le 48 b && nat_le b 57
+
+-- the value of digits behind a value so far
+abbrev pub decimal : ℕ → List ℕ → ℕ
+decimal value [] = value
+decimal value (b ∷ bs) = decimal (value * 10 + (b - 48)) bs
+
+-- nothing exactly where there is no byte, a byte that is no digit, or a value past 64 bits
+abbrev pub number_of : List ℕ → Option ℕ
+number_of [] = None
+number_of (b ∷ bs) = if list_all is_digit (b ∷ bs) && nat_lt (decimal 0 (b ∷ bs)) (2 ^ 64) then Some (decimal 0 (b ∷ bs)) else None
+
+-- one digit more
+abbrev pub digit_of : ℕ → Option ℕ
+digit_of b = if is_digit b then Some (b - 48) else None
+
+abbrev pub with_digit : ℕ → Option ℕ → Option ℕ
+with_digit value None = None
+with_digit value (Some digit) = if nat_lt (value * 10 + digit) (2 ^ 64) then Some (value * 10 + digit) else None
+
+abbrev pub next_value : Option ℕ → ℕ → Option ℕ
+next_value None b = None
+next_value (Some value) b = with_digit value (digit_of b)
