@@ -43,9 +43,9 @@ built-nodes (Set bytes) ns stack = refl
 built-nodes Nothing ns stack = refl
 built-nodes (Both first second) ns stack =
     ap (λ l. built l stack) (append_assoc (tree_nodes first) (tree_nodes second ++ _ ∷ []) ns ∙ ap (λ l. tree_nodes first ++ l) (append_assoc (tree_nodes second) (_ ∷ []) ns))
-    ∙ built-tree_nodes first _ stack ∙ built-nodes second _ (first ∷ stack)
+    ∙ built-nodes first _ stack ∙ built-nodes second _ (first ∷ stack)
 built-nodes (Either left right) ns stack =
-    ap (λ l. built l stack) (append_assoc (tree_nodes left) (tree_nodes right ++ _ ∷ []) ns ∙ ap (λ l. nodes left ++ l) (append_assoc (tree_nodes right) (_ ∷ []) ns))
+    ap (λ l. built l stack) (append_assoc (tree_nodes left) (tree_nodes right ++ _ ∷ []) ns ∙ ap (λ l. tree_nodes left ++ l) (append_assoc (tree_nodes right) (_ ∷ []) ns))
     ∙ built-nodes left _ stack ∙ built-nodes right _ (left ∷ stack)
 built-nodes (Repeat least most piece) ns stack =
     ap (λ l. built l stack) (append_assoc (tree_nodes piece) (_ ∷ []) ns) ∙ built-nodes piece _ stack
@@ -55,4 +55,4 @@ tree_again t = ap (λ l. tree_from (built l [])) (sym (append-nil (tree_nodes t)
 
 -- a tree is stored as its nodes
 abbrev pub tree_code : Coded Tree
-tree_code = code_by (List TreeNode) (coded_list (coded× coded_ℕ (coded× (coded_list coded_ℕ) (coded× coded_ℕ (coded_option coded_ℕ))))) nodes (λ ns. tree_from (built ns [])) tree_again
+tree_code = code_by (List TreeNode) (coded_list (coded× coded_ℕ (coded× (coded_list coded_ℕ) (coded× coded_ℕ (coded_option coded_ℕ))))) tree_nodes (λ ns. tree_from (built ns [])) tree_again

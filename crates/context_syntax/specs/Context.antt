@@ -1,0 +1,73 @@
+-- Security contexts: user:role:type, or user:role:type:range.
+use Rattle.std.specs.Prelude.{◌≡◌, ◌≢◌, ℕ, Bool, true, false, ◌&&◌, ◌||◌, ◌==◌, nat_le, List, [], ◌∷◌, ◌++◌, length, Option, Some, None, if◌then◌else◌, not}
+use Rattle.std.specs.List.{list_all, list_any}
+use Rattle.label_base.specs.Cut.{front, behind}
+use Rattle.label_base.specs.Path.{same_bytes}
+
+pub record ContextValue : Type 0 where
+  pub user : List ℕ
+  pub role : List ℕ
+  pub kind : List ℕ
+  pub range : Option (List ℕ)
+
+abbrev pub is_word_byte : ℕ → Bool
+is_word_byte b = (nat_le 97 b && nat_le b 122) || (nat_le 65 b && nat_le b 90) || (nat_le 48 b && nat_le b 57) || (b == 95) || (b == 46) || (b == 45)
+
+abbrev pub is_range_byte : ℕ → Bool
+is_range_byte b = nat_le 33 b && nat_le b 126 && (if b == 34 then false else if b == 92 then false else true)
+
+abbrev pub is_word : List ℕ → Bool
+is_word bytes = not (length bytes == 0) && list_all is_word_byte bytes
+
+abbrev pub is_range : Option (List ℕ) → Bool
+is_range None = true
+is_range (Some bytes) = not (length bytes == 0) && list_all is_range_byte bytes
+
+-- the parts are in the grammar
+pub record IsContext (c : ContextValue) : Type 0 where
+  pub user : is_word c.user ≡ true
+  pub role : is_word c.role ≡ true
+  pub kind : is_word c.kind ≡ true
+  pub range : is_range c.range ≡ true
+
+abbrev pub range_text : Option (List ℕ) → List ℕ
+range_text None = []
+range_text (Some r) = 58 ∷ r
+
+-- the one spelling of a context
+abbrev pub context_text : ContextValue → List ℕ
+context_text c = c.user ++ 58 ∷ c.role ++ 58 ∷ c.kind ++ range_text c.range
+
+-- the bytes spell this context
+pub record Spells (bytes : List ℕ) (c : ContextValue) : Type 0 where
+  pub parts : IsContext c
+  pub text : bytes ≡ context_text c
+
+abbrev pub same_option : Option (List ℕ) → Option (List ℕ) → Bool
+same_option None None = true
+same_option None (Some y) = false
+same_option (Some x) None = false
+same_option (Some x) (Some y) = same_bytes x y
+
+abbrev pub same_context : ContextValue → ContextValue → Bool
+same_context a b = same_bytes a.user b.user && same_bytes a.role b.role && same_bytes a.kind b.kind && same_option a.range b.range
+
+abbrev pub is_colon : ℕ → Bool
+is_colon b = b == 58
+
+abbrev pub with_kind : List ℕ → List ℕ → List ℕ → Option (List ℕ) → Option ContextValue
+with_kind user role kind range =
+    if is_word user && is_word role && is_word kind && is_range range then Some (record { user = user; role = role; kind = kind; range = range }) else None
+
+abbrev pub with_role : List ℕ → List ℕ → Option (List ℕ) → Option ContextValue
+with_role user role None = None
+with_role user role (Some rest) = with_kind user role (front is_colon rest) (behind is_colon rest)
+
+abbrev pub with_user : List ℕ → Option (List ℕ) → Option ContextValue
+with_user user None = None
+with_user user (Some rest) = with_role user (front is_colon rest) (behind is_colon rest)
+
+-- the context that the bytes spell
+abbrev pub context_of : List ℕ → Option ContextValue
+context_of bytes = with_user (front is_colon bytes) (behind is_colon bytes)
+

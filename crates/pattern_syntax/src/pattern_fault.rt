@@ -1,0 +1,35 @@
+ghost use Rattle.std.specs.Prelude.{◌≡◌};
+ghost use Rattle.pattern_syntax.specs.declared.pattern_fault.PatternFault.TheVariants as faults;
+
+use label_base::OutOfMemory;
+
+/// What is wrong with a text that is no pattern. Places count from 0.
+#[derive(Clone, Copy, Debug, PartialEq, Eq)]
+pub enum PatternWhy {
+    /// What stands here is no pattern.
+    Syntax { at: u32 },
+    /// What stands here is PCRE, but not of this dialect.
+    UnsupportedPattern { at: u32 },
+    /// The group that begins here would be the 51st that is open.
+    TooDeep { at: u32 },
+    /// The pattern has more than 2,000 positions.
+    TooManyPositions,
+}
+
+/// Why a text gave no pattern.
+#[derive(Clone, Copy, Debug, PartialEq, Eq)]
+pub enum PatternFault {
+    Syntax { at: u32 },
+    UnsupportedPattern { at: u32 },
+    TooDeep { at: u32 },
+    TooManyPositions,
+    OutOfMemory,
+}
+
+impl From<OutOfMemory> for PatternFault {
+    ghost from_gives = { λ _ e. e ≡ faults.OutOfMemory };
+
+    fn from(_refused: OutOfMemory) -> PatternFault {
+        PatternFault::OutOfMemory
+    }
+}
