@@ -1,5 +1,6 @@
 pub mod Cuts
 pub mod PathLemmas
+pub mod PathTexts
 pub mod Known
 pub mod LineLemmas
 pub mod StoreLemmas

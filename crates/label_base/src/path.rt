@@ -5,9 +5,9 @@ ghost use Rattle.std.specs.Ordering.{as_partial_cmp, nat_cmp};
 ghost use Rattle.std.specs.Str.{bytes_eq};
 ghost use Rattle.std.proofs.Common.{rules};
 ghost use Rattle.label_base.specs.Path.{path_cmp};
-ghost use Rattle.std.specs.Prelude.{◌≡◌, ◌++◌, ◌∷◌, ◌<◌, [], true, IfOk, OnOk, OnErr, length};
-ghost use Rattle.std.specs.List.{list_any};
-ghost use Rattle.label_base.specs.Path.{path_names, path_read, path_text, is_dot_part, is_name, at_or_below};
+ghost use Rattle.std.specs.Prelude.{◌≡◌, ◌++◌, ◌∷◌, ◌<◌, ◌≤◌, [], true, IfOk, OnOk, OnErr, length, drop, Some, slice_get, false, ◌==◌, if◌then◌else◌};
+ghost use Rattle.std.specs.List.{list_any, slice_split, count_by};
+ghost use Rattle.label_base.specs.Path.{path_names, path_read, path_text, is_dot_part, is_name, is_nonempty, at_or_below, with_slashes, text_at_or_below, ends_name, byte_rank, text_cmp, is_slash, IsNormal};
 ghost use Rattle.label_base.specs.Answers.{Answers};
 
 use std::alloc::Global;
@@ -16,40 +16,26 @@ use std::marker::Model;
 
 use crate::bytes::Bytes;
 use crate::cut::cut_at;
-use crate::memory;
+use crate::memory::OutOfMemory;
 use crate::path_fault::PathFault;
 
 /// An absolute path, seen as its names.
+///
+/// It is kept as one text, with a slash before each name, and none for the path `/`.
 #[derive(Debug, Drop)]
 pub struct NormPath {
-    names: Vec<Bytes>,
+    text: Vec<u8>,
 }
 
 impl Model for NormPath {
-    ghost use Rattle.std.specs.Prelude.{List, ℕ, ◌≡◌, true};
-    ghost use Rattle.label_base.specs.Path.{are_names};
+    ghost use Rattle.std.specs.Prelude.{List, ℕ};
+    ghost use Rattle.label_base.specs.Path.{path_names, IsNormal};
 
     ghost Value = { List (List ℕ) };
 
-    ghost view = { λ p. p.names.items };
+    ghost view = { λ p. path_names p.text.items };
 
-    ghost invariant = { λ p. are_names p.names.items ≡ true };
-}
-
-// The names between the slashes.
-fn names_in(alloc: Global, bytes: &[u8]) -> Result<Vec<Bytes>, memory::OutOfMemory>
-    ensures { IfOk result (λ names. names.items ≡ path_names bytes.now) }
-{
-    let mut names = Vec::new(alloc);
-    let mut left = Some(bytes);
-    while let Some(text) = left {
-        let (name, after) = cut_at(b'/', text);
-        if !name.is_empty() {
-            names.push(Bytes::copy_of(alloc, name)?)?;
-        }
-        left = after;
-    }
-    Ok(names)
+    ghost invariant = { λ p. IsNormal p.text.items };
 }
 
 fn is_dots(name: &[u8]) -> bool
@@ -58,20 +44,113 @@ fn is_dots(name: &[u8]) -> bool
     name == b".".as_slice() || name == b"..".as_slice()
 }
 
-fn copy_of_names(alloc: Global, names: &[Bytes]) -> Result<Vec<Bytes>, memory::OutOfMemory>
-    ensures { IfOk result (λ copy. copy.items ≡ names.now) }
+// Whether a component is `.` or `..`.
+fn has_dots(bytes: &[u8]) -> bool
+    ensures { result ≡ list_any is_dot_part (path_names bytes.now) }
 {
-    let mut copy = Vec::new(alloc);
-    for name in names {
-        copy.push(Bytes::copy_of(alloc, name.as_slice())?)?;
+    let mut left = Some(bytes);
+    while let Some(text) = left {
+        let (name, after) = cut_at(b'/', text);
+        if is_dots(name) {
+            return true;
+        }
+        left = after;
     }
-    Ok(copy)
+    false
 }
 
-fn has_dots(names: &[Bytes]) -> bool
-    ensures { result ≡ list_any is_dot_part names.now }
+// A slash before each name that stands between the slashes.
+fn normal_text(alloc: Global, bytes: &[u8]) -> Result<Vec<u8>, OutOfMemory>
+    requires { list_any (λ b. b == 0) bytes.now ≡ false }
+    ensures names { IfOk result (λ text. path_names text.items ≡ path_names bytes.now) }
+    ensures normal { IfOk result (λ text. IsNormal text.items) }
 {
-    names.iter().any(|name| is_dots(name.as_slice()))
+    let mut text = Vec::with_capacity(alloc, bytes.len())?;
+    let mut left = Some(bytes);
+    while let Some(rest) = left {
+        let (name, after) = cut_at(b'/', rest);
+        add_part(&mut text, name)?;
+        left = after;
+    }
+    Ok(text)
+}
+
+// Adds a component, if there is something in it.
+fn add_part(text: &mut Vec<u8>, name: &[u8]) -> Result<(), OutOfMemory>
+    ensures { OnOk result (text.new.items ≡ text.old.items ++ with_slashes (if is_nonempty name.now then name.now ∷ [] else [])) }
+{
+    if !name.is_empty() {
+        text.push(b'/')?;
+        text.extend_from_slice(name)?;
+    }
+    Ok(())
+}
+
+// Whether a path's text is the top's, or goes on with another name.
+fn is_text_at_or_below(text: &[u8], top: &[u8]) -> bool
+    ensures { result ≡ text_at_or_below text.now top.now }
+{
+    text.starts_with(top) && ends_name_at(text, top.len())
+}
+
+fn ends_name_at(text: &[u8], at: usize) -> bool
+    requires { at ≤ length text.now }
+    ensures { result ≡ ends_name (drop at text.now) }
+{
+    at == text.len() || text[at] == b'/'
+}
+
+// Adds a last name, or nothing.
+fn push_part(text: &mut Vec<u8>, name: &[u8]) -> Result<(), OutOfMemory>
+    ensures ok { OnOk result (text.new.items ≡ text.old.items ++ 47 ∷ name.now) }
+    ensures err { OnErr result (text.new.items ≡ text.old.items) }
+{
+    let before = text.len();
+    text.push(b'/')?;
+    if text.extend_from_slice(name).is_err() {
+        text.truncate(before);
+        return Err(OutOfMemory);
+    }
+    Ok(())
+}
+
+fn count_slashes(text: &[u8]) -> usize
+    ensures { result ≡ count_by is_slash text.now }
+{
+    text.iter().filter(|byte| **byte == b'/').count()
+}
+
+// The piece at a place of those between the slashes.
+fn piece_at(text: &[u8], i: usize) -> &[u8]
+    requires { i < length (slice_split is_slash text.now) }
+    ensures { slice_get (slice_split is_slash text.now) i ≡ Some result.now }
+{
+    let mut rest = text;
+    for passed in 0..i {
+        let (_, after) = cut_at(b'/', rest);
+        let Some(after) = after else { unreachable!() };
+        rest = after;
+    }
+    cut_at(b'/', rest).0
+}
+
+fn rank(byte: u8) -> u16
+    ensures { result ≡ byte_rank byte }
+{
+    if byte == b'/' { 0 } else { byte as u16 + 1 }
+}
+
+// The order of paths' texts.
+fn cmp_texts(text: &[u8], other: &[u8]) -> Ordering
+    ensures { result ≡ text_cmp text.now other.now }
+{
+    let common = text.len().min(other.len());
+    for i in 0..common {
+        if text[i] != other[i] {
+            return rank(text[i]).cmp(&rank(other[i]));
+        }
+    }
+    text.len().cmp(&other.len())
 }
 
 impl NormPath {
@@ -82,11 +161,14 @@ impl NormPath {
         ensures { result ≡ [] }
     {
         NormPath {
-            names: Vec::new(alloc),
+            text: Vec::new(alloc),
         }
     }
 
     /// Reads an absolute path. Runs of slashes count as one, and slashes at the end as none.
+    ///
+    /// The first fault in the order of [`PathFault`] is told: no bytes, more than 4,095 of them, a NUL,
+    /// another first byte than a slash, a component `.` or `..`.
     pub fn read(alloc: Global, bytes: &[u8]) -> Result<NormPath, PathFault>
         ensures { Answers (λ path. path) path_cause result (path_read bytes.now) }
     {
@@ -102,52 +184,69 @@ impl NormPath {
         if bytes[0] != b'/' {
             return Err(PathFault::NotAbsolute);
         }
-        let names = names_in(alloc, bytes)?;
-        if has_dots(names.as_slice()) {
+        if has_dots(bytes) {
             return Err(PathFault::DotPart);
         }
-        Ok(NormPath { names })
-    }
-
-    /// The same path.
-    pub fn copy(&self, alloc: Global) -> Result<NormPath, memory::OutOfMemory>
-        ensures { IfOk result (λ copy. copy ≡ self.now) }
-    {
         Ok(NormPath {
-            names: copy_of_names(alloc, self.names.as_slice())?,
+            text: normal_text(alloc, bytes)?,
         })
     }
 
-    /// Adds a last name.
-    pub fn push_name(&mut self, alloc: Global, name: &[u8]) -> Result<(), memory::OutOfMemory>
+    /// The same path.
+    pub fn copy(&self, alloc: Global) -> Result<NormPath, OutOfMemory>
+        ensures { IfOk result (λ copy. copy ≡ self.now) }
+    {
+        Ok(NormPath {
+            text: Vec::from_slice(alloc, self.text.as_slice())?,
+        })
+    }
+
+    /// Adds a last name. The path knows no limit of length.
+    ///
+    /// After a refusal the path is as it was.
+    pub fn push_name(&mut self, name: &[u8]) -> Result<(), OutOfMemory>
         requires { is_name name.now ≡ true }
         ensures ok { OnOk result (self.new ≡ self.old ++ name.now ∷ []) }
         ensures err { OnErr result (self.new ≡ self.old) }
     {
-        self.names.push(Bytes::copy_of(alloc, name)?)?;
+        push_part(&mut self.text, name)?;
         Ok(())
+    }
+
+    /// How many names the path has: none for `/`.
+    pub fn names(&self) -> usize
+        ensures { result ≡ length self.now }
+    {
+        count_slashes(self.text.as_slice())
+    }
+
+    /// The name at a place, counted from 0 at the top.
+    pub fn name(&self, i: usize) -> &[u8]
+        requires { i < length self.now }
+        ensures { slice_get self.now i ≡ Some result.now }
+    {
+        piece_at(&self.text[1..], i)
     }
 
     /// Whether the path is the other one or below it.
     pub fn is_at_or_below(&self, top: &NormPath) -> bool
         ensures { result ≡ at_or_below self.now top.now }
     {
-        self.names.as_slice().starts_with(top.names.as_slice())
+        is_text_at_or_below(self.text.as_slice(), top.text.as_slice())
     }
 
-    /// The text of the path.
-    pub fn text(&self, alloc: Global) -> Result<Bytes, memory::OutOfMemory>
+    /// The text of the path: `/` for no names, else a slash before each name.
+    pub fn as_text(&self) -> &[u8]
+        ensures { result.now ≡ path_text self.now }
+    {
+        if self.text.is_empty() { b"/" } else { self.text.as_slice() }
+    }
+
+    /// A copy of the text of the path.
+    pub fn text(&self, alloc: Global) -> Result<Bytes, OutOfMemory>
         ensures { IfOk result (λ text. text ≡ path_text self.now) }
     {
-        let mut text = Bytes::new(alloc);
-        for name in &self.names {
-            text.push(b"/")?;
-            text.push(name.as_slice())?;
-        }
-        if text.len() == 0 {
-            text.push(b"/")?;
-        }
-        Ok(text)
+        Bytes::copy_of(alloc, self.as_text())
     }
 }
 
@@ -157,7 +256,7 @@ impl PartialEq for NormPath {
     ghost laws = { partial_equiv_from_equiv (lists_equiv nat_list_eq_equiv) };
 
     fn eq(&self, other: &NormPath) -> bool {
-        self.names == other.names
+        self.text == other.text
     }
 }
 
@@ -185,6 +284,6 @@ impl Ord for NormPath {
     ghost matches_eq = { λ x y. lists_ties (slice_cmp nat_cmp) texts_ties x y };
 
     fn cmp(&self, other: &NormPath) -> Ordering {
-        self.names.cmp(&other.names)
+        cmp_texts(self.text.as_slice(), other.text.as_slice())
     }
 }
