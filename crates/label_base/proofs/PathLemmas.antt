@@ -1,12 +1,13 @@
 -- The names that are cut from a path's bytes are names.
-use Rattle.std.proofs.Common.{◌≡◌, refl, sym, ap, ◌∙◌, ℕ, ◌==◌, ◌+◌, ◌<◌, ◌≤◌, zero, suc, Some, length, drop, arith, Bool, true, false, cond, List, [], ◌∷◌, ◌++◌, append-nil}
+use Rattle.std.proofs.Common.{◌≡◌, refl, sym, ap, subst, ◌∙◌, ℕ, ◌==◌, ◌+◌, ◌<◌, ◌≤◌, zero, suc, Some, length, drop, arith, Bool, true, false, cond, List, [], ◌∷◌, ◌++◌, append-nil}
 use Rattle.std.proofs.lemmas.List.Elements.{filter-append}
 use Rattle.std.proofs.lemmas.List.Concat.{flat_map-append}
 use Rattle.std.proofs.lemmas.List.Splits.{length-slice_split}
+use Rattle.std.proofs.lemmas.Bool.Decides.{nat_tests}
 use Rattle.std.specs.Cmp.{first_so, second_so}
-use Rattle.std.specs.Prelude.{filter, not, ◌&&◌, ◌||◌}
+use Rattle.std.specs.Prelude.{filter, slice_index, not, ◌&&◌, ◌||◌}
 use Rattle.std.specs.List.{slice_get, slice_split, onto_first, list_any, list_all, count_by}
-use Rattle.label_base.specs.Path.{Path, is_slash, is_nonempty, is_name, is_name_byte, are_names, path_names, with_slashes, IsNormal}
+use Rattle.label_base.specs.Path.{Path, is_slash, is_nonempty, is_name, is_name_byte, are_names, path_names, with_slashes, IsNormal, is_dot_part, begins_plainly, is_plain}
 
 or_first : (x y : Bool) → (x || y) ≡ false → x ≡ false
 or_first true y h = cc
@@ -160,3 +161,100 @@ pub none_behind : (pieces : List (List ℕ)) (k : ℕ) → drop k pieces ≡ [] 
 none_behind [] k h = omega arith
 none_behind (p ∷ ps) zero h = cc
 none_behind (p ∷ ps) (suc k) h = let r = none_behind ps k h in omega arith
+
+-- ---- a plain text
+
+-- the pieces with a slash between them
+abbrev glued : List (List ℕ) → List ℕ
+glued [] = []
+glued (p ∷ ps) = p ++ with_slashes ps
+
+is_47 : (b : ℕ) → (b == 47) ≡ true → b ≡ 47
+is_47 b e = grind (arith, nat_tests)
+
+glued_onto : (b : ℕ) (v : Bool) (pieces : List (List ℕ)) → (b == 47) ≡ v → (pieces ≡ [] → ⊥) → glued (cond v ([] ∷ pieces) (onto_first b pieces)) ≡ b ∷ glued pieces
+glued_onto b v [] e h = absurd (h refl)
+glued_onto b true (p ∷ ps) e h = ap (λ x. x ∷ (p ++ with_slashes ps)) (sym (is_47 b e))
+glued_onto b false (p ∷ ps) e h = refl
+
+glued_again : (bytes : List ℕ) → glued (slice_split is_slash bytes) ≡ bytes
+glued_again [] = refl
+glued_again (b ∷ bs) = glued_onto b (b == 47) (slice_split is_slash bs) refl (some_piece bs) ∙ ap (λ xs. b ∷ xs) (glued_again bs)
+
+abbrev is_plain_piece : List ℕ → Bool
+is_plain_piece [] = false
+is_plain_piece (b ∷ bs) = not (b == 46)
+
+abbrev are_plain_behind : List (List ℕ) → Bool
+are_plain_behind [] = true
+are_plain_behind (p ∷ ps) = list_all is_plain_piece ps
+
+first_plain_at : (b : ℕ) (v : Bool) (pieces : List (List ℕ)) → (pieces ≡ [] → ⊥) → (not v && not (b == 46)) ≡ true
+    → are_plain_behind (cond v ([] ∷ pieces) (onto_first b pieces)) ≡ true → list_all is_plain_piece (cond v ([] ∷ pieces) (onto_first b pieces)) ≡ true
+first_plain_at b true pieces h t g = cc
+first_plain_at b false [] h t g = absurd (h refl)
+first_plain_at b false (p ∷ ps) h t g = rw (t, g) refl
+
+first_plain : (bytes : List ℕ) → begins_plainly bytes ≡ true → are_plain_behind (slice_split is_slash bytes) ≡ true → list_all is_plain_piece (slice_split is_slash bytes) ≡ true
+first_plain [] h g = cc
+first_plain (b ∷ bs) h g = first_plain_at b (b == 47) (slice_split is_slash bs) (some_piece bs) h g
+
+plain_onto : (b : ℕ) (v : Bool) (pieces : List (List ℕ)) → (v ≡ true → list_all is_plain_piece pieces ≡ true) → are_plain_behind pieces ≡ true → are_plain_behind (cond v ([] ∷ pieces) (onto_first b pieces)) ≡ true
+plain_onto b true pieces f g = f refl
+plain_onto b false [] f g = refl
+plain_onto b false (p ∷ ps) f g = g
+
+where_slash : (v t : Bool) → (not v || t) ≡ true → v ≡ true → t ≡ true
+where_slash true t h e = h
+where_slash false t h e = cc
+
+plain_behind : (bytes : List ℕ) → is_plain bytes ≡ true → are_plain_behind (slice_split is_slash bytes) ≡ true
+plain_behind [] h = refl
+plain_behind (b ∷ bs) h =
+    let rest = plain_behind bs (second_so (not (b == 47) || begins_plainly bs) _ h) in
+    plain_onto b (b == 47) (slice_split is_slash bs)
+    (λ e. first_plain bs (where_slash (b == 47) (begins_plainly bs) (first_so (not (b == 47) || begins_plainly bs) _ h) e) rest)
+    rest
+
+all_kept : (pieces : List (List ℕ)) → list_all is_plain_piece pieces ≡ true → filter is_nonempty pieces ≡ pieces
+all_kept [] h = refl
+all_kept ([] ∷ ps) h = cc
+all_kept ((b ∷ bs) ∷ ps) h = ap (λ ks. (b ∷ bs) ∷ ks) (all_kept ps (second_so (not (b == 46)) _ h))
+
+no_dot : (v s t : Bool) → not v ≡ true → ((v && s) || (v && t)) ≡ false
+no_dot true s t h = cc
+no_dot false s t h = refl
+
+no_dots : (pieces : List (List ℕ)) → list_all is_plain_piece pieces ≡ true → list_any is_dot_part pieces ≡ false
+no_dots [] h = refl
+no_dots ([] ∷ ps) h = cc
+no_dots ((b ∷ bs) ∷ ps) h = rw (no_dot (b == 46) _ _ (first_so (not (b == 46)) _ h)) (no_dots ps (second_so (not (b == 46)) _ h))
+
+glued_behind : (pieces : List (List ℕ)) → (pieces ≡ [] → ⊥) → with_slashes pieces ≡ 47 ∷ glued pieces
+glued_behind [] h = absurd (h refl)
+glued_behind (p ∷ ps) h = refl
+
+plain_pieces : (bytes : List ℕ) → is_plain (47 ∷ bytes) ≡ true → list_all is_plain_piece (slice_split is_slash bytes) ≡ true
+plain_pieces bytes h = first_plain bytes (first_so (begins_plainly bytes) _ h) (plain_behind bytes (second_so (begins_plainly bytes) _ h))
+
+plain_normal_at : (bytes : List ℕ) → is_plain (47 ∷ bytes) ≡ true → with_slashes (path_names (47 ∷ bytes)) ≡ 47 ∷ bytes
+plain_normal_at bytes h =
+    ap with_slashes (all_kept (slice_split is_slash bytes) (plain_pieces bytes h))
+    ∙ glued_behind (slice_split is_slash bytes) (some_piece bytes)
+    ∙ ap (λ xs. 47 ∷ xs) (glued_again bytes)
+
+plain_undotted_at : (bytes : List ℕ) → is_plain (47 ∷ bytes) ≡ true → list_any is_dot_part (path_names (47 ∷ bytes)) ≡ false
+plain_undotted_at bytes h = ap (list_any is_dot_part) (all_kept (slice_split is_slash bytes) (plain_pieces bytes h)) ∙ no_dots (slice_split is_slash bytes) (plain_pieces bytes h)
+
+-- a plain text that begins with a slash is normal, and has no dots for a component
+pub plain_normal : (bytes : List ℕ) → is_plain bytes ≡ true → slice_index bytes 0 ≡ 47 → list_any (λ b. b == 0) bytes ≡ false → IsNormal bytes
+plain_normal [] h s n = cc
+plain_normal (b ∷ bs) h s n =
+    let e = subst (λ x. is_plain (x ∷ bs) ≡ true) s h in
+    (subst (λ x. with_slashes (path_names (x ∷ bs)) ≡ x ∷ bs) (sym s) (plain_normal_at bs e), names_ok (b ∷ bs) n)
+
+pub plain_undotted : (bytes : List ℕ) → is_plain bytes ≡ true → slice_index bytes 0 ≡ 47 → list_any is_dot_part (path_names bytes) ≡ false
+plain_undotted [] h s = cc
+plain_undotted (b ∷ bs) h s =
+    let e = subst (λ x. is_plain (x ∷ bs) ≡ true) s h in
+    subst (λ x. list_any is_dot_part (path_names (x ∷ bs)) ≡ false) (sym s) (plain_undotted_at bs e)

@@ -59,6 +59,16 @@ path_names bytes = filter is_nonempty (slice_split is_slash bytes)
 abbrev pub IsNormal : List ℕ → Type 0
 IsNormal text = (with_slashes (path_names text) ≡ text) × (are_names (path_names text) ≡ true)
 
+-- a name begins at the front of what is left of a text, and not with a dot
+abbrev pub begins_plainly : List ℕ → Bool
+begins_plainly [] = false
+begins_plainly (b ∷ bs) = not (b == 47) && not (b == 46)
+
+-- behind each slash a name begins, and not with a dot
+abbrev pub is_plain : List ℕ → Bool
+is_plain [] = true
+is_plain (b ∷ bs) = (not (b == 47) || begins_plainly bs) && is_plain bs
+
 -- no name goes on at the front of what is left of a text
 abbrev pub ends_name : List ℕ → Bool
 ends_name [] = true

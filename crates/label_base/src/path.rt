@@ -7,7 +7,7 @@ ghost use Rattle.std.proofs.Common.{rules};
 ghost use Rattle.label_base.specs.Path.{path_cmp};
 ghost use Rattle.std.specs.Prelude.{◌≡◌, ◌++◌, ◌∷◌, ◌<◌, ◌≤◌, [], true, IfOk, OnOk, OnErr, length, drop, Some, slice_get, false, ◌==◌, if◌then◌else◌};
 ghost use Rattle.std.specs.List.{list_any, slice_split, count_by};
-ghost use Rattle.label_base.specs.Path.{path_names, path_read, path_text, is_dot_part, is_name, is_nonempty, at_or_below, with_slashes, text_at_or_below, ends_name, byte_rank, text_cmp, is_slash, IsNormal};
+ghost use Rattle.label_base.specs.Path.{path_names, path_read, path_text, is_dot_part, is_name, is_nonempty, at_or_below, with_slashes, text_at_or_below, ends_name, byte_rank, text_cmp, is_slash, IsNormal, begins_plainly, is_plain};
 ghost use Rattle.label_base.specs.Answers.{Answers};
 
 use std::alloc::Global;
@@ -57,6 +57,31 @@ fn has_dots(bytes: &[u8]) -> bool
         left = after;
     }
     false
+}
+
+// Whether a name that begins with no dot stands behind each slash: such a text needs no cutting.
+fn is_plain(bytes: &[u8]) -> bool
+    ensures { result ≡ is_plain bytes.now }
+{
+    for i in 0..bytes.len() {
+        if bytes[i] == b'/' && !begins_plainly(bytes, i + 1) {
+            return false;
+        }
+    }
+    true
+}
+
+fn begins_plainly(bytes: &[u8], at: usize) -> bool
+    requires { at ≤ length bytes.now }
+    ensures { result ≡ begins_plainly (drop at bytes.now) }
+{
+    at < bytes.len() && bytes[at] != b'/' && bytes[at] != b'.'
+}
+
+fn copy_of_text(alloc: Global, text: &[u8]) -> Result<Vec<u8>, OutOfMemory>
+    ensures { IfOk result (λ copy. copy.items ≡ text.now) }
+{
+    Ok(Vec::from_slice(alloc, text)?)
 }
 
 // A slash before each name that stands between the slashes.
@@ -184,6 +209,11 @@ impl NormPath {
         if bytes[0] != b'/' {
             return Err(PathFault::NotAbsolute);
         }
+        if is_plain(bytes) {
+            return Ok(NormPath {
+                text: copy_of_text(alloc, bytes)?,
+            });
+        }
         if has_dots(bytes) {
             return Err(PathFault::DotPart);
         }
@@ -197,7 +227,7 @@ impl NormPath {
         ensures { IfOk result (λ copy. copy ≡ self.now) }
     {
         Ok(NormPath {
-            text: Vec::from_slice(alloc, self.text.as_slice())?,
+            text: copy_of_text(alloc, self.text.as_slice())?,
         })
     }
 
