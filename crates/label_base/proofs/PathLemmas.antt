@@ -7,7 +7,8 @@ use Rattle.std.proofs.lemmas.Bool.Decides.{nat_tests}
 use Rattle.std.specs.Cmp.{first_so, second_so}
 use Rattle.std.specs.Prelude.{filter, slice_index, not, ◌&&◌, ◌||◌}
 use Rattle.std.specs.List.{slice_get, slice_split, onto_first, list_any, list_all, count_by}
-use Rattle.label_base.specs.Path.{Path, is_slash, is_nonempty, is_name, is_name_byte, are_names, path_names, with_slashes, IsNormal, is_dot_part, begins_plainly, is_plain}
+use Rattle.label_base.specs.Path.{Path, is_slash, is_nonempty, is_name, is_name_byte, are_names, path_names, with_slashes, is_dot_part}
+use Rattle.label_base.specs.PathText.{IsNormal, begins_plainly, is_plain}
 
 or_first : (x y : Bool) → (x || y) ≡ false → x ≡ false
 or_first true y h = cc

@@ -6,10 +6,12 @@ use Rattle.std.specs.Cmp.Lexicographic.{slice_cmp, pointwise}
 use Rattle.std.specs.Ordering.{nat_cmp, ordering_then}
 use Rattle.std.specs.declared.cmp.Ordering.{Ordering}
 use Rattle.std.specs.declared.cmp.Ordering.TheVariants.{Less, Equal, Greater}
-use Rattle.std.specs.Prelude.{not, ◌&&◌, ◌||◌, nat_eq}
-use Rattle.std.specs.List.{list_all, starts_with}
-use Rattle.label_base.specs.Path.{Path, is_name, is_name_byte, are_names, with_slashes, same_bytes, at_or_below, path_cmp, byte_rank, text_cmp, text_at_or_below, path_names, IsNormal}
-use Rattle.label_base.proofs.PathLemmas.{not_slash, name_bytes}
+use Rattle.std.specs.Prelude.{not, ◌&&◌, ◌||◌, nat_eq, nat_lt, if◌then◌else◌, Ok, Err}
+use Rattle.std.specs.List.{list_all, list_any, starts_with}
+use Rattle.label_base.specs.Path.{Path, path_text, path_read, is_dot_part, is_name, is_name_byte, are_names, with_slashes, same_bytes, at_or_below, path_cmp, path_names}
+use Rattle.label_base.specs.PathText.{byte_rank, text_cmp, text_at_or_below, IsNormal}
+use Rattle.label_base.proofs.PathLemmas.{not_slash, name_bytes, names_back}
+use Rattle.label_base.specs.declared.path_fault.PathWhy.TheVariants.{Empty, PathTooLong, HasNul, NotAbsolute, DotPart}
 
 slash_other : (b : ℕ) → is_name_byte b ≡ true → nat_eq 47 b ≡ false
 slash_other b h = let e : nat_eq b 47 ≡ false = not_slash b h in grind (arith, nat_tests)
@@ -140,3 +142,43 @@ cmp_ended (x ∷ xs) (y ∷ ys) zero h g = absurd (omega arith)
 cmp_ended [] ys (suc i) h g = absurd (omega arith)
 cmp_ended (x ∷ xs) [] (suc i) h g = absurd (omega arith)
 cmp_ended (x ∷ xs) (y ∷ ys) (suc i) h g = cmp_ended xs ys i (omega arith) (omega arith) ∙ sym (cmp_suc (length xs) (length ys))
+
+-- ---- the text, read again
+
+read_as : (a b c d e : Bool) (p q : Path) → a ≡ false → b ≡ false → c ≡ false → d ≡ false → e ≡ false → p ≡ q
+    → (if a then Err Empty else if b then Err PathTooLong else if c then Err HasNul else if d then Err NotAbsolute else if e then Err DotPart else Ok p) ≡ Ok q
+read_as true b c d e p q ha hb hc hd he h = cc
+read_as false true c d e p q ha hb hc hd he h = cc
+read_as false false true d e p q ha hb hc hd he h = cc
+read_as false false false true e p q ha hb hc hd he h = cc
+read_as false false false false true p q ha hb hc hd he h = cc
+read_as false false false false false p q ha hb hc hd he h = ap Ok h
+
+not_nul : (v w : Bool) → (not v && not w) ≡ true → w ≡ false
+not_nul true w h = cc
+not_nul false true h = cc
+not_nul false false h = refl
+
+no_nul_before : (name more : List ℕ) → list_all is_name_byte name ≡ true → list_any (λ b. b == 0) (name ++ more) ≡ list_any (λ b. b == 0) more
+no_nul_before [] more h = refl
+no_nul_before (b ∷ bs) more h = rw (not_nul (b == 47) (b == 0) (first_so (is_name_byte b) _ h)) (no_nul_before bs more (second_so (is_name_byte b) _ h))
+
+no_nul : (names : Path) → are_names names ≡ true → list_any (λ b. b == 0) (with_slashes names) ≡ false
+no_nul [] h = refl
+no_nul (n ∷ ns) h = no_nul_before n (with_slashes ns) (name_bytes n (first_so (is_name n) _ h)) ∙ no_nul ns (second_so (is_name n) _ h)
+
+not_none : (n : ℕ) → nat_eq (suc n) 0 ≡ false
+not_none n = grind (arith, nat_tests)
+
+not_past : (n : ℕ) → n ≤ 4095 → nat_lt 4095 n ≡ false
+not_past n h = grind (arith, nat_tests)
+
+text_reads_back : (names : Path) → are_names names ≡ true → length (path_text names) ≤ 4095 → list_any is_dot_part names ≡ false → path_read (path_text names) ≡ Ok names
+text_reads_back [] h g d = refl
+text_reads_back (n ∷ ns) h g d =
+    let e = names_back (n ∷ ns) h in
+    let undotted = ap (list_any is_dot_part) e ∙ d in
+    read_as _ _ _ _ _ (path_names (with_slashes (n ∷ ns))) (n ∷ ns) (not_none (length (n ++ with_slashes ns))) (not_past _ g) (no_nul (n ∷ ns) h) refl undotted e
+
+pub normal_reads_back : (text r : List ℕ) → IsNormal text → r ≡ path_text (path_names text) → length r ≤ 4095 → list_any is_dot_part (path_names text) ≡ false → path_read r ≡ Ok (path_names text)
+normal_reads_back text r (t, h) e g d = rw e (text_reads_back (path_names text) h (rw (← e) g) d)

@@ -1,5 +1,5 @@
 -- Paths: lists of nonempty names without a slash and NUL.
-use Rattle.std.specs.Prelude.{◌≡◌, ℕ, nat_eq, Bool, true, false, ◌&&◌, ◌||◌, ◌==◌, List, [], ◌∷◌, ◌++◌, length, take, drop, IsTrue, not, if◌then◌else◌, ◌+◌, nat_lt, filter, slice_index, Result, Ok, Err}
+use Rattle.std.specs.Prelude.{ℕ, Bool, true, false, ◌&&◌, ◌||◌, ◌==◌, List, [], ◌∷◌, length, not, if◌then◌else◌, nat_lt, filter, slice_index, Result, Ok, Err}
 use Rattle.std.specs.List.{flat_map, list_any, list_all, starts_with, slice_split}
 use Rattle.label_base.specs.declared.path_fault.PathWhy.{PathWhy}
 use Rattle.label_base.specs.declared.path_fault.PathWhy.TheVariants.{Empty, PathTooLong, HasNul, NotAbsolute, DotPart}
@@ -54,37 +54,6 @@ path_cmp = slice_cmp (slice_cmp nat_cmp)
 -- the pieces between the slashes that are not empty
 abbrev pub path_names : List ℕ → Path
 path_names bytes = filter is_nonempty (slice_split is_slash bytes)
-
--- a text is normal: a slash before each of its names, and nothing else
-abbrev pub IsNormal : List ℕ → Type 0
-IsNormal text = (with_slashes (path_names text) ≡ text) × (are_names (path_names text) ≡ true)
-
--- a name begins at the front of what is left of a text, and not with a dot
-abbrev pub begins_plainly : List ℕ → Bool
-begins_plainly [] = false
-begins_plainly (b ∷ bs) = not (b == 47) && not (b == 46)
-
--- behind each slash a name begins, and not with a dot
-abbrev pub is_plain : List ℕ → Bool
-is_plain [] = true
-is_plain (b ∷ bs) = (not (b == 47) || begins_plainly bs) && is_plain bs
-
--- no name goes on at the front of what is left of a text
-abbrev pub ends_name : List ℕ → Bool
-ends_name [] = true
-ends_name (b ∷ bs) = b == 47
-
--- the text begins with the top's, and goes on with another name, if at all
-abbrev pub text_at_or_below : List ℕ → List ℕ → Bool
-text_at_or_below text top = starts_with nat_eq text top && ends_name (drop (length top) text)
-
--- the place of a byte in the order of paths' texts: a slash below each other
-abbrev pub byte_rank : ℕ → ℕ
-byte_rank b = if b == 47 then 0 else b + 1
-
--- the order of paths' texts
-abbrev pub text_cmp : List ℕ → List ℕ → Ordering
-text_cmp = slice_cmp (λ x y. nat_cmp (byte_rank x) (byte_rank y))
 
 abbrev pub is_dot_part : List ℕ → Bool
 is_dot_part name = same_bytes name (46 ∷ []) || same_bytes name (46 ∷ 46 ∷ [])

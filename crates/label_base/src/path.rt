@@ -5,9 +5,10 @@ ghost use Rattle.std.specs.Ordering.{as_partial_cmp, nat_cmp};
 ghost use Rattle.std.specs.Str.{bytes_eq};
 ghost use Rattle.std.proofs.Common.{rules};
 ghost use Rattle.label_base.specs.Path.{path_cmp};
-ghost use Rattle.std.specs.Prelude.{◌≡◌, ◌++◌, ◌∷◌, ◌<◌, ◌≤◌, [], true, IfOk, OnOk, OnErr, length, drop, Some, slice_get, false, ◌==◌, if◌then◌else◌};
+ghost use Rattle.std.specs.Prelude.{◌≡◌, ◌++◌, ◌∷◌, ◌<◌, ◌≤◌, [], true, IfOk, OnOk, OnErr, length, drop, Ok, Some, slice_get, false, ◌==◌, if◌then◌else◌};
 ghost use Rattle.std.specs.List.{list_any, slice_split, count_by};
-ghost use Rattle.label_base.specs.Path.{path_names, path_read, path_text, is_dot_part, is_name, is_nonempty, at_or_below, with_slashes, text_at_or_below, ends_name, byte_rank, text_cmp, is_slash, IsNormal, begins_plainly, is_plain};
+ghost use Rattle.label_base.specs.Path.{path_names, path_read, path_text, is_dot_part, is_name, is_nonempty, at_or_below, with_slashes, is_slash};
+ghost use Rattle.label_base.specs.PathText.{text_at_or_below, ends_name, byte_rank, text_cmp, IsNormal, begins_plainly, is_plain};
 ghost use Rattle.label_base.specs.Answers.{Answers};
 
 use std::alloc::Global;
@@ -29,7 +30,8 @@ pub struct NormPath {
 
 impl Model for NormPath {
     ghost use Rattle.std.specs.Prelude.{List, ℕ};
-    ghost use Rattle.label_base.specs.Path.{path_names, IsNormal};
+    ghost use Rattle.label_base.specs.Path.{path_names};
+    ghost use Rattle.label_base.specs.PathText.{IsNormal};
 
     ghost Value = { List (List ℕ) };
 
@@ -109,6 +111,13 @@ fn add_part(text: &mut Vec<u8>, name: &[u8]) -> Result<(), OutOfMemory>
         text.extend_from_slice(name)?;
     }
     Ok(())
+}
+
+fn text_or_slash(text: &[u8]) -> &[u8]
+    requires { IsNormal text.now }
+    ensures { result.now ≡ path_text (path_names text.now) }
+{
+    if text.is_empty() { b"/" } else { text }
 }
 
 // Whether a path's text is the top's, or goes on with another name.
@@ -266,10 +275,14 @@ impl NormPath {
     }
 
     /// The text of the path: `/` for no names, else a slash before each name.
+    ///
+    /// [`NormPath::read`] reads it back as this path, unless it is too long or a name is `.` or `..`.
     pub fn as_text(&self) -> &[u8]
-        ensures { result.now ≡ path_text self.now }
+        ensures value { result.now ≡ path_text self.now }
+        ensures read_back { length result.now ≤ 4095 → list_any is_dot_part self.now ≡ false
+            → path_read result.now ≡ Ok self.now }
     {
-        if self.text.is_empty() { b"/" } else { self.text.as_slice() }
+        text_or_slash(self.text.as_slice())
     }
 
     /// A copy of the text of the path.

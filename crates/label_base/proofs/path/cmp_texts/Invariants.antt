@@ -1,5 +1,5 @@
 use Rattle.std.proofs.Common.{◌≡◌, drop}
-use Rattle.label_base.specs.Path.{text_cmp}
+use Rattle.label_base.specs.PathText.{text_cmp}
 use Rattle.label_base.proofs.path.cmp_texts.Given as goal
 
 -- what is left decides

@@ -1,5 +1,5 @@
 use Rattle.std.proofs.Common.{◌≡◌, drop}
-use Rattle.label_base.specs.Path.{is_plain}
+use Rattle.label_base.specs.PathText.{is_plain}
 use Rattle.label_base.proofs.path.is_plain.Given as goal
 
 -- what is left decides
