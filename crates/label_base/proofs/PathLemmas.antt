@@ -109,7 +109,7 @@ pieces_behind xs [] h = ap (slice_split is_slash) (append-nil xs) ∙ sym (appen
 pieces_behind xs (n ∷ ns) h =
     cut_at_slash xs (n ++ with_slashes ns)
     ∙ ap (λ ps. slice_split is_slash xs ++ ps)
-      (pieces_behind n ns (second_so (is_name n) _ h) ∙ ap (λ ps. ps ++ ns) (one_piece n (name_bytes n (first_so (is_name n) _ h))))
+    (pieces_behind n ns (second_so (is_name n) _ h) ∙ ap (λ ps. ps ++ ns) (one_piece n (name_bytes n (first_so (is_name n) _ h))))
 
 -- ---- a normal text
 

@@ -98,7 +98,7 @@ cmp_names (a ∷ cs) (b ∷ bs) ns ms h g =
     let o : nat_cmp (byte_rank a) (byte_rank b) ≡ nat_cmp a b = ap (λ x. nat_cmp x (byte_rank b)) ra ∙ ap (λ y. nat_cmp (a + 1) y) rb ∙ cmp_more a b in
     ap (λ r. ordering_then r (text_cmp (cs ++ with_slashes ns) (bs ++ with_slashes ms))) o
     ∙ then_after (nat_cmp a b) (slice_cmp nat_cmp cs bs) (text_cmp (with_slashes ns) (with_slashes ms)) _
-      (cmp_names cs bs ns ms (second_so (is_name_byte a) _ h) (second_so (is_name_byte b) _ g))
+    (cmp_names cs bs ns ms (second_so (is_name_byte a) _ h) (second_so (is_name_byte b) _ g))
 
 pub cmp_by_texts : (ns ms : Path) → are_names ns ≡ true → are_names ms ≡ true → path_cmp ns ms ≡ text_cmp (with_slashes ns) (with_slashes ms)
 cmp_by_texts [] [] h g = refl

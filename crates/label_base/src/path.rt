@@ -11,14 +11,13 @@ ghost use Rattle.label_base.specs.Path.{path_names, path_read, path_text, is_dot
 ghost use Rattle.label_base.specs.PathText.{text_at_or_below, ends_name, byte_rank, text_cmp, IsNormal, begins_plainly, is_plain};
 ghost use Rattle.label_base.specs.Answers.{Answers};
 
-use std::alloc::Global;
-use std::cmp::Ordering;
-use std::marker::Model;
-
 use crate::bytes::Bytes;
 use crate::cut::cut_at;
 use crate::memory::OutOfMemory;
 use crate::path_fault::PathFault;
+use std::alloc::Global;
+use std::cmp::Ordering;
+use std::marker::Model;
 
 /// An absolute path, seen as its names.
 ///
@@ -328,5 +327,74 @@ impl Ord for NormPath {
 
     fn cmp(&self, other: &NormPath) -> Ordering {
         cmp_texts(self.text.as_slice(), other.text.as_slice())
+    }
+}
+
+#[cfg(test)]
+mod tests {
+    use super::*;
+    use std::test::Fail;
+
+    fn fault(alloc: Global, spelled: &[u8]) -> Option<PathFault> {
+        NormPath::read(alloc, spelled).err()
+    }
+
+    #[test]
+    fn spellings_of_a_path(rt: HostRuntime) -> Result<(), Fail> {
+        let alloc = rt.alloc();
+        assert_eq!(rt; NormPath::read(alloc, b"/")?.as_text(), b"/".as_slice());
+        assert_eq!(rt; NormPath::read(alloc, b"//a/")?.as_text(), b"/a".as_slice());
+        assert_eq!(rt;
+            NormPath::read(alloc, b"/a//.b/...")?.as_text(),
+            b"/a/.b/...".as_slice()
+        );
+        assert_eq!(rt;
+            NormPath::read(alloc, b"/usr/bin")?.as_text(),
+            b"/usr/bin".as_slice()
+        );
+        assert_eq!(rt;
+            NormPath::read(alloc, &[b'/'; 4095])?.as_text(),
+            b"/".as_slice()
+        );
+        Ok(())
+    }
+
+    #[test]
+    fn faults_of_a_path(rt: HostRuntime) {
+        let alloc = rt.alloc();
+        assert_eq!(rt; fault(alloc, b""), Some(PathFault::Empty));
+        assert_eq!(rt; fault(alloc, &[b'/'; 4096]), Some(PathFault::PathTooLong));
+        assert_eq!(rt; fault(alloc, b"a\0"), Some(PathFault::HasNul));
+        assert_eq!(rt; fault(alloc, b"a/.."), Some(PathFault::NotAbsolute));
+        assert_eq!(rt; fault(alloc, b"/a/../b"), Some(PathFault::DotPart));
+        assert_eq!(rt; fault(alloc, b"/a/."), Some(PathFault::DotPart));
+    }
+
+    #[test]
+    fn names_of_a_path(rt: HostRuntime) -> Result<(), Fail> {
+        let top = NormPath::read(rt.alloc(), b"/usr")?;
+        let mut path = top.copy(rt.alloc())?;
+        path.push_name(b"bin")?;
+        assert_eq!(rt; path.text(rt.alloc())?.as_slice(), b"/usr/bin".as_slice());
+        assert_eq!(rt; path.names(), 2);
+        assert_eq!(rt; path.name(0), b"usr".as_slice());
+        assert_eq!(rt; path.name(1), b"bin".as_slice());
+        assert!(rt; path.is_at_or_below(&top));
+        assert!(rt; !top.is_at_or_below(&path));
+        assert!(rt; top.is_at_or_below(&NormPath::root(rt.alloc())));
+        assert!(rt; !NormPath::read(rt.alloc(), b"/usr2")?.is_at_or_below(&top));
+        Ok(())
+    }
+
+    #[test]
+    fn order_of_paths(rt: HostRuntime) -> Result<(), Fail> {
+        let parent = NormPath::read(rt.alloc(), b"/a")?;
+        let child = NormPath::read(rt.alloc(), b"/a/b")?;
+        let other = NormPath::read(rt.alloc(), b"/a-b")?;
+        assert!(rt; NormPath::root(rt.alloc()) < parent);
+        assert!(rt; parent < child);
+        assert!(rt; child < other);
+        assert!(rt; child != other);
+        Ok(())
     }
 }

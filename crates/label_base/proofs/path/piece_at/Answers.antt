@@ -10,8 +10,8 @@ pub unreachable-requires : goal.unreachable-requires
 unreachable-requires c =
     let pieces = slice_split is_slash c.args.text.now in
     let behind : drop (suc c.loop-passed.passed) pieces ≡ [] =
-      pieces_behind_one pieces c.loop-passed.passed _ _ (c.loop-passed.invariant ∙ c.cut_at.ensures.pieces)
-      ∙ ap (λ o. pieces_left is_slash (option_copied o)) c.in_default.is in
+    pieces_behind_one pieces c.loop-passed.passed _ _ (c.loop-passed.invariant ∙ c.cut_at.ensures.pieces)
+    ∙ ap (λ o. pieces_left is_slash (option_copied o)) c.in_default.is in
     let few : length pieces ≤ suc c.loop-passed.passed = none_behind pieces (suc c.loop-passed.passed) behind in
     omega arith
 
