@@ -1,8 +1,8 @@
 -- Comparisons of paths are comparisons of their texts.
-use Rattle.std.proofs.Common.{◌≡◌, refl, sym, ap, ◌∙◌, ℕ, ◌==◌, ◌+◌, Bool, true, false, cond, List, [], ◌∷◌, ◌++◌, length, drop, arith, zero, suc, min, ◌≤◌}
+use Rattle.std.proofs.Common.{◌≡◌, refl, sym, ap, ◌∙◌, ℕ, ◌==◌, ◌+◌, Bool, true, false, cond, List, [], ◌∷◌, ◌++◌, length, take, drop, arith, zero, suc, min, ◌≤◌}
 use Rattle.std.proofs.lemmas.Bool.Decides.{nat_tests}
 use Rattle.std.specs.Cmp.{first_so, second_so}
-use Rattle.std.specs.Cmp.Lexicographic.{slice_cmp, pointwise}
+use Rattle.std.specs.Cmp.Lexicographic.{slice_cmp, pointwise, bytes_decides}
 use Rattle.std.specs.Ordering.{nat_cmp, ordering_then}
 use Rattle.std.specs.declared.cmp.Ordering.{Ordering}
 use Rattle.std.specs.declared.cmp.Ordering.TheVariants.{Less, Equal, Greater}
@@ -182,3 +182,25 @@ text_reads_back (n ∷ ns) h g d =
 
 pub normal_reads_back : (text r : List ℕ) → IsNormal text → r ≡ path_text (path_names text) → length r ≤ 4095 → list_any is_dot_part (path_names text) ≡ false → path_read r ≡ Ok (path_names text)
 normal_reads_back text r (t, h) e g d = rw e (text_reads_back (path_names text) h (rw (← e) g) d)
+
+-- ---- a front in common
+
+rank_tied : (n : ℕ) → nat_cmp n n ≡ Equal
+rank_tied n = grind (arith, nat_tests)
+
+-- the same first places decide nothing
+pub cmp_behind : (n : ℕ) (xs ys : List ℕ) → take n xs ≡ take n ys → n ≤ length xs → n ≤ length ys → text_cmp xs ys ≡ text_cmp (drop n xs) (drop n ys)
+cmp_behind zero xs ys e h g = refl
+cmp_behind (suc n) [] ys e h g = absurd (omega arith)
+cmp_behind (suc n) (x ∷ xs) [] e h g = absurd (omega arith)
+cmp_behind (suc n) (x ∷ xs) (y ∷ ys) e h g =
+    let first : x ≡ y = cc in
+    let others : take n xs ≡ take n ys = cc in
+    let tied : nat_cmp (byte_rank x) (byte_rank y) ≡ Equal = ap (λ z. nat_cmp (byte_rank x) (byte_rank z)) (sym first) ∙ rank_tied (byte_rank x) in
+    ap (λ o. ordering_then o (text_cmp xs ys)) tied ∙ cmp_behind n xs ys others (omega arith) (omega arith)
+
+pub cmp_behind_same : (n : ℕ) (xs ys front other rest more : List ℕ) → true ≡ pointwise nat_eq front other → front ≡ take n xs → other ≡ take n ys → rest ≡ drop n xs → more ≡ drop n ys
+    → n ≤ length xs → n ≤ length ys → text_cmp xs ys ≡ text_cmp rest more
+cmp_behind_same n xs ys front other rest more t f o r m h g =
+    let e : front ≡ other = (bytes_decides front other).0 (sym t) in
+    cmp_behind n xs ys (sym f ∙ e ∙ o) h g ∙ ap (λ l. text_cmp l (drop n ys)) (sym r) ∙ ap (λ l. text_cmp rest l) (sym m)

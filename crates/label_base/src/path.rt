@@ -5,7 +5,7 @@ ghost use Rattle.std.specs.Ordering.{as_partial_cmp, nat_cmp};
 ghost use Rattle.std.specs.Str.{bytes_eq};
 ghost use Rattle.std.proofs.Common.{rules};
 ghost use Rattle.label_base.specs.Path.{path_cmp};
-ghost use Rattle.std.specs.Prelude.{◌≡◌, ◌++◌, ◌∷◌, ◌<◌, ◌≤◌, [], true, IfOk, OnOk, OnErr, length, drop, Ok, Some, slice_get, false, ◌==◌, if◌then◌else◌};
+ghost use Rattle.std.specs.Prelude.{◌≡◌, ◌++◌, ◌∷◌, ◌<◌, ◌≤◌, [], true, IfOk, IfSome, OnOk, OnErr, length, drop, Ok, Some, slice_get, false, ◌==◌, if◌then◌else◌};
 ghost use Rattle.std.specs.List.{list_any, slice_split, count_by};
 ghost use Rattle.label_base.specs.Path.{path_names, path_read, path_text, is_dot_part, is_name, is_nonempty, at_or_below, with_slashes, is_slash};
 ghost use Rattle.label_base.specs.PathText.{text_at_or_below, ends_name, byte_rank, text_cmp, IsNormal, begins_plainly, is_plain};
@@ -139,6 +139,7 @@ fn push_part(text: &mut Vec<u8>, name: &[u8]) -> Result<(), OutOfMemory>
     ensures err { OnErr result (text.new.items ≡ text.old.items) }
 {
     let before = text.len();
+    text.reserve(name.len() + 1)?;
     text.push(b'/')?;
     if text.extend_from_slice(name).is_err() {
         text.truncate(before);
@@ -173,8 +174,34 @@ fn rank(byte: u8) -> u16
     if byte == b'/' { 0 } else { byte as u16 + 1 }
 }
 
-// The order of paths' texts.
+// What stands behind the first 16 bytes of two texts, if these are the same.
+fn behind_same<'a>(text: &'a [u8], other: &'a [u8]) -> Option<(&'a [u8], &'a [u8])>
+    ensures same { IfSome result (λ behind. text_cmp text.now other.now ≡ text_cmp behind.0.now behind.1.now) }
+    ensures shorter { IfSome result (λ behind. length behind.0.now < length text.now) }
+{
+    let (front, rest) = text.split_first_chunk::<16>()?;
+    let (other_front, other_rest) = other.split_first_chunk::<16>()?;
+    if front == other_front {
+        Some((rest, other_rest))
+    } else {
+        None
+    }
+}
+
+// The order of paths' texts. Paths of one tree have long fronts in common.
 fn cmp_texts(text: &[u8], other: &[u8]) -> Ordering
+    ensures { result ≡ text_cmp text.now other.now }
+{
+    let mut left = text;
+    let mut other_left = other;
+    'chunks: while let Some((rest, other_rest)) = behind_same(left, other_left) {
+        left = rest;
+        other_left = other_rest;
+    }
+    cmp_bytes(left, other_left)
+}
+
+fn cmp_bytes(text: &[u8], other: &[u8]) -> Ordering
     ensures { result ≡ text_cmp text.now other.now }
 {
     let common = text.len().min(other.len());

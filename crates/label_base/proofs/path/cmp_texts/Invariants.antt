@@ -1,7 +1,10 @@
-use Rattle.std.proofs.Common.{◌≡◌, drop}
+use Rattle.std.proofs.Common.{◌≡◌, length}
 use Rattle.label_base.specs.PathText.{text_cmp}
 use Rattle.label_base.proofs.path.cmp_texts.Given as goal
 
 -- what is left decides
-abbrev pub invariant-loop-i : goal.invariant-loop-i
-invariant-loop-i l = text_cmp l.text l.other ≡ text_cmp (drop l.i l.text) (drop l.i l.other)
+abbrev pub invariant-chunks : goal.invariant-chunks
+invariant-chunks l = text_cmp l.text l.other ≡ text_cmp l.left l.other_left
+
+abbrev pub decreases-chunks : goal.decreases-chunks
+decreases-chunks l = length l.left

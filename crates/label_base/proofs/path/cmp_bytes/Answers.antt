@@ -1,6 +1,6 @@
 use Rattle.std.proofs.Common.{sym, ◌∙◌, arith}
 use Rattle.label_base.proofs.PathTexts.{cmp_ended}
-use Rattle.label_base.proofs.path.cmp_texts.Goals as goal
+use Rattle.label_base.proofs.path.cmp_bytes.Goals as goal
 
 pub returns : goal.returns
 returns c =
