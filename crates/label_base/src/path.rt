@@ -138,13 +138,9 @@ fn push_part(text: &mut Vec<u8>, name: &[u8]) -> Result<(), OutOfMemory>
     ensures ok { OnOk result (text.new.items ≡ text.old.items ++ 47 ∷ name.now) }
     ensures err { OnErr result (text.new.items ≡ text.old.items) }
 {
-    let before = text.len();
     text.reserve(name.len() + 1)?;
     text.push(b'/')?;
-    if text.extend_from_slice(name).is_err() {
-        text.truncate(before);
-        return Err(OutOfMemory);
-    }
+    text.extend_from_slice(name)?;
     Ok(())
 }
 
