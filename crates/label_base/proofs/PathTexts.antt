@@ -1,13 +1,13 @@
 -- Comparisons of paths are comparisons of their texts.
-use Rattle.std.proofs.Common.{◌≡◌, refl, sym, ap, ◌∙◌, ℕ, ◌==◌, ◌+◌, Bool, true, false, cond, List, [], ◌∷◌, ◌++◌, length, take, drop, arith, zero, suc, min, ◌≤◌}
+use Rattle.std.proofs.Common.{◌≡◌, refl, sym, ap, ◌∙◌, ℕ, ◌==◌, ◌+◌, Bool, true, false, List, [], ◌∷◌, ◌++◌, length, take, drop, arith, zero, suc, min, ◌≤◌}
 use Rattle.std.proofs.lemmas.Bool.Decides.{nat_tests}
 use Rattle.std.specs.Cmp.{first_so, second_so}
 use Rattle.std.specs.Cmp.Lexicographic.{slice_cmp, pointwise, bytes_decides}
 use Rattle.std.specs.Ordering.{nat_cmp, ordering_then}
 use Rattle.std.specs.declared.cmp.Ordering.{Ordering}
 use Rattle.std.specs.declared.cmp.Ordering.TheVariants.{Less, Equal, Greater}
-use Rattle.std.specs.Prelude.{not, ◌&&◌, ◌||◌, nat_eq, nat_lt, if◌then◌else◌, Ok, Err}
-use Rattle.std.specs.List.{list_all, list_any, starts_with}
+use Rattle.std.specs.Prelude.{not, ◌&&◌, nat_eq, nat_lt, if◌then◌else◌, Ok, Err}
+use Rattle.std.specs.List.{list_all, list_any}
 use Rattle.label_base.specs.Path.{Path, path_text, path_read, is_dot_part, is_name, is_name_byte, are_names, with_slashes, same_bytes, at_or_below, path_cmp, path_names}
 use Rattle.label_base.specs.PathText.{byte_rank, text_cmp, text_at_or_below, IsNormal}
 use Rattle.label_base.proofs.PathLemmas.{not_slash, name_bytes, names_back}

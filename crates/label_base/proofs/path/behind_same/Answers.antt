@@ -1,4 +1,4 @@
-use Rattle.std.proofs.Common.{◌≡◌, ◌≤◌, length, arith}
+use Rattle.std.proofs.Common.{◌≤◌, length, arith}
 use Rattle.label_base.proofs.PathTexts.{cmp_behind_same}
 use Rattle.label_base.proofs.path.behind_same.Goals as goal
 

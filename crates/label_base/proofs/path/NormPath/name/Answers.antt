@@ -1,7 +1,6 @@
-use Rattle.std.proofs.Common.{◌≡◌, ◌<◌, ◌≤◌, ◌∙◌, sym, ap, subst, length, drop, arith}
+use Rattle.std.proofs.Common.{◌<◌, length, arith}
 use Rattle.std.proofs.lemmas.List.{take_rest}
-use Rattle.std.specs.List.{slice_get, slice_split}
-use Rattle.label_base.specs.Path.{is_slash, path_names}
+use Rattle.label_base.specs.Path.{path_names}
 use Rattle.label_base.proofs.PathLemmas.{names_behind_first}
 use Rattle.label_base.proofs.path.NormPath.name.Goals as goal
 
