@@ -19,9 +19,10 @@ use std::alloc::Global;
 use std::cmp::Ordering;
 use std::marker::Model;
 
-/// An absolute path, seen as its names.
+/// An absolute path, seen as its names: what stands between the slashes, as path_resolution(7) says.
 ///
-/// It is kept as one text, with a slash before each name, and none for the path `/`.
+/// It is kept as one text, with a slash before each name and none for the path `/`. Its order is that of
+/// lists of names, so that a directory comes just before all that is below it.
 #[derive(Debug, Drop)]
 pub struct NormPath {
     text: Vec<u8>,
@@ -223,8 +224,8 @@ impl NormPath {
 
     /// Reads an absolute path. Runs of slashes count as one, and slashes at the end as none.
     ///
-    /// The first fault in the order of [`PathFault`] is told: no bytes, more than 4,095 of them, a NUL,
-    /// another first byte than a slash, a component `.` or `..`.
+    /// The first fault in the order of [`PathFault`] is told: no bytes, more than 4,095 of them (`PATH_MAX`
+    /// of limits.h(0p), less its NUL), a NUL, another first byte than a slash, a component `.` or `..`.
     pub fn read(alloc: Global, bytes: &[u8]) -> Result<NormPath, PathFault>
         ensures { Answers (λ path. path) path_cause result (path_read bytes.now) }
     {
