@@ -1,12 +1,12 @@
 -- Comparisons of paths are comparisons of their texts.
-use Rattle.std.proofs.Common.{◌≡◌, refl, sym, ap, ◌∙◌, ℕ, ◌==◌, ◌+◌, Bool, true, false, List, [], ◌∷◌, ◌++◌, length, take, drop, arith, zero, suc, min, ◌≤◌}
+use Rattle.std.proofs.Common.{◌≡◌, refl, sym, ap, ◌∙◌, ℕ, ◌==◌, ◌+◌, Bool, true, false, List, [], ◌∷◌, ◌++◌, length, take, drop, arith, zero, suc, min, ◌<◌, ◌≤◌, Option, Some, None, length-take}
 use Rattle.std.proofs.lemmas.Bool.Decides.{nat_tests}
 use Rattle.std.specs.Cmp.{first_so, second_so}
 use Rattle.std.specs.Cmp.Lexicographic.{slice_cmp, pointwise, bytes_decides}
 use Rattle.std.specs.Ordering.{nat_cmp, ordering_then}
 use Rattle.std.specs.declared.cmp.Ordering.{Ordering}
 use Rattle.std.specs.declared.cmp.Ordering.TheVariants.{Less, Equal, Greater}
-use Rattle.std.specs.Prelude.{not, ◌&&◌, nat_eq, nat_lt, if◌then◌else◌, Ok, Err}
+use Rattle.std.specs.Prelude.{IfNone, not, ◌&&◌, nat_eq, nat_lt, if◌then◌else◌, Ok, Err}
 use Rattle.std.specs.List.{list_all, list_any}
 use Rattle.label_base.specs.Path.{Path, path_text, path_read, is_dot_part, is_name, is_name_byte, are_names, with_slashes, same_bytes, at_or_below, path_cmp, path_names}
 use Rattle.label_base.specs.PathText.{byte_rank, text_cmp, text_at_or_below, IsNormal}
@@ -204,3 +204,11 @@ pub cmp_behind_same : (n : ℕ) (xs ys front other rest more : List ℕ) → tru
 cmp_behind_same n xs ys front other rest more t f o r m h g =
     let e : front ≡ other = (bytes_decides front other).0 (sym t) in
     cmp_behind n xs ys (sym f ∙ e ∙ o) h g ∙ ap (λ l. text_cmp l (drop n ys)) (sym r) ∙ ap (λ l. text_cmp rest l) (sym m)
+
+pub none_given : {X : Type 0} (r : Option X) (P : Type 0) → P → IfNone r P
+none_given None P p = p
+none_given (Some x) P p = tt
+
+-- the same front can't be cut from a text that is too short for it
+pub short_too : (n : ℕ) (xs ys : List ℕ) → length ys < n → take n xs ≡ take n ys → length xs < n
+short_too n xs ys h e = let long : length (take n xs) ≡ length (take n ys) = ap length e in omega (arith, length-take {A = ℕ})

@@ -5,7 +5,7 @@ ghost use Rattle.std.specs.Ordering.{as_partial_cmp, nat_cmp};
 ghost use Rattle.std.specs.Str.{bytes_eq};
 ghost use Rattle.std.proofs.Common.{rules};
 ghost use Rattle.label_base.specs.Path.{path_cmp};
-ghost use Rattle.std.specs.Prelude.{◌≡◌, ◌++◌, ◌∷◌, ◌<◌, ◌≤◌, [], true, IfOk, IfSome, OnOk, OnErr, length, drop, Ok, Some, slice_get, false, ◌==◌, if◌then◌else◌};
+ghost use Rattle.std.specs.Prelude.{◌≡◌, ◌++◌, ◌∷◌, ◌<◌, ◌≤◌, [], true, IfOk, IfSome, IfNone, OnOk, OnErr, length, take, drop, Ok, Some, slice_get, false, ◌==◌, if◌then◌else◌};
 ghost use Rattle.std.specs.List.{list_any, slice_split, count_by};
 ghost use Rattle.label_base.specs.Path.{path_names, path_read, path_text, is_dot_part, is_name, is_nonempty, at_or_below, with_slashes, is_slash};
 ghost use Rattle.label_base.specs.PathText.{text_at_or_below, ends_name, byte_rank, text_cmp, IsNormal, begins_plainly, is_plain};
@@ -175,6 +175,7 @@ fn rank(byte: u8) -> u16
 fn behind_same<'a>(text: &'a [u8], other: &'a [u8]) -> Option<(&'a [u8], &'a [u8])>
     ensures same { IfSome result (λ behind. text_cmp text.now other.now ≡ text_cmp behind.0.now behind.1.now) }
     ensures shorter { IfSome result (λ behind. length behind.0.now < length text.now) }
+    ensures none { IfNone result (take 16 text.now ≡ take 16 other.now → length text.now < 16) }
 {
     let (front, rest) = text.split_first_chunk::<16>()?;
     let (other_front, other_rest) = other.split_first_chunk::<16>()?;
