@@ -147,3 +147,6 @@ text_sound bytes (Some rest) c cut h =
 -- what is read is spelled by the bytes
 pub sound : (bytes : List ℕ) (c : ContextValue) → context_of bytes ≡ Some c → Spells bytes c
 sound bytes c h = text_sound bytes (behind is_colon bytes) c refl h
+
+pub spells_itself : (c : ContextValue) → IsContext c → Spells (context_text c) c
+spells_itself c h = record { parts = h; text = refl }

@@ -52,6 +52,10 @@ same_option (Some x) (Some y) = same_bytes x y
 abbrev pub same_context : ContextValue → ContextValue → Bool
 same_context a b = same_bytes a.user b.user && same_bytes a.role b.role && same_bytes a.kind b.kind && same_option a.range b.range
 
+-- the same role, type and range
+abbrev pub same_but_user : ContextValue → ContextValue → Bool
+same_but_user a b = same_bytes a.role b.role && same_bytes a.kind b.kind && same_option a.range b.range
+
 abbrev pub is_colon : ℕ → Bool
 is_colon b = b == 58
 
