@@ -150,3 +150,6 @@ sound bytes c h = text_sound bytes (behind is_colon bytes) c refl h
 
 pub spells_itself : (c : ContextValue) → IsContext c → Spells (context_text c) c
 spells_itself c h = record { parts = h; text = refl }
+
+pub no_spelling : (bytes : List ℕ) → context_of bytes ≡ None → (c : ContextValue) → Spells bytes c → ⊥
+no_spelling bytes none c h = let found = complete bytes c h in cc

@@ -125,6 +125,7 @@ impl Context {
 
         // What is read and what the bytes spell is the same.
         ensures spelled { IfOk result (λ context. Spells bytes.now context) }
+        ensures no_context { result ≡ Err ContextFault.NoContext → (c : ContextValue) → ¬ (Spells bytes.now c) }
         ensures complete { (c : ContextValue) → Spells bytes.now c → context_of bytes.now ≡ Some c }
         ensures sound { (c : ContextValue) → context_of bytes.now ≡ Some c → Spells bytes.now c }
     {

@@ -10,3 +10,6 @@ pub use context::{Context, ContextFault};
 pub use customizable::{CustomFault, read_customizable};
 pub use label::Label;
 pub use type_names::TypeNames;
+
+#[cfg(test)]
+mod tests;
