@@ -51,7 +51,7 @@ has_is names name = ap is_some (got_is names name) ∙ is_marked (list_any (eq_b
 same_sets : (xs ys : List (List ℕ)) → ((name : List ℕ) → list_any (eq_by_cmp byte_order name) xs ≡ list_any (eq_by_cmp byte_order name) ys) → set_of xs ≡ set_of ys
 same_sets xs ys same =
     same_map nat_list_cmp_total (slice_cmp-IsAntisymmetric nat_cmp-IsAntisymmetric) (set_of xs) (set_of ys)
-        (λ name. got_is xs name ∙ ap marked (same name) ∙ sym (got_is ys name))
+    (λ name. got_is xs name ∙ ap marked (same name) ∙ sym (got_is ys name))
 
 tied_same : (x y : List ℕ) → eq_by_cmp byte_order x y ≡ true → x ≡ y
 tied_same x y e = same_text x y (sym (texts_ties x y ∙ e))
@@ -69,8 +69,8 @@ dedup_any : (xs : List (List ℕ)) (name : List ℕ) → list_any (eq_by_cmp byt
 dedup_any xs name =
     let equiv = eq_by_cmp_equiv nat_list_cmp_total in
     one_way _ _
-        (λ t. list_any-from_Contains equiv name xs (Contains-from_dedup bytes_eq xs name (Contains-from_any tied_same name (dedup bytes_eq xs) t)))
-        (λ t. list_any-from_Contains equiv name (dedup bytes_eq xs) (Contains-dedup nat_list_eq_equiv equal_same xs name (Contains-from_any tied_same name xs t)))
+    (λ t. list_any-from_Contains equiv name xs (Contains-from_dedup bytes_eq xs name (Contains-from_any tied_same name (dedup bytes_eq xs) t)))
+    (λ t. list_any-from_Contains equiv name (dedup bytes_eq xs) (Contains-dedup nat_list_eq_equiv equal_same xs name (Contains-from_any tied_same name xs t)))
 
 pub set_of-dedup : (xs ys : List (List ℕ)) → IsPermutation xs ys → set_of (dedup bytes_eq ys) ≡ set_of xs
 set_of-dedup xs ys p =
@@ -99,8 +99,8 @@ in_order-set_of names s =
     let es = list_map entry_of names in
     let sorted = entries_sorted names s in
     let same : set_of names ≡ from_sorted {R = byte_order} es =
-        same_map nat_list_cmp_total (slice_cmp-IsAntisymmetric nat_cmp-IsAntisymmetric) (set_of names) (from_sorted {R = byte_order} es)
-            (λ name. get-from_entries nat_list_cmp_total es name ∙ sym (get-from_sorted byte_order es name sorted)) in
+    same_map nat_list_cmp_total (slice_cmp-IsAntisymmetric nat_cmp-IsAntisymmetric) (set_of names) (from_sorted {R = byte_order} es)
+    (λ name. get-from_entries nat_list_cmp_total es name ∙ sym (get-from_sorted byte_order es name sorted)) in
     sym (ap keys same ∙ ap (list_map (λ e. e.0)) (entries-from_sorted byte_order es sorted) ∙ first_of_entry names)
 
 pub empty_row : IsTypeRow []
@@ -122,10 +122,10 @@ searched_is names name (Ok i) s range found =
 searched_is names name (Err i) s range found =
     let point = found (searchable_from_sorted nat_list_cmp_total (λ x. x) names name (sorted_of names s)) in
     sym (has_is names name ∙ list_any_none (eq_by_cmp byte_order name) names (λ k d below.
-        elim (nat_lt k i) as (λ b. nat_lt k i ≡ b → eq_by_cmp byte_order name (get_or names k d) ≡ false) [
-          | true ↦ λ t. tied_with name (get_or names k d) Less (point.0 k d (omega arith) (ltb-true k i t))
-          | false ↦ λ f. tied_with name (get_or names k d) Greater (point.1 k d (ltb-false k i f) below)
-        ] refl))
+    elim (nat_lt k i) as (λ b. nat_lt k i ≡ b → eq_by_cmp byte_order name (get_or names k d) ≡ false) [
+      | true ↦ λ t. tied_with name (get_or names k d) Less (point.0 k d (omega arith) (ltb-true k i t))
+      | false ↦ λ f. tied_with name (get_or names k d) Greater (point.1 k d (ltb-false k i f) below)
+    ] refl))
 
 words_permuted : (xs ys : List (List ℕ)) → IsPermutation xs ys → list_all is_word xs ≡ true → list_all is_word ys ≡ true
 words_permuted xs ys p h = list_all-from_AllPass is_word ys (All-permutation (λ x. is_word x ≡ true) xs ys p (AllPass-from_list_all is_word xs h))

@@ -131,7 +131,7 @@ role_sound user role rest c h =
     let kind = front is_colon rest in
     let range = behind is_colon rest in
     spells_made (user ++ 58 ∷ role ++ 58 ∷ rest) (record { user = user; role = role; kind = kind; range = range }) c h
-        (ap (λ t. user ++ 58 ∷ role ++ 58 ∷ t) (range_joined rest range refl) ∙ simp append_assoc)
+    (ap (λ t. user ++ 58 ∷ role ++ 58 ∷ t) (range_joined rest range refl) ∙ simp append_assoc)
 
 user_sound : (user rest : List ℕ) (more : Option (List ℕ)) (c : ContextValue) → behind is_colon rest ≡ more → with_role user (front is_colon rest) more ≡ Some c → Spells (user ++ 58 ∷ rest) c
 user_sound user rest None c cut h = cc

@@ -74,4 +74,3 @@ with_user user (Some rest) = with_role user (front is_colon rest) (behind is_col
 -- the context that the bytes spell
 abbrev pub context_of : List ℕ → Option ContextValue
 context_of bytes = with_user (front is_colon bytes) (behind is_colon bytes)
-

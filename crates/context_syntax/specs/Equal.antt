@@ -42,25 +42,27 @@ but_user_itself a =
     and_true _ _ (and_true _ _ ((bytes_eq-Decides a.role a.role).1 refl) ((bytes_eq-Decides a.kind a.kind).1 refl)) ((option_decides a.range a.range).1 refl)
 
 pub but_user_decides : (a b : ContextValue) → Decides (same_but_user a b) (record b { user = a.user } ≡ a)
-but_user_decides a b =
-    (λ e.
-        let upper = both_hold _ _ e in
-        let middle = both_hold _ _ upper.0 in
-        same_parts (record b { user = a.user }) a refl (sym ((bytes_eq-Decides a.role b.role).0 middle.0)) (sym ((bytes_eq-Decides a.kind b.kind).0 middle.1)) (sym ((option_decides a.range b.range).0 upper.1)),
-     λ e. subst (λ c. same_but_user a c ≡ true) (sym e) (but_user_itself a))
+but_user_decides a b = (
+  λ e.
+      let upper = both_hold _ _ e in
+      let middle = both_hold _ _ upper.0 in
+      same_parts (record b { user = a.user }) a refl (sym ((bytes_eq-Decides a.role b.role).0 middle.0)) (sym ((bytes_eq-Decides a.kind b.kind).0 middle.1)) (sym ((option_decides a.range b.range).0 upper.1)),
+  λ e. subst (λ c. same_but_user a c ≡ true) (sym e) (but_user_itself a),
+)
 
 itself : (a : ContextValue) → same_context a a ≡ true
 itself a =
     and_true _ _ (and_true _ _ (and_true _ _ ((bytes_eq-Decides a.user a.user).1 refl) ((bytes_eq-Decides a.role a.role).1 refl)) ((bytes_eq-Decides a.kind a.kind).1 refl)) ((option_decides a.range a.range).1 refl)
 
 pub context_decides : (a b : ContextValue) → Decides (same_context a b) (a ≡ b)
-context_decides a b =
-    (λ e.
-        let upper = both_hold _ _ e in
-        let middle = both_hold _ _ upper.0 in
-        let lower = both_hold _ _ middle.0 in
-        same_parts a b ((bytes_eq-Decides a.user b.user).0 lower.0) ((bytes_eq-Decides a.role b.role).0 lower.1) ((bytes_eq-Decides a.kind b.kind).0 middle.1) ((option_decides a.range b.range).0 upper.1),
-     λ e. subst (λ c. same_context a c ≡ true) e (itself a))
+context_decides a b = (
+  λ e.
+      let upper = both_hold _ _ e in
+      let middle = both_hold _ _ upper.0 in
+      let lower = both_hold _ _ middle.0 in
+      same_parts a b ((bytes_eq-Decides a.user b.user).0 lower.0) ((bytes_eq-Decides a.role b.role).0 lower.1) ((bytes_eq-Decides a.kind b.kind).0 middle.1) ((option_decides a.range b.range).0 upper.1),
+  λ e. subst (λ c. same_context a c ≡ true) e (itself a),
+)
 
 pub contexts_equiv : IsEquivalence same_context
 contexts_equiv = decided same_context context_decides

@@ -7,10 +7,9 @@ ghost use Rattle.context_syntax.specs.Context.{ContextValue, IsContext, Spells, 
 ghost use Rattle.context_syntax.specs.declared.context.ContextFault.TheVariants as faults;
 ghost use Rattle.context_syntax.specs.Equal.{contexts_equiv};
 
+use label_base::{Bytes, OutOfMemory, cut_at};
 use std::alloc::Global;
 use std::marker::Model;
-
-use label_base::{Bytes, OutOfMemory, cut_at};
 
 /// A security context, as restorecon(8) and file_contexts(5) write it: `user:role:type`, or `user:role:type:range`.
 /// Each part is in the grammar of its place, so there is one spelling for each value.
@@ -77,7 +76,12 @@ fn are_range_bytes(bytes: &[u8]) -> bool
 fn may_stand_in_word(b: u8) -> bool
     ensures { result ≡ is_word_byte b }
 {
-    b.is_ascii_lowercase() || b.is_ascii_uppercase() || b.is_ascii_digit() || b == b'_' || b == b'.' || b == b'-'
+    b.is_ascii_lowercase()
+        || b.is_ascii_uppercase()
+        || b.is_ascii_digit()
+        || b == b'_'
+        || b == b'.'
+        || b == b'-'
 }
 
 fn is_range_or_none(range: Option<&[u8]>) -> bool
@@ -138,7 +142,11 @@ impl Context {
             return Err(ContextFault::NoContext);
         };
         let (kind, range) = cut_at(b':', rest);
-        if !is_type_name(user) || !is_type_name(role) || !is_type_name(kind) || !is_range_or_none(range) {
+        if !is_type_name(user)
+            || !is_type_name(role)
+            || !is_type_name(kind)
+            || !is_range_or_none(range)
+        {
             return Err(ContextFault::NoContext);
         }
         Ok(Context {
@@ -205,7 +213,9 @@ impl Context {
         ensures computed { result ≡ same_but_user self.now other.now }
         ensures equal { IsTrue result ↔ (record other.now { user = self.now.user } ≡ self.now) }
     {
-        self.role == other.role && self.kind == other.kind && is_same_range(&self.range, &other.range)
+        self.role == other.role
+            && self.kind == other.kind
+            && is_same_range(&self.range, &other.range)
     }
 }
 

@@ -7,11 +7,10 @@ ghost use Rattle.context_syntax.specs.CustomCause.{refusal_of, refused_line};
 ghost use Rattle.context_syntax.specs.TypeNames.{is_comment, names_read, type_line, types_read};
 ghost use Rattle.context_syntax.specs.declared.customizable.CustomFault.TheVariants as faults;
 
-use std::alloc::Global;
-
 use crate::context::is_type_name;
 use crate::type_names::TypeNames;
 use label_base::{Bytes, OutOfMemory, Row, next_field, next_line};
+use std::alloc::Global;
 
 /// Why a file of customizable types was refused.
 #[derive(Clone, Copy, Debug, PartialEq, Eq)]
@@ -39,7 +38,12 @@ fn begins_comment(field: &[u8]) -> bool
     }
 }
 
-fn add_line(alloc: Global, line: u32, text: &[u8], names: &mut Row<Bytes>) -> Result<(), CustomFault>
+fn add_line(
+    alloc: Global,
+    line: u32,
+    text: &[u8],
+    names: &mut Row<Bytes>,
+) -> Result<(), CustomFault>
     ensures ok { OnOk result (Adds (type_line line text.now) names.old names.new) }
     ensures err { IfErr result (λ fault. Refuses line (refusal_of fault) (type_line line text.now)) }
 {

@@ -3,10 +3,9 @@ ghost use Rattle.std.specs.Cmp.{partial_equiv_from_equiv};
 ghost use Rattle.context_syntax.specs.Label.{label_of, same_label};
 ghost use Rattle.context_syntax.specs.LabelEqual.{labels_equiv};
 
-use std::alloc::Global;
-
 use crate::context::{Context, ContextFault};
 use label_base::{Bytes, OutOfMemory};
+use std::alloc::Global;
 
 /// The label of an inode, as find(1) prints it by `%Z` or the attribute `security.selinux` holds it.
 #[derive(Debug, Drop)]

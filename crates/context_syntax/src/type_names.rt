@@ -6,10 +6,9 @@ ghost use Rattle.std.specs.Ordering.{nat_cmp};
 ghost use Rattle.context_syntax.specs.Context.{is_word};
 ghost use Rattle.context_syntax.specs.TypeNames.{IsTypeRow, has_name, in_order, set_of};
 
+use label_base::{Bytes, OutOfMemory, Row};
 use std::alloc::Global;
 use std::marker::Model;
-
-use label_base::{Bytes, OutOfMemory, Row};
 
 /// A set of type names, as customizable_types(5) lists them. Contracts see the set of their bytes.
 #[derive(Debug, Drop)]
@@ -73,7 +72,10 @@ impl TypeNames {
     pub fn has(&self, kind: &[u8]) -> bool
         ensures { result ≡ has_name self.now kind.now }
     {
-        self.names.as_slice().binary_search_by(|name| name.as_slice().cmp(kind)).is_ok()
+        self.names
+            .as_slice()
+            .binary_search_by(|name| name.as_slice().cmp(kind))
+            .is_ok()
     }
 
     /// The names in byte order, each once.
