@@ -1,15 +1,15 @@
 -- A list of names and the set of its names.
-use Rattle.std.proofs.Common.{◌≡◌, ◌∙◌, ap, sym, refl, subst, ℕ, Bool, true, false, cond, List, [], ◌∷◌, length, ◌+◌, ◌<◌, ◌≤◌, get_or, arith}
-use Rattle.std.specs.Prelude.{Option, Some, None, map as list_map, Contains, All, is_some, is_ok, Result, Ok, Err, ◌||◌, ◌&&◌, nat_lt, IsPermutation, T}
+use Rattle.std.proofs.Common.{◌≡◌, ◌∙◌, ap, sym, refl, subst, ℕ, Bool, true, false, cond, List, [], ◌∷◌, length, ◌+◌, get_or, arith}
+use Rattle.std.specs.Prelude.{Option, Some, None, map as list_map, is_some, is_ok, Result, Ok, Err, ◌||◌, ◌&&◌, nat_lt, IsPermutation, T}
 use Rattle.std.specs.List.{list_any, list_all, dedup, AllByRecursion}
 use Rattle.std.specs.List.Sorted.{IsStrictlySortedBy, IsSorted, IsSortedBy, IsBinarySearchResult, IsSearchInRange}
 use Rattle.std.specs.Str.{bytes_eq}
-use Rattle.std.specs.Cmp.{IsTotalOrder, eq_by_cmp_equiv}
+use Rattle.std.specs.Cmp.{eq_by_cmp_equiv}
 use Rattle.std.specs.Cmp.Lexicographic.{slice_cmp, nat_list_cmp_total, nat_list_eq_equiv, texts_ties, same_text}
 use Rattle.std.specs.Ordering.{nat_cmp, eq_by_cmp, is_eq, is_lt, ordering_reverse}
 use Rattle.std.specs.declared.cmp.Ordering.{Ordering}
 use Rattle.std.specs.declared.cmp.Ordering.TheVariants.{Less, Equal, Greater}
-use Rattle.std.specs.FinMap.{FinMap, find, entries, from_entries, from_sorted, is_sorted, get, get-from_entries, get-from_sorted, entries-from_sorted, same_map, keys, nat_cmp-IsAntisymmetric, slice_cmp-IsAntisymmetric}
+use Rattle.std.specs.FinMap.{find, from_sorted, is_sorted, get, get-from_entries, get-from_sorted, entries-from_sorted, same_map, keys, nat_cmp-IsAntisymmetric, slice_cmp-IsAntisymmetric}
 use Rattle.std.specs.FinMap.Entries.{below_all}
 use Rattle.std.proofs.lemmas.List.Sorted.{list_any-IsPermutation, searchable_from_sorted, All-permutation}
 use Rattle.std.proofs.lemmas.List.Filters.{All-dedup}
@@ -20,7 +20,7 @@ use Rattle.std.proofs.lemmas.Map.Keys.{Less-from_sorted}
 use Rattle.std.proofs.lemmas.List.Sums.{AllPass-from_list_all, list_all-from_AllPass}
 use Rattle.std.proofs.lemmas.Map.Views.{Contains-from_any, list_any-from_Contains}
 use Rattle.context_syntax.specs.Context.{is_word}
-use Rattle.context_syntax.specs.TypeNames.{NameSet, entry_of, set_of, has_name, in_order, IsTypeRow}
+use Rattle.context_syntax.specs.TypeNames.{entry_of, set_of, has_name, in_order, IsTypeRow}
 
 abbrev byte_order : List ℕ → List ℕ → Ordering
 byte_order = slice_cmp nat_cmp

@@ -1,14 +1,10 @@
 -- Reading a context and spelling it are each other's inverse.
 use Rattle.std.proofs.Common.{◌≡◌, ◌∙◌, ap, sym, refl, subst, ℕ, ◌==◌, Bool, true, false, cond, List, [], ◌∷◌, ◌++◌, length, append_assoc, append-nil, arith}
-use Rattle.std.specs.Prelude.{Option, Some, None, Result, Ok, Err, IfOk, ◌&&◌, not}
+use Rattle.std.specs.Prelude.{Option, Some, None, ◌&&◌, not}
 use Rattle.std.specs.List.{list_all}
 use Rattle.std.proofs.lemmas.Bool.Decides.{nat_tests}
-use Rattle.label_base.specs.Answers.{Finds}
 use Rattle.label_base.specs.Cut.{front, behind}
 use Rattle.context_syntax.specs.Context.{ContextValue, IsContext, Spells, is_word, is_word_byte, is_range, is_colon, range_text, context_text, context_of, with_user, with_role, with_kind}
-use Rattle.context_syntax.specs.ContextCause.{is_want_of_memory}
-use Rattle.context_syntax.specs.declared.context.ContextFault.{ContextFault}
-use Rattle.context_syntax.specs.declared.context.ContextFault.TheVariants.{NoContext, OutOfMemory}
 
 and_first : (x y : Bool) → (x && y) ≡ true → x ≡ true
 and_first true y h = refl

@@ -1,6 +1,6 @@
 -- What the lines of a types file give is type names.
 use Rattle.std.proofs.Common.{◌≡◌, ◌∙◌, ap, sym, refl, ℕ, Bool, true, false, cond, List, [], ◌∷◌}
-use Rattle.std.specs.Prelude.{Option, Some, None, Result, Ok, Err, ◌&&◌}
+use Rattle.std.specs.Prelude.{Option, Some, None, Ok, Err, ◌&&◌}
 use Rattle.std.specs.List.{list_all, cons_option, enumerate_from}
 use Rattle.label_base.specs.Lines.{all_or_first, fields_of, first_of, lines_of, refusals, value_of, values}
 use Rattle.context_syntax.specs.Context.{is_word}

@@ -1,6 +1,6 @@
 -- Security contexts: user:role:type, or user:role:type:range.
-use Rattle.std.specs.Prelude.{◌≡◌, ◌≢◌, ℕ, Bool, true, false, ◌&&◌, ◌||◌, ◌==◌, nat_le, List, [], ◌∷◌, ◌++◌, length, Option, Some, None, if◌then◌else◌, not}
-use Rattle.std.specs.List.{list_all, list_any}
+use Rattle.std.specs.Prelude.{◌≡◌, ℕ, Bool, true, false, ◌&&◌, ◌||◌, ◌==◌, nat_le, List, [], ◌∷◌, ◌++◌, length, Option, Some, None, if◌then◌else◌, not}
+use Rattle.std.specs.List.{list_all}
 use Rattle.label_base.specs.Cut.{front, behind}
 use Rattle.label_base.specs.Path.{same_bytes}
 

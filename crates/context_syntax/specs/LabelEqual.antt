@@ -1,5 +1,5 @@
 -- The test for equal labels answers for equality, so it is an equivalence.
-use Rattle.std.specs.Prelude.{◌≡◌, ℕ, Bool, true, false, List, [], refl}
+use Rattle.std.specs.Prelude.{◌≡◌, ℕ, List, [], refl}
 use Rattle.std.proofs.Common.{ap, sym, subst}
 use Rattle.std.specs.Bool.{Decides}
 use Rattle.std.specs.Cmp.{IsEquivalence, decided}
