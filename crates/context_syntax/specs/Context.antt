@@ -1,6 +1,6 @@
 -- Security contexts: user:role:type, or user:role:type:range.
-use Rattle.std.specs.Prelude.{◌≡◌, ◌≢◌, ℕ, Bool, true, false, ◌&&◌, ◌||◌, ◌==◌, nat_le, List, [], ◌∷◌, ◌++◌, length, Option, Some, None, if◌then◌else◌, not}
-use Rattle.std.specs.List.{list_all, list_any}
+use Rattle.std.specs.Prelude.{◌≡◌, ℕ, Bool, true, false, ◌&&◌, ◌||◌, ◌==◌, nat_le, List, [], ◌∷◌, ◌++◌, length, Option, Some, None, if◌then◌else◌, not}
+use Rattle.std.specs.List.{list_all}
 use Rattle.label_base.specs.Cut.{front, behind}
 use Rattle.label_base.specs.Path.{same_bytes}
 
@@ -52,6 +52,10 @@ same_option (Some x) (Some y) = same_bytes x y
 abbrev pub same_context : ContextValue → ContextValue → Bool
 same_context a b = same_bytes a.user b.user && same_bytes a.role b.role && same_bytes a.kind b.kind && same_option a.range b.range
 
+-- the same role, type and range
+abbrev pub same_but_user : ContextValue → ContextValue → Bool
+same_but_user a b = same_bytes a.role b.role && same_bytes a.kind b.kind && same_option a.range b.range
+
 abbrev pub is_colon : ℕ → Bool
 is_colon b = b == 58
 
@@ -70,4 +74,3 @@ with_user user (Some rest) = with_role user (front is_colon rest) (behind is_col
 -- the context that the bytes spell
 abbrev pub context_of : List ℕ → Option ContextValue
 context_of bytes = with_user (front is_colon bytes) (behind is_colon bytes)
-

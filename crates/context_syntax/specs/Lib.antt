@@ -1,3 +1,7 @@
 pub mod Context
 pub mod ContextCause
+pub mod CustomCause
+pub mod Equal
 pub mod Label
+pub mod LabelEqual
+pub mod TypeNames

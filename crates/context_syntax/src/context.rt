@@ -1,21 +1,27 @@
-ghost use Rattle.std.specs.Prelude.{◌≡◌, ◌++◌, ◌∷◌, [], true, IfOk, OnOk, OnErr};
+ghost use Rattle.std.specs.Cmp.{partial_equiv_from_equiv};
+ghost use Rattle.std.specs.Prelude.{◌≡◌, ◌++◌, ◌↔◌, IfOk, IsTrue, OnErr, OnOk};
 ghost use Rattle.std.specs.List.{list_all};
 ghost use Rattle.std.specs.Option.{option_copied};
 ghost use Rattle.label_base.specs.Answers.{Finds};
-ghost use Rattle.context_syntax.specs.Context.{context_of, context_text, is_word, is_word_byte, is_range, is_range_byte};
+ghost use Rattle.context_syntax.specs.Context.{ContextValue, IsContext, Spells, context_of, context_text, is_range, is_range_byte, is_word, is_word_byte, same_but_user, same_context, same_option};
 ghost use Rattle.context_syntax.specs.declared.context.ContextFault.TheVariants as faults;
+ghost use Rattle.context_syntax.specs.Equal.{contexts_equiv};
 
+use label_base::{Bytes, OutOfMemory, cut_at};
 use std::alloc::Global;
 use std::marker::Model;
 
-use label_base::{Bytes, OutOfMemory, cut_at};
-
-/// A security context.
+/// A security context, as restorecon(8) and file_contexts(5) write it: `user:role:type`, or `user:role:type:range`.
+/// Each part is in the grammar of its place, so there is one spelling for each value.
 #[derive(Debug, Drop)]
 pub struct Context {
+    /// One or more of the ASCII letters and digits, `_`, `.` and `-`.
     pub user: Bytes,
+    /// In the grammar of the user.
     pub role: Bytes,
+    /// The type, in the grammar of the user.
     pub kind: Bytes,
+    /// The level or range, if there is one: one or more printing bytes other than blanks, `"` and `\`.
     pub range: Option<Bytes>,
 }
 
@@ -32,10 +38,12 @@ impl Model for Context {
     ghost inverse = { λ v. record { user = v.user; role = v.role; kind = v.kind; range = v.range } };
 }
 
-/// Why bytes are no context.
+/// Why bytes gave no context.
 #[derive(Clone, Copy, Debug, PartialEq, Eq)]
 pub enum ContextFault {
+    /// They spell none.
     NoContext,
+    /// Memory ran out.
     OutOfMemory,
 }
 
@@ -47,40 +55,45 @@ impl From<OutOfMemory> for ContextFault {
     }
 }
 
-fn is_word_of(bytes: &[u8]) -> bool
+pub(crate) fn is_type_name(bytes: &[u8]) -> bool
     ensures { result ≡ is_word bytes.now }
 {
-    !bytes.is_empty() && are_parts(bytes)
+    !bytes.is_empty() && are_word_bytes(bytes)
 }
 
-fn are_parts(bytes: &[u8]) -> bool
+fn are_word_bytes(bytes: &[u8]) -> bool
     ensures { result ≡ list_all is_word_byte bytes.now }
 {
-    bytes.iter().all(|b| is_part(*b))
+    bytes.iter().all(|b| may_stand_in_word(*b))
 }
 
-fn are_in_range(bytes: &[u8]) -> bool
+fn are_range_bytes(bytes: &[u8]) -> bool
     ensures { result ≡ list_all is_range_byte bytes.now }
 {
-    bytes.iter().all(|b| is_in_range(*b))
+    bytes.iter().all(|b| may_stand_in_range(*b))
 }
 
-fn is_part(b: u8) -> bool
+fn may_stand_in_word(b: u8) -> bool
     ensures { result ≡ is_word_byte b }
 {
-    b.is_ascii_lowercase() || b.is_ascii_uppercase() || b.is_ascii_digit() || b == b'_' || b == b'.' || b == b'-'
+    b.is_ascii_lowercase()
+        || b.is_ascii_uppercase()
+        || b.is_ascii_digit()
+        || b == b'_'
+        || b == b'.'
+        || b == b'-'
 }
 
-fn is_range_of(range: Option<&[u8]>) -> bool
+fn is_range_or_none(range: Option<&[u8]>) -> bool
     ensures { result ≡ is_range (option_copied range.entry) }
 {
     match range {
         None => true,
-        Some(bytes) => !bytes.is_empty() && are_in_range(bytes),
+        Some(bytes) => !bytes.is_empty() && are_range_bytes(bytes),
     }
 }
 
-fn is_in_range(b: u8) -> bool
+fn may_stand_in_range(b: u8) -> bool
     ensures { result ≡ is_range_byte b }
 {
     b >= 33 && b <= 126 && b != b'"' && b != b'\\'
@@ -95,12 +108,30 @@ fn copy_of_range(alloc: Global, range: Option<&[u8]>) -> Result<Option<Bytes>, O
     }
 }
 
+fn is_same_range(range: &Option<Bytes>, other: &Option<Bytes>) -> bool
+    ensures { result ≡ same_option range.now other.now }
+{
+    match (range, other) {
+        (None, None) => true,
+        (Some(range), Some(other)) => *range == *other,
+        _ => false,
+    }
+}
+
 impl Context {
     ghost use Rattle.context_syntax.specs.ContextCause.{is_want_of_memory};
 
-    /// Reads a context.
+    #[tactic(auto, using(crate::proofs::Spelling::complete, crate::proofs::Spelling::sound))]
+    /// Reads a context. `NoContext` comes exactly where the bytes spell none.
+    /// Each part is copied into an allocation of its own.
     pub fn read(alloc: Global, bytes: &[u8]) -> Result<Context, ContextFault>
-        ensures { Finds (λ c. c) is_want_of_memory result (context_of bytes.now) }
+        ensures meant { Finds (λ c. c) is_want_of_memory result (context_of bytes.now) }
+
+        // What is read and what the bytes spell is the same.
+        ensures spelled { IfOk result (λ context. Spells bytes.now context) }
+        ensures no_context { result ≡ Err ContextFault.NoContext → (c : ContextValue) → ¬ (Spells bytes.now c) }
+        ensures complete { (c : ContextValue) → Spells bytes.now c → context_of bytes.now ≡ Some c }
+        ensures sound { (c : ContextValue) → context_of bytes.now ≡ Some c → Spells bytes.now c }
     {
         let (user, rest) = cut_at(b':', bytes);
         let Some(rest) = rest else {
@@ -111,7 +142,11 @@ impl Context {
             return Err(ContextFault::NoContext);
         };
         let (kind, range) = cut_at(b':', rest);
-        if !is_word_of(user) || !is_word_of(role) || !is_word_of(kind) || !is_range_of(range) {
+        if !is_type_name(user)
+            || !is_type_name(role)
+            || !is_type_name(kind)
+            || !is_range_or_none(range)
+        {
             return Err(ContextFault::NoContext);
         }
         Ok(Context {
@@ -122,8 +157,8 @@ impl Context {
         })
     }
 
-    /// Writes the one spelling at the end.
-    pub fn write(&self, to: &mut Bytes) -> Result<(), OutOfMemory>
+    // Where memory runs out, a part may have been added.
+    fn add_parts(&self, to: &mut Bytes) -> Result<(), OutOfMemory>
         ensures { OnOk result (to.new ≡ to.old ++ context_text self.now) }
     {
         to.push(self.user.as_slice())?;
@@ -138,6 +173,22 @@ impl Context {
         Ok(())
     }
 
+    #[tactic(auto, using(crate::proofs::Spelling::read_back, crate::proofs::Spelling::spells_itself))]
+    /// Adds the one spelling at the end. Where memory runs out, nothing is added.
+    pub fn write(&self, alloc: Global, to: &mut Bytes) -> Result<(), OutOfMemory>
+        ensures ok { OnOk result (to.new ≡ to.old ++ context_text self.now) }
+        ensures err { OnErr result (to.new ≡ to.old) }
+
+        // What is written is read back as this context, and as no other.
+        ensures spells { Spells (context_text self.now) self.now }
+        ensures read_back { context_of (context_text self.now) ≡ Some self.now }
+    {
+        let _ = &self.user;
+        let mut text = Bytes::new(alloc);
+        self.add_parts(&mut text)?;
+        to.push(text.as_slice())
+    }
+
     /// This user, role and range with the other's type.
     pub fn with_kind_of(&self, alloc: Global, other: &Context) -> Result<Context, OutOfMemory>
         ensures { IfOk result (λ made. made ≡ record self.now { kind = other.now.kind }) }
@@ -149,4 +200,41 @@ impl Context {
             range: copy_of_range(alloc, self.range.as_ref().map(|r| r.as_slice()))?,
         })
     }
+
+    /// A copy.
+    pub fn copy(&self, alloc: Global) -> Result<Context, OutOfMemory>
+        ensures { IfOk result (λ copy. copy ≡ self.now) }
+    {
+        self.with_kind_of(alloc, self)
+    }
+
+    /// Whether role, type and range are the same, whatever the users are.
+    pub fn same_but_user(&self, other: &Context) -> bool
+        ensures computed { result ≡ same_but_user self.now other.now }
+        ensures equal { IsTrue result ↔ (record other.now { user = self.now.user } ≡ self.now) }
+    {
+        self.role == other.role
+            && self.kind == other.kind
+            && is_same_range(&self.range, &other.range)
+    }
+}
+
+impl PartialEq for Context {
+    ghost eq = { same_context };
+
+    ghost laws = { partial_equiv_from_equiv contexts_equiv };
+
+    fn eq(&self, other: &Context) -> bool
+        ensures computed { result ≡ same_context self.now other.now }
+        ensures equal { IsTrue result ↔ (self.now ≡ other.now) }
+    {
+        self.user == other.user
+            && self.role == other.role
+            && self.kind == other.kind
+            && is_same_range(&self.range, &other.range)
+    }
+}
+
+impl Eq for Context {
+    ghost laws = { contexts_equiv };
 }

@@ -1,24 +1,25 @@
-ghost use Rattle.std.specs.Prelude.{◌≡◌, IfOk};
-ghost use Rattle.context_syntax.specs.Label.{label_of};
-
-use std::alloc::Global;
+ghost use Rattle.std.specs.Prelude.{◌≡◌, ◌↔◌, IfOk, IsTrue};
+ghost use Rattle.std.specs.Cmp.{partial_equiv_from_equiv};
+ghost use Rattle.context_syntax.specs.Label.{label_of, same_label};
+ghost use Rattle.context_syntax.specs.LabelEqual.{labels_equiv};
 
 use crate::context::{Context, ContextFault};
 use label_base::{Bytes, OutOfMemory};
+use std::alloc::Global;
 
-/// The label of an inode.
+/// The label of an inode, as find(1) prints it by `%Z` or the attribute `security.selinux` holds it.
 #[derive(Debug, Drop)]
 pub enum Label {
     /// There is none.
     Absent,
-    /// There is one that is no context.
+    /// There is one that is no context. Its bytes are kept as they are.
     Odd(Bytes),
     /// A context.
     Is(Context),
 }
 
 impl Label {
-    /// Reads a label: no bytes and `?` are none.
+    /// Reads a label: no bytes and `?` are none, a context is read as one, all else is odd.
     pub fn read(alloc: Global, bytes: &[u8]) -> Result<Label, OutOfMemory>
         ensures { IfOk result (λ label. label ≡ label_of bytes.now) }
     {
@@ -31,4 +32,37 @@ impl Label {
             Err(ContextFault::OutOfMemory) => Err(OutOfMemory),
         }
     }
+
+    /// A copy.
+    pub fn copy(&self, alloc: Global) -> Result<Label, OutOfMemory>
+        ensures { IfOk result (λ copy. copy ≡ self.now) }
+    {
+        match self {
+            Label::Absent => Ok(Label::Absent),
+            Label::Odd(bytes) => Ok(Label::Odd(Bytes::copy_of(alloc, bytes.as_slice())?)),
+            Label::Is(context) => Ok(Label::Is(context.copy(alloc)?)),
+        }
+    }
+}
+
+impl PartialEq for Label {
+    ghost eq = { same_label };
+
+    ghost laws = { partial_equiv_from_equiv labels_equiv };
+
+    fn eq(&self, other: &Label) -> bool
+        ensures computed { result ≡ same_label self.now other.now }
+        ensures equal { IsTrue result ↔ (self.now ≡ other.now) }
+    {
+        match (self, other) {
+            (Label::Absent, Label::Absent) => true,
+            (Label::Odd(bytes), Label::Odd(others)) => *bytes == *others,
+            (Label::Is(context), Label::Is(others)) => *context == *others,
+            _ => false,
+        }
+    }
+}
+
+impl Eq for Label {
+    ghost laws = { labels_equiv };
 }

@@ -1,8 +1,15 @@
-//! Security contexts, the labels of inodes, and type names.
+//! Security contexts, the labels of inodes, and sets of type names.
 #![tactic(auto)]
 
 mod context;
+mod customizable;
 mod label;
+mod type_names;
 
 pub use context::{Context, ContextFault};
+pub use customizable::{CustomFault, read_customizable};
 pub use label::Label;
+pub use type_names::TypeNames;
+
+#[cfg(test)]
+mod tests;
