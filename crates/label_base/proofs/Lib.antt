@@ -4,3 +4,4 @@ pub mod Known
 pub mod LineLemmas
 pub mod StoreLemmas
 pub mod NumberLemmas
+pub mod EscapeLemmas
