@@ -1,0 +1,102 @@
+ghost use Rattle.std.specs.Prelude.{◌≡◌, ◌≤◌, ◌+◌, ◌-◌, ◌^◌, ◌<◌, IfOk, None, length, min};
+
+use std::alloc::Global;
+use std::fs;
+use std::fs::Files;
+use std::io;
+use std::io::ErrorKind;
+
+use crate::bytes::Bytes;
+use crate::reading::{AllFault, read_all};
+use crate::sink::{WriteSink, write_all};
+use crate::source::ReadSource;
+use crate::store::{FileFault, SaveFault, Store};
+
+/// The files of the system. It tells no content, and counts each call that fails.
+///
+/// A name is a path as open(2) takes it. `NotThere` is the system's "no such file or directory"
+/// (ENOENT) alone. A read takes at most one byte more than its limit. A write makes the file anew,
+/// or shortens it to nothing first, so a write that fails may leave a part of the bytes.
+#[derive(Drop)]
+pub struct FileStore<'r, R> {
+    system: &'r R,
+    read_faults: u64,
+    write_faults: u64,
+}
+
+impl<'r, R: Files> FileStore<'r, R> {
+    /// A store that has not failed.
+    pub fn new(system: &'r R) -> FileStore<'r, R> {
+        FileStore {
+            system,
+            read_faults: 0,
+            write_faults: 0,
+        }
+    }
+}
+
+// What a file's content is, or why there is none; `Failed` for every error but those with a name.
+fn content_of<R: Files>(
+    system: &R,
+    alloc: Global,
+    name: &str,
+    limit: usize,
+) -> Result<Bytes, FileFault>
+    ensures { IfOk result (λ bytes. length bytes ≤ limit) }
+{
+    let file = match fs::open(system, name) {
+        Ok(file) => file,
+        Err(error) => return Err(fault_of(error.kind())),
+    };
+    match read_all(alloc, &mut ReadSource::new(file), limit.min(usize::MAX - 1)) {
+        Ok(bytes) => Ok(bytes),
+        Err(AllFault::ReadFault) => Err(FileFault::Failed),
+        Err(AllFault::TooLong) => Err(FileFault::TooLong),
+        Err(AllFault::OutOfMemory) => Err(FileFault::OutOfMemory),
+    }
+}
+
+fn fault_of(kind: ErrorKind) -> FileFault {
+    match kind {
+        ErrorKind::NotFound => FileFault::NotThere,
+        ErrorKind::OutOfMemory => FileFault::OutOfMemory,
+        _ => FileFault::Failed,
+    }
+}
+
+fn save<R: Files>(system: &R, name: &str, bytes: &[u8]) -> Result<(), SaveFault> {
+    match fs::create(system, name) {
+        Ok(file) => match write_all(&mut WriteSink::new(file), bytes) {
+            Ok(()) => Ok(()),
+            Err(_) => Err(SaveFault::Failed),
+        },
+        Err(error) => match error.kind() {
+            ErrorKind::OutOfMemory => Err(SaveFault::OutOfMemory),
+            _ => Err(SaveFault::Failed),
+        },
+    }
+}
+
+impl<'r, R: Files> Store for FileStore<'r, R> {
+    ghost files = { λ _. None };
+
+    ghost read_faults = { λ s. s.read_faults };
+
+    ghost write_faults = { λ s. s.write_faults };
+
+    fn read_file(&mut self, alloc: Global, name: &str, limit: usize) -> Result<Bytes, FileFault> {
+        let answer = content_of(self.system, alloc, name, limit);
+        if let Err(FileFault::Failed) = &answer {
+            self.read_faults = self.read_faults.saturating_add(1);
+        }
+        answer
+    }
+
+    fn write_file(&mut self, _alloc: Global, name: &str, bytes: &[u8]) -> Result<(), SaveFault> {
+        let answer = save(self.system, name, bytes);
+        if let Err(SaveFault::Failed) = &answer {
+            self.write_faults = self.write_faults.saturating_add(1);
+        }
+        answer
+    }
+}
