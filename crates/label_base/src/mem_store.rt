@@ -252,3 +252,39 @@ impl Store for MemStore {
         self.inner.write_file(alloc, name, bytes)
     }
 }
+
+#[cfg(test)]
+mod tests {
+    use super::*;
+    use std::test::Fail;
+
+    #[test]
+    fn calls_of_both_kinds_are_counted_together(rt: HostRuntime) -> Result<(), Fail> {
+        let mut failing = Row::new(rt.alloc());
+        failing.push(2)?;
+        let mut store = MemStore::new(rt.alloc(), failing);
+        store.put(rt.alloc(), "a", b"one")?;
+        let read = store.read_file(rt.alloc(), "a", 3)?;
+        assert_eq!(rt; read.as_slice(), b"one".as_slice());
+        let refused = store.write_file(rt.alloc(), "a", b"two");
+        assert_eq!(rt; refused, Err(SaveFault::Failed));
+        assert_eq!(rt; store.file("b").is_none(), true);
+        store.write_file(rt.alloc(), "b", b"two")?;
+        assert_eq!(rt; store.file("b").ok_or("no b")?, b"two".as_slice());
+        Ok(())
+    }
+
+    #[test]
+    fn a_sure_store_keeps_the_last_content(rt: HostRuntime) -> Result<(), Fail> {
+        let mut store = SureStore::new(rt.alloc());
+        store.put(rt.alloc(), "a", b"one")?;
+        store.put(rt.alloc(), "b", b"two")?;
+        store.write_file(rt.alloc(), "a", b"three")?;
+        assert_eq!(rt; store.file("a").ok_or("no a")?, b"three".as_slice());
+        let absent = store.read_file(rt.alloc(), "c", 9).err();
+        assert_eq!(rt; absent, Some(FileFault::NotThere));
+        let long = store.read_file(rt.alloc(), "a", 4).err();
+        assert_eq!(rt; long, Some(FileFault::TooLong));
+        Ok(())
+    }
+}
