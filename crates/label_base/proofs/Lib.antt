@@ -5,3 +5,4 @@ pub mod LineLemmas
 pub mod StoreLemmas
 pub mod NumberLemmas
 pub mod EscapeLemmas
+pub mod Sending
