@@ -6,11 +6,10 @@ ghost use Rattle.label_base.specs.Escape.{escaped, escaped_byte, is_plain, is_oc
 ghost use Rattle.label_base.specs.Pieces.{turns_left};
 ghost use Rattle.label_base.specs.declared.escape.EscapeFault.TheVariants as fault;
 
-use std::alloc::Global;
-
 use crate::bytes::Bytes;
 use crate::cut::cut_at;
 use crate::memory;
+use std::alloc::Global;
 
 /// Why an escaped text wasn't read.
 #[derive(Clone, Copy, Debug, PartialEq, Eq)]

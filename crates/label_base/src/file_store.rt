@@ -1,16 +1,15 @@
-ghost use Rattle.std.specs.Prelude.{◌≡◌, ◌≤◌, ◌+◌, ◌-◌, ◌^◌, ◌<◌, IfOk, None, length, min};
-
-use std::alloc::Global;
-use std::fs;
-use std::fs::Files;
-use std::io;
-use std::io::ErrorKind;
+ghost use Rattle.std.specs.Prelude.{◌≡◌, ◌≤◌, ◌+◌, ◌-◌, ◌^◌, ◌<◌, ◌↔◌, ◌≢◌, IfOk, None, length, min};
 
 use crate::bytes::Bytes;
 use crate::reading::{AllFault, read_all};
 use crate::sink::{WriteSink, write_all};
 use crate::source::ReadSource;
 use crate::store::{FileFault, SaveFault, Store};
+use std::alloc::Global;
+use std::fs;
+use std::fs::Files;
+use std::io::ErrorKind;
+use std::marker::Model;
 
 /// The files of the system. It tells no content, and counts each call that fails.
 ///
@@ -24,9 +23,19 @@ pub struct FileStore<'r, R> {
     write_faults: u64,
 }
 
+impl<'r, R> Model for FileStore<'r, R> {
+    ghost use Rattle.label_base.specs.Store.{StoreFaults};
+
+    ghost Value = { StoreFaults };
+
+    ghost view = { λ s. record { read_faults = s.read_faults; write_faults = s.write_faults } };
+}
+
 impl<'r, R: Files> FileStore<'r, R> {
-    /// A store that has not failed.
-    pub fn new(system: &'r R) -> FileStore<'r, R> {
+    /// A store that has not failed. Contracts see it as its counts of faults.
+    pub fn new(system: &'r R) -> FileStore<'r, R>
+        ensures { result ≡ record { read_faults = 0; write_faults = 0 } }
+    {
         FileStore {
             system,
             read_faults: 0,
@@ -56,7 +65,11 @@ fn content_of<R: Files>(
     }
 }
 
-fn fault_of(kind: ErrorKind) -> FileFault {
+// Only "no such file or directory" says that there is no file.
+fn fault_of(kind: ErrorKind) -> FileFault
+    ensures absent { (result ≡ FileFault.NotThere) ↔ (kind ≡ ErrorKind.NotFound) }
+    ensures opened { result ≢ FileFault.TooLong }
+{
     match kind {
         ErrorKind::NotFound => FileFault::NotThere,
         ErrorKind::OutOfMemory => FileFault::OutOfMemory,

@@ -2,12 +2,11 @@ ghost use Rattle.std.specs.Prelude.{◌≡◌, ◌≤◌, ◌<◌, ◌==◌, ◌
 ghost use Rattle.label_base.specs.Sink.{IsPut, PutCounts, Puts, mem_put, sink_after};
 ghost use Rattle.label_base.specs.Source.{is_listed};
 
-use std::alloc::Global;
-use std::marker::Model;
-
 use crate::bytes::Bytes;
 use crate::row::Row;
 use crate::sink::{Put, Sink};
+use std::alloc::Global;
+use std::marker::Model;
 
 /// A sink in memory, some of whose calls fail. A call that finds no memory fails too.
 #[derive(Drop)]
@@ -78,17 +77,26 @@ impl Sink for MemSink {
 }
 
 /// A sink that never fails. It keeps no bytes, and tells no content.
-#[derive(Clone, Copy)]
+#[derive(Drop)]
 pub struct SureSink {
     piece: usize,
-    ghost some: { 0 < piece },
+}
+
+impl Model for SureSink {
+    ghost use Rattle.std.specs.Prelude.{◌<◌, ℕ};
+
+    ghost Value = { ℕ };
+
+    ghost view = { λ s. s.piece };
+
+    ghost invariant = { λ s. 0 < s.piece };
 }
 
 impl SureSink {
-    /// A sink. No call takes more than `piece` bytes, which has to be at least 1.
+    /// A sink, seen as its piece. No call takes more than `piece` bytes, which has to be at least 1.
     pub fn new(piece: usize) -> SureSink
         requires { 0 < piece }
-        ensures { result.piece ≡ piece }
+        ensures { result ≡ piece }
     {
         SureSink { piece }
     }
@@ -103,7 +111,7 @@ impl Sink for SureSink {
         requires { 0 < length bytes.now }
         ensures put { Puts None None result bytes.now }
         ensures counts { PutCounts 0 0 result }
-        ensures answer { result ≡ Put.Took (min self.old.piece (length bytes.now)) }
+        ensures answer { result ≡ Put.Took (min self.old (length bytes.now)) }
         ensures after { self.new ≡ self.old }
     {
         Put::Took(self.piece.min(bytes.len()))

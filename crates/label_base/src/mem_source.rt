@@ -1,11 +1,10 @@
 ghost use Rattle.std.specs.Prelude.{◌≡◌, ◌≤◌, ◌<◌, ◌==◌, ◌+◌, ◌-◌, ◌^◌, ℕ, List, Some, length, take, min};
 ghost use Rattle.label_base.specs.Source.{Takes, TakeCounts, is_listed, mem_after, mem_take, sure_after, sure_take};
 
-use std::marker::Model;
-
 use crate::bytes::Bytes;
 use crate::row::Row;
 use crate::source::{Source, Take};
+use std::marker::Model;
 
 /// A source in memory that never fails.
 #[derive(Drop)]

@@ -4,14 +4,13 @@ ghost use Rattle.std.specs.Option.{option_copied};
 ghost use Rattle.label_base.specs.Source.{next_count};
 ghost use Rattle.label_base.specs.Store.{FileCounts, FileIs, FileTold, IsFirstPlace, SaveCounts, SaveTold, content, files_of, found_in, has_name, is_planned, read_after, read_failed, write_after, write_failed};
 
-use std::alloc::Global;
-use std::marker::Model;
-
 use crate::bytes::Bytes;
 use crate::memory::OutOfMemory;
 use crate::name::Name;
 use crate::row::Row;
 use crate::store::{FileFault, SaveFault, Store};
+use std::alloc::Global;
+use std::marker::Model;
 
 // A file in memory.
 #[derive(Drop)]
@@ -133,7 +132,7 @@ impl Store for SureStore {
     ghost write_faults = { λ _. 0 };
 
     fn read_file(&mut self, alloc: Global, name: &str, limit: usize) -> Result<Bytes, FileFault>
-        ensures files { Some self.new ≡ Some self.old }
+        ensures files { self.new ≡ self.old }
         ensures within { IfOk result (λ bytes. length bytes ≤ limit) }
         ensures content { FileIs (content self.old name.now) limit result }
         ensures counts { FileCounts 0 0 result }
@@ -223,7 +222,7 @@ impl Store for MemStore {
     ghost write_faults = { λ s. s.write_faults };
 
     fn read_file(&mut self, alloc: Global, name: &str, limit: usize) -> Result<Bytes, FileFault>
-        ensures files { Some self.new.files ≡ Some self.old.files }
+        ensures files { self.new.files ≡ self.old.files }
         ensures within { IfOk result (λ bytes. length bytes ≤ limit) }
         ensures content { FileIs (content self.old.files name.now) limit result }
         ensures counts { FileCounts self.old.read_faults self.new.read_faults result }

@@ -10,14 +10,13 @@ ghost use Rattle.std.specs.List.{list_any};
 ghost use Rattle.label_base.specs.Path.{path_names, path_read, path_text, is_dot_part, is_name, at_or_below};
 ghost use Rattle.label_base.specs.Answers.{Answers};
 
-use std::alloc::Global;
-use std::cmp::Ordering;
-use std::marker::Model;
-
 use crate::bytes::Bytes;
 use crate::cut::cut_at;
 use crate::memory;
 use crate::path_fault::PathFault;
+use std::alloc::Global;
+use std::cmp::Ordering;
+use std::marker::Model;
 
 /// An absolute path, seen as its names.
 #[derive(Debug, Drop)]
