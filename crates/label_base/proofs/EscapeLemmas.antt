@@ -1,11 +1,11 @@
 -- What a text reads as, from one backslash to the next, and that what was escaped reads as the bytes.
-use Rattle.std.proofs.Common.{◌≡◌, ◌∙◌, ap, sym, refl, ℕ, zero, suc, ◌+◌, ◌*◌, ◌-◌, ◌/◌, ◌%◌, ◌<◌, ◌≤◌, Bool, true, false, cond, List, [], ◌∷◌, ◌++◌, length, get_or, drop, append_assoc, append-nil, arith}
-use Rattle.std.specs.Prelude.{Option, Some, None, ◌==◌, ◌&&◌, nat_lt, nat_le}
-use Rattle.std.specs.List.{flat_map, list_all}
+use Rattle.std.proofs.Common.{◌≡◌, ◌∙◌, ap, sym, refl, ℕ, suc, ◌+◌, ◌/◌, ◌%◌, ◌<◌, ◌≤◌, Bool, true, false, cond, List, [], ◌∷◌, ◌++◌, length, get_or, drop, append_assoc, arith}
+use Rattle.std.specs.Prelude.{Option, Some, None, ◌==◌, ◌&&◌, nat_lt}
+use Rattle.std.specs.List.{list_all}
 use Rattle.std.proofs.lemmas.Bool.Decides.{nat_tests}
 use Rattle.label_base.specs.Answers.{NoneUnless}
 use Rattle.label_base.specs.Cut.{front, behind}
-use Rattle.label_base.specs.Escape.{is_plain, escaped_byte, escaped, is_octal, octal_value, octal_byte, in_front, led_by, unescaped, after_backslash, unescaped_left}
+use Rattle.label_base.specs.Escape.{is_plain, escaped, is_octal, octal_value, octal_byte, in_front, led_by, unescaped, after_backslash, unescaped_left}
 
 is_backslash : ℕ → Bool
 is_backslash b = b == 92
