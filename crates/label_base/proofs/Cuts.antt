@@ -1,9 +1,9 @@
 -- What a search for a byte says of the pieces between such bytes.
-use Rattle.std.proofs.Common.{◌≡◌, ◌∙◌, ap, sym, refl, ℕ, zero, suc, ◌+◌, ◌<◌, Bool, true, false, cond, List, [], ◌∷◌, length, take, drop, arith}
+use Rattle.std.proofs.Common.{◌≡◌, ◌∙◌, ap, refl, ℕ, zero, suc, ◌<◌, Bool, false, cond, List, [], ◌∷◌, length, take, drop, arith}
 use Rattle.std.proofs.lemmas.Bool.{false_from_ne_true}
 use Rattle.std.specs.List.{slice_split, onto_first}
 use Rattle.label_base.specs.Cut.{front, behind}
-use Rattle.std.specs.Prelude.{Option, Some, None}
+use Rattle.std.specs.Prelude.{Some, None}
 use Rattle.memchr.specs.Find.{Nowhere, Passes}
 
 -- the first piece ends at the first such byte

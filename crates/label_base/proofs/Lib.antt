@@ -5,3 +5,5 @@ pub mod Known
 pub mod LineLemmas
 pub mod StoreLemmas
 pub mod NumberLemmas
+pub mod EscapeLemmas
+pub mod Sending

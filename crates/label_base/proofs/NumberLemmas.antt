@@ -4,7 +4,7 @@ use Rattle.std.proofs.lemmas.Bool.Decides.{nat_tests}
 use Rattle.std.proofs.lemmas.Bool.{ltb-false, ltb-true}
 use Rattle.std.specs.Prelude.{Option, Some, None, fold, nat_lt, ◌&&◌}
 use Rattle.std.specs.List.{list_all}
-use Rattle.std.proofs.Common.{length, ◌==◌}
+use Rattle.std.proofs.Common.{length, ◌==◌, get_or, drop, drop-cons, suc}
 use Rattle.label_base.specs.Number.{next_value, with_digit, digit_of, is_digit, decimal, number_of}
 
 abbrev whole : Bool → ℕ → Option ℕ
@@ -44,3 +44,8 @@ fold_is v (b ∷ bs) h =
 pub fold_is_number : (bytes : List ℕ) → (length bytes == 0) ≡ false → fold next_value (Some 0) bytes ≡ number_of bytes
 fold_is_number [] h = cc
 fold_is_number (b ∷ bs) h = fold_is 0 (b ∷ bs) (omega arith)
+
+-- nothing is left to read behind a byte that makes no number
+pub ended : (v i : ℕ) (bs : List ℕ) → i < length bs → with_digit v (digit_of (get_or bs i 0)) ≡ None → fold next_value (Some v) (drop i bs) ≡ None
+ended v i bs h e =
+    ap (fold next_value (Some v)) (drop-cons bs i 0 h) ∙ ap (λ o. fold next_value o (drop (suc i) bs)) e ∙ none_stays (drop (suc i) bs)

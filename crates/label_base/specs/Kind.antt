@@ -1,5 +1,5 @@
 -- Kinds of entries.
-use Rattle.std.specs.Prelude.{ℕ, Bool, true, false, ◌==◌, Option, Some, None}
+use Rattle.std.specs.Prelude.{ℕ, Bool, true, ◌==◌, Option, Some, None}
 use Rattle.label_base.specs.declared.kind.EntryKind.{EntryKind}
 use Rattle.label_base.specs.declared.kind.EntryKind.TheVariants.{Regular, Directory, Link, Pipe, Socket, Block, Char, Other}
 use Rattle.label_base.specs.declared.kind.Asked.{Asked}

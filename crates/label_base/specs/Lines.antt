@@ -1,5 +1,5 @@
 -- Lines, fields, and the first bad line.
-use Rattle.std.specs.Prelude.{◌≡◌, ℕ, ◌+◌, Bool, true, false, ◌||◌, ◌==◌, List, [], ◌∷◌, ◌++◌, Option, Some, None, Result, Ok, Err, filter}
+use Rattle.std.specs.Prelude.{◌≡◌, ℕ, Bool, ◌||◌, ◌==◌, List, [], ◌∷◌, ◌++◌, Option, Some, None, Result, Ok, Err, filter}
 use Rattle.std.specs.List.{slice_split, enumerate_from, filter_map}
 use Rattle.label_base.specs.Path.{is_nonempty}
 

@@ -1,5 +1,5 @@
 ghost use Rattle.std.specs.Prelude.{◌≡◌, ◌*◌, ◌+◌, ◌-◌};
-ghost use Rattle.label_base.specs.Number.{number_of, next_value, digit_of};
+ghost use Rattle.label_base.specs.Number.{digit_of, number_of, with_digit};
 
 fn digit(b: u8) -> Option<u64>
     ensures { result ≡ digit_of b }
@@ -11,14 +11,16 @@ fn digit(b: u8) -> Option<u64>
     }
 }
 
-fn next(value: Option<u64>, b: u8) -> Option<u64>
-    ensures { result ≡ next_value value b }
+// The value with one digit more.
+fn longer(value: u64, b: u8) -> Option<u64>
+    ensures { result ≡ with_digit value (digit_of b) }
 {
     let digit = digit(b)?;
-    value?.checked_mul(10)?.checked_add(digit)
+    value.checked_mul(10)?.checked_add(digit)
 }
 
-/// Reads decimal digits.
+/// The number that one or more decimal digits stand for. There is none exactly where there is no
+/// byte, a byte that isn't a digit, or a value above 18,446,744,073,709,551,615.
 #[tactic(auto, using(crate::proofs::NumberLemmas::fold_is_number))]
 pub fn read_number(bytes: &[u8]) -> Option<u64>
     ensures { result ≡ number_of bytes.now }
@@ -26,9 +28,23 @@ pub fn read_number(bytes: &[u8]) -> Option<u64>
     if bytes.is_empty() {
         return None;
     }
-    let mut value = Some(0);
+    let mut value = 0;
     for b in bytes {
-        value = next(value, *b);
+        value = longer(value, *b)?;
     }
-    value
+    Some(value)
+}
+
+#[cfg(test)]
+mod tests {
+    use super::*;
+
+    #[test]
+    fn numbers_have_at_most_64_bits(rt: HostRuntime) {
+        assert_eq!(rt; read_number(b"007"), Some(7));
+        assert_eq!(rt; read_number(b"18446744073709551615"), Some(u64::MAX));
+        for text in [b"".as_slice(), b"1a", b"-1", b"18446744073709551616"] {
+            assert_eq!(rt; read_number(text), None);
+        }
+    }
 }

@@ -4,4 +4,4 @@ use Rattle.label_base.specs.Number.{next_value, number_of}
 use Rattle.label_base.proofs.number.read_number.Given as goal
 
 abbrev pub invariant-loop-b : goal.invariant-loop-b
-invariant-loop-b l = fold next_value l.value (drop l.b-index l.bytes) ≡ number_of l.bytes
+invariant-loop-b l = fold next_value (Some l.value) (drop l.b-index l.bytes) ≡ number_of l.bytes
