@@ -7,3 +7,4 @@ pub mod StoreLemmas
 pub mod NumberLemmas
 pub mod EscapeLemmas
 pub mod Sending
+pub mod PathMoves

@@ -84,7 +84,7 @@ one_name : (name : List ℕ) → is_name name ≡ true → path_names name ≡ n
 one_name [] h = cc
 one_name (b ∷ bs) h = ap (λ ps. filter is_nonempty ps) (one_piece (b ∷ bs) h)
 
-names_behind : (xs : List ℕ) (names : Path) → are_names names ≡ true → path_names (xs ++ with_slashes names) ≡ path_names xs ++ names
+pub names_behind : (xs : List ℕ) (names : Path) → are_names names ≡ true → path_names (xs ++ with_slashes names) ≡ path_names xs ++ names
 names_behind xs [] h = ap path_names (append-nil xs) ∙ sym (append-nil (path_names xs))
 names_behind xs (n ∷ ns) h =
     names_around xs (n ++ with_slashes ns)

@@ -145,6 +145,17 @@ fn push_part(text: &mut Vec<u8>, name: &[u8]) -> Result<(), OutOfMemory>
     Ok(())
 }
 
+// A text with the end of another behind it.
+fn with_end(alloc: Global, front: &[u8], text: &[u8], from: usize) -> Result<Vec<u8>, OutOfMemory>
+    requires { from ≤ length text.now }
+    ensures { IfOk result (λ joined. joined.items ≡ front.now ++ drop from text.now) }
+{
+    let mut joined = Vec::with_capacity(alloc, front.len() + (text.len() - from))?;
+    joined.extend_from_slice(front)?;
+    joined.extend_from_slice(&text[from..])?;
+    Ok(joined)
+}
+
 fn count_slashes(text: &[u8]) -> usize
     ensures { result ≡ count_by is_slash text.now }
 {
@@ -286,9 +297,30 @@ impl NormPath {
     /// The name at a place, counted from 0 at the top.
     pub fn name(&self, i: usize) -> &[u8]
         requires { i < length self.now }
-        ensures { slice_get self.now i ≡ Some result.now }
+        ensures value { slice_get self.now i ≡ Some result.now }
+        ensures named { is_name result.now ≡ true }
     {
         piece_at(&self.text[1..], i)
+    }
+
+    /// The path with the target's names in place of the source's, which it is at or below.
+    pub fn replaced(
+        &self,
+        alloc: Global,
+        source: &NormPath,
+        target: &NormPath,
+    ) -> Result<NormPath, OutOfMemory>
+        requires { at_or_below self.now source.now ≡ true }
+        ensures { IfOk result (λ path. path ≡ target.now ++ drop (length source.now) self.now) }
+    {
+        Ok(NormPath {
+            text: with_end(
+                alloc,
+                target.text.as_slice(),
+                self.text.as_slice(),
+                source.text.len(),
+            )?,
+        })
     }
 
     /// Whether the path is the other one or below it.

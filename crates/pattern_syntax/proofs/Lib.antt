@@ -1,0 +1,11 @@
+mod Rows
+pub mod Sets
+pub mod ClassLemmas
+pub mod BracketLemmas
+pub mod TokenLemmas
+pub mod BuildingLemmas
+pub mod ReadingLemmas
+pub mod ShapeLemmas
+pub mod GrammarLemmas
+pub mod LiteralLemmas
+pub mod RestLemmas

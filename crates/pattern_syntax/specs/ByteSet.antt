@@ -1,5 +1,5 @@
 -- Sets of bytes.
-use Rattle.std.specs.Prelude.{◌≡◌, ℕ, ◌/◌, ◌%◌, ◌^◌, ◌==◌, Bool, List, filter, slice_index}
+use Rattle.std.specs.Prelude.{ℕ, ◌/◌, ◌%◌, ◌^◌, ◌-◌, ◌==◌, Bool, true, false, List, [], ◌∷◌, filter, slice_index, Option, Some, None}
 use Rattle.std.specs.List.{range_with_len}
 use Rattle.pattern_syntax.specs.declared.byte_set.ByteSet.{ByteSet}
 
@@ -14,3 +14,21 @@ text_bytes = range_with_len 1 255
 -- the bytes that pass, in ascending order
 unfoldable pub bytes_with : (ℕ → Bool) → List ℕ
 bytes_with p = filter p text_bytes
+
+-- those from a byte on
+abbrev pub bytes_from : (ℕ → Bool) → ℕ → List ℕ
+bytes_from p low = filter p (range_with_len low (256 - low))
+
+-- the test of the empty set
+abbrev pub no_bytes : ℕ → Bool
+no_bytes b = false
+
+-- the byte of a set of one byte
+abbrev pub only_of : List ℕ → Option ℕ
+only_of [] = None
+only_of (b ∷ []) = Some b
+only_of (b ∷ c ∷ bs) = None
+
+abbrev pub is_none_of : List ℕ → Bool
+is_none_of [] = true
+is_none_of (b ∷ bs) = false

@@ -3,5 +3,14 @@ pub mod Language
 pub mod ByteSet
 pub mod Nodes
 pub mod PatternCause
+pub mod Classes
+pub mod Escapes
+pub mod Brackets
+pub mod Tokens
+pub mod Views
 pub mod Reading
 pub mod Exact
+pub mod Shape
+pub mod Building
+pub mod Grammar
+pub mod Literal

@@ -1,5 +1,5 @@
 -- The tree that a list of nodes in postfix order stands for.
-use Rattle.std.specs.Prelude.{◌≡◌, ℕ, List, [], ◌∷◌}
+use Rattle.std.specs.Prelude.{List, [], ◌∷◌}
 use Rattle.pattern_syntax.specs.Tree as tree
 use Rattle.pattern_syntax.specs.Tree.{Tree, tree_from}
 use Rattle.pattern_syntax.specs.ByteSet.{has_byte, bytes_with}

@@ -1,7 +1,8 @@
-use Rattle.std.proofs.Common.{◌<◌, length, arith}
+use Rattle.std.proofs.Common.{◌∙◌, ◌<◌, ap, sym, length, arith}
 use Rattle.std.proofs.lemmas.List.{take_rest}
-use Rattle.label_base.specs.Path.{path_names}
+use Rattle.label_base.specs.Path.{are_names, path_names}
 use Rattle.label_base.proofs.PathLemmas.{names_behind_first}
+use Rattle.label_base.proofs.PathMoves.{name_at}
 use Rattle.label_base.proofs.path.NormPath.name.Goals as goal
 
 pub piece_at-requires : goal.piece_at-requires
@@ -17,4 +18,4 @@ returns c =
     let within : c.args.i < length (path_names text) = rw c.self.view_is c.requires in
     let some : 0 < length (path_names text) = omega arith in
     let found = rw (c.deref.ensures.value, take_rest, names_behind_first text c.self.invariant some, c.self.view_is) at c.piece_at.ensures in
-    found
+    record { value = found; named = name_at c.args.self.now c.args.i c.piece_at.result.now (sym (ap are_names c.self.view_is) ∙ c.self.invariant.1) found }

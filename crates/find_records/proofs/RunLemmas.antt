@@ -1,0 +1,67 @@
+-- The records of a text, from its first one on.
+use Rattle.std.proofs.Common.{◌≡◌, ◌∙◌, ap, sym, refl, ℕ, ◌+◌, ◌<◌, ◌==◌, Bool, true, false, cond, List, [], ◌∷◌, ◌++◌, length, append_assoc, arith}
+use borrow.Author.Tests.{eqb-true}
+use Rattle.std.specs.Prelude.{Option, Some, None, Result, Ok, Err}
+use Rattle.std.specs.List.{slice_split, onto_first}
+use Rattle.label_base.specs.Lines.{with_front}
+use Rattle.label_base.specs.Answers.{Explains}
+use Rattle.find_records.specs.declared.record.Record.{Record}
+use Rattle.find_records.specs.declared.fault.RecordsWhy.{RecordsWhy}
+use Rattle.find_records.specs.Records.{is_nul, with_ends, pieces_of, meaning, onto, all_from, records_from}
+
+onto_cons : (x : ℕ) (pieces : List (List ℕ)) → (y : List ℕ) × (ys : List (List ℕ)) × (onto_first x pieces ≡ y ∷ ys)
+onto_cons x [] = (x ∷ [], [], refl)
+onto_cons x (p ∷ ps) = (x ∷ p, ps, refl)
+
+chosen_cons : (v : Bool) (x : ℕ) (pieces : List (List ℕ)) → (y : List ℕ) × (ys : List (List ℕ)) × (cond v ([] ∷ pieces) (onto_first x pieces) ≡ y ∷ ys)
+chosen_cons true x pieces = ([], pieces, refl)
+chosen_cons false x pieces = onto_cons x pieces
+
+-- there is a first piece
+split_cons : (xs : List ℕ) → (y : List ℕ) × (ys : List (List ℕ)) × (slice_split is_nul xs ≡ y ∷ ys)
+split_cons [] = ([], [], refl)
+split_cons (x ∷ xs) = chosen_cons (is_nul x) x (slice_split is_nul xs)
+
+more_pieces : (f y : List ℕ) (ys : List (List ℕ)) → with_ends (f ∷ y ∷ ys) ≡ (f, true) ∷ with_ends (y ∷ ys)
+more_pieces [] y ys = refl
+more_pieces (b ∷ bs) y ys = refl
+
+pieces_more : (bytes f r : List ℕ) → slice_split is_nul bytes ≡ f ∷ slice_split is_nul r → pieces_of bytes ≡ (f, true) ∷ pieces_of r
+pieces_more bytes f r h =
+    let c = split_cons r in
+    ap with_ends (h ∙ ap (λ ps. f ∷ ps) c.2) ∙ more_pieces f c.0 c.1 ∙ sym (ap (λ ps. (f, true) ∷ with_ends ps) c.2)
+
+pieces_last : (bytes : List ℕ) → 0 < length bytes → slice_split is_nul bytes ≡ bytes ∷ [] → pieces_of bytes ≡ (bytes, false) ∷ []
+pieces_last [] n h = absurd (omega arith)
+pieces_last (b ∷ bs) n h = ap with_ends h
+
+pub records_none : (most number : ℕ) (bytes : List ℕ) → (length bytes == 0) ≡ true → records_from most number bytes ≡ Ok []
+unfolding records_from
+records_none most number [] h = refl
+records_none most number (b ∷ bs) h = absurd (omega (arith, eqb-true (length (b ∷ bs)) 0 h))
+
+pub records_more : (most number : ℕ) (bytes f r : List ℕ) → slice_split is_nul bytes ≡ f ∷ slice_split is_nul r → records_from most number bytes ≡ onto (meaning most number f true) (records_from most (number + 1) r)
+unfolding records_from
+records_more most number bytes f r h = ap (all_from most number) (pieces_more bytes f r h)
+
+pub records_last : (most number : ℕ) (bytes f : List ℕ) → 0 < length bytes → slice_split is_nul bytes ≡ f ∷ [] → f ≡ bytes → records_from most number bytes ≡ onto (meaning most number f false) (records_from most (number + 1) [])
+unfolding records_from
+records_last most number bytes f n h e = ap (all_from most number) (pieces_last bytes n (h ∙ ap (λ p. p ∷ []) e) ∙ ap (λ p. (p, false) ∷ []) (sym e))
+
+-- a first record that is read, and one that is refused
+pub first_read : (all : Result (List Record) RecordsWhy) (first : Result Record RecordsWhy) (rest : Result (List Record) RecordsWhy) (found : Record) → all ≡ onto first rest → first ≡ Ok found → all ≡ onto (Ok found) rest
+first_read all first rest found h e = h ∙ ap (λ f. onto f rest) e
+
+pub first_bad : (all : Result (List Record) RecordsWhy) (first : Result Record RecordsWhy) (rest : Result (List Record) RecordsWhy) (cause : Option RecordsWhy) → all ≡ onto first rest → Explains cause first → Explains cause all
+first_bad all first rest None h e = tt
+first_bad all first rest (Some why) h e = h ∙ ap (λ f. onto f rest) e
+
+-- the first record goes to the end of those in front
+pub front_more : (front : List Record) (first : Record) (rest : Result (List Record) RecordsWhy) → with_front front (onto (Ok first) rest) ≡ with_front (front ++ first ∷ []) rest
+front_more front first (Ok rest) = ap Ok (sym (append_assoc front (first ∷ []) rest))
+front_more front first (Err why) = refl
+
+-- what is wrong with the rest is wrong with all
+pub front_bad : (front : List Record) (rest all : Result (List Record) RecordsWhy) (cause : Option RecordsWhy) → with_front front rest ≡ all → Explains cause rest → Explains cause all
+front_bad front rest all None h e = tt
+front_bad front rest all (Some why) h e = sym h ∙ ap (with_front front) e

@@ -1,0 +1,4 @@
+pub mod Cause
+pub mod Reading
+pub mod Record
+pub mod Records

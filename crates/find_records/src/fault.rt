@@ -1,0 +1,75 @@
+ghost use Rattle.std.specs.Prelude.{◌≡◌};
+ghost use Rattle.find_records.specs.declared.fault.RecordFault.TheVariants.{OutOfMemory};
+ghost use Rattle.find_records.specs.declared.fault.RunFault.TheVariants as run;
+
+use label_base::PathWhy;
+
+/// What is wrong with a record that has its NUL.
+#[derive(Clone, Copy, Debug, PartialEq, Eq)]
+pub enum RecordWhy {
+    /// It has fewer than four spaces.
+    MissingField,
+    /// Its type is no letter that find(1) prints for `%y`.
+    BadType,
+    /// Its device or inode is no decimal number of at most 64 bits.
+    BadNumber,
+    /// Its path is no absolute path.
+    BadPath(PathWhy),
+}
+
+/// What is wrong with the first bad record. Records are numbered from 1.
+#[derive(Clone, Copy, Debug, PartialEq, Eq)]
+pub enum RecordsWhy {
+    /// There are more records than the limit.
+    TooMany,
+    /// The record is outside its grammar.
+    Refused { number: u32, why: RecordWhy },
+    /// The last record lacks its NUL.
+    Unended { number: u32 },
+}
+
+/// Why a source gave no records.
+#[derive(Clone, Copy, Debug, PartialEq, Eq)]
+pub enum RecordsFault {
+    /// The source failed.
+    ReadFault,
+    /// The source has more bytes than the limit.
+    TooLong,
+    /// There are more records than the limit.
+    TooMany,
+    /// The first bad record is outside its grammar.
+    Refused { number: u32, why: RecordWhy },
+    /// The first bad record is the last one, which lacks its NUL.
+    Unended { number: u32 },
+    OutOfMemory,
+}
+
+/// Why the bytes of one record gave no record.
+#[derive(Clone, Copy, Debug, PartialEq, Eq)]
+pub enum RecordFault {
+    Bad(RecordWhy),
+    OutOfMemory,
+}
+
+impl From<label_base::OutOfMemory> for RecordFault {
+    ghost from_gives = { λ _ e. e ≡ OutOfMemory };
+
+    fn from(_refused: label_base::OutOfMemory) -> RecordFault {
+        RecordFault::OutOfMemory
+    }
+}
+
+/// Why bytes gave no records.
+#[derive(Clone, Copy, Debug, PartialEq, Eq)]
+pub enum RunFault {
+    Bad(RecordsWhy),
+    OutOfMemory,
+}
+
+impl From<label_base::OutOfMemory> for RunFault {
+    ghost from_gives = { λ _ e. e ≡ run.OutOfMemory };
+
+    fn from(_refused: label_base::OutOfMemory) -> RunFault {
+        RunFault::OutOfMemory
+    }
+}

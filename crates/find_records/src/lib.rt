@@ -1,0 +1,14 @@
+//! The records of a tree, as `find -printf '%y %D %i %Z %p\0'` writes them.
+#![tactic(auto)]
+
+mod fault;
+mod reading;
+mod record;
+
+pub use fault::{RecordWhy, RecordsFault, RecordsWhy};
+pub use label_base::PathWhy;
+pub use reading::{RecordLimits, read_records};
+pub use record::Record;
+
+#[cfg(test)]
+mod tests;

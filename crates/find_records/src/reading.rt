@@ -1,0 +1,113 @@
+ghost use Rattle.std.specs.Prelude.{◌≡◌, ◌<◌, ◌≤◌, ◌+◌, ◌-◌, ◌^◌, length, IfOk, IfErr, Ok};
+ghost use Rattle.label_base.specs.Answers.{Answers, Explains};
+ghost use Rattle.find_records.specs.Cause.{run_cause};
+ghost use Rattle.find_records.specs.Records.{meaning, records_from, onto};
+ghost use Rattle.find_records.specs.Reading.{RecordsTold, RecordsCounts};
+
+use crate::fault::{RecordFault, RecordsFault, RecordsWhy, RunFault};
+use crate::record::{Record, read_record};
+use label_base::{AllFault, Row, Source, cut_at, read_all};
+use std::alloc::Global;
+
+/// The most that is read.
+#[derive(Clone, Copy, Debug, PartialEq, Eq)]
+pub struct RecordLimits {
+    /// The greatest number of records.
+    pub records: u32,
+    /// The greatest number of bytes.
+    pub bytes: u64,
+}
+
+// Reads one record, whose number is given.
+#[tactic(auto, unfolding(crate::specs::Records::meaning))]
+fn read_numbered(
+    alloc: Global,
+    number: u64,
+    most: u32,
+    bytes: &[u8],
+    is_ended: bool,
+) -> Result<Record, RunFault>
+    ensures answer { Answers (λ found. found) run_cause result (meaning most number bytes.now is_ended) }
+    ensures few { IfOk result (λ _. number ≤ most) }
+{
+    if number > u64::from(most) {
+        return Err(RunFault::Bad(RecordsWhy::TooMany));
+    }
+    let number = number as u32;
+    if !is_ended {
+        return Err(RunFault::Bad(RecordsWhy::Unended { number }));
+    }
+    match read_record(alloc, bytes) {
+        Ok(record) => Ok(record),
+        Err(RecordFault::Bad(why)) => Err(RunFault::Bad(RecordsWhy::Refused { number, why })),
+        Err(RecordFault::OutOfMemory) => Err(RunFault::OutOfMemory),
+    }
+}
+
+// Reads the first record of a text, and gives what stands behind it.
+fn next_record(
+    alloc: Global,
+    number: u64,
+    most: u32,
+    bytes: &[u8],
+) -> Result<(Record, &[u8]), RunFault>
+    requires { 0 < length bytes.now }
+    ensures found { IfOk result (λ found. records_from most number bytes.now ≡ onto (Ok found.0) (records_from most (number + 1) found.1.now)) }
+    ensures shorter { IfOk result (λ found. length found.1.now < length bytes.now) }
+    ensures few { IfOk result (λ _. number ≤ most) }
+    ensures bad { IfErr result (λ fault. Explains (run_cause fault) (records_from most number bytes.now)) }
+{
+    let (piece, rest) = cut_at(0, bytes);
+    match rest {
+        Some(rest) => Ok((read_numbered(alloc, number, most, piece, true)?, rest)),
+        None => Ok((read_numbered(alloc, number, most, piece, false)?, &[])),
+    }
+}
+
+fn read_all_records(alloc: Global, bytes: &[u8], most: u32) -> Result<Row<Record>, RunFault>
+    ensures answer { Answers (λ records. records) run_cause result (records_from most 1 bytes.now) }
+    ensures few { IfOk result (λ records. length records ≤ most) }
+{
+    let mut records = Row::new(alloc);
+    let mut left = bytes;
+    let mut number = 1u64;
+    'records: while !left.is_empty() {
+        let (record, rest) = next_record(alloc, number, most, left)?;
+        records.push(record)?;
+        left = rest;
+        number += 1;
+    }
+    Ok(records)
+}
+
+/// Reads a source to its end, and then the records that it had, each ended by a NUL, as
+/// `find -printf '%y %D %i %Z %p\0'` writes them (find(1)).
+///
+/// The first bad record decides; on one record the limit of their number comes first, then the NUL that a
+/// last one lacks, then its fields.
+pub fn read_records<I: Source>(
+    alloc: Global,
+    source: &mut I,
+    limits: RecordLimits,
+) -> Result<Row<Record>, RecordsFault>
+    requires { limits.bytes < 2 ^ 64 - 1 }
+    ensures told { RecordsTold (I.left source.old) (I.left source.new) limits result }
+    ensures counts { RecordsCounts (I.faults source.old) (I.faults source.new) result }
+    ensures few { IfOk result (λ records. length records ≤ limits.records) }
+{
+    let bytes = match read_all(alloc, source, limits.bytes as usize) {
+        Ok(bytes) => bytes,
+        Err(AllFault::ReadFault) => return Err(RecordsFault::ReadFault),
+        Err(AllFault::TooLong) => return Err(RecordsFault::TooLong),
+        Err(AllFault::OutOfMemory) => return Err(RecordsFault::OutOfMemory),
+    };
+    match read_all_records(alloc, bytes.as_slice(), limits.records) {
+        Ok(records) => Ok(records),
+        Err(RunFault::Bad(RecordsWhy::TooMany)) => Err(RecordsFault::TooMany),
+        Err(RunFault::Bad(RecordsWhy::Refused { number, why })) => {
+            Err(RecordsFault::Refused { number, why })
+        }
+        Err(RunFault::Bad(RecordsWhy::Unended { number })) => Err(RecordsFault::Unended { number }),
+        Err(RunFault::OutOfMemory) => Err(RecordsFault::OutOfMemory),
+    }
+}

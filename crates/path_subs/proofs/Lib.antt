@@ -1,0 +1,4 @@
+pub mod PlainPaths
+pub mod Covering
+pub mod LineReading
+pub mod NamesAt

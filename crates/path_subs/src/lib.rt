@@ -1,0 +1,19 @@
+//! The substitution of the front of a path, as selabel_file(5) describes it for file_contexts.subs and
+//! file_contexts.subs_dist.
+#![tactic(auto)]
+
+mod below;
+mod line;
+mod reading;
+mod stage;
+mod sub;
+mod sub_fault;
+mod subs;
+
+pub use reading::read_subs;
+pub use sub::Sub;
+pub use sub_fault::SubFault;
+pub use subs::Subs;
+
+#[cfg(test)]
+mod tests;

@@ -1,0 +1,101 @@
+-- Which bytes a class has.
+use Rattle.std.proofs.Common.{◌≡◌, refl, sym, subst, ℕ, ◌+◌, ◌<◌, ◌≤◌, ◌==◌, Bool, true, false, cond, List, [], ◌∷◌, zero, suc, ◌⊎◌, inl, inr, arith}
+use Rattle.std.specs.Prelude.{filter, ◌||◌}
+use Rattle.std.specs.List.{list_any, range_with_len}
+use Rattle.pattern_syntax.specs.ByteSet.{bytes_with, has_byte}
+use Rattle.pattern_match.specs.declared.class.Class.{Class}
+use Rattle.pattern_match.specs.declared.class.Class.TheVariants.{Byte, Set}
+use Rattle.pattern_match.specs.Class.{class_bytes, takes}
+use Rattle.pattern_match.proofs.Language.{or_either}
+use Rattle.pattern_match.specs.Residuals.{is_some_list}
+
+or_right : (x y : Bool) → y ≡ true → (x || y) ≡ true
+or_right true y h = refl
+or_right false y h = h
+
+at_or_after : (lo b : ℕ) → lo ≤ b → (lo ≡ b) ⊎ (lo + 1 ≤ b)
+at_or_after lo b h = grind arith
+
+same : (b : ℕ) → (b == b) ≡ true
+same b = grind arith
+
+keep : (b lo : ℕ) (v : Bool) (kept : List ℕ) → list_any (λ c. c == b) kept ≡ true → list_any (λ c. c == b) (cond v (lo ∷ kept) kept) ≡ true
+keep b lo true kept h = or_right (lo == b) _ h
+keep b lo false kept h = h
+
+put : (b lo : ℕ) (v : Bool) (kept : List ℕ) → lo ≡ b → v ≡ true → list_any (λ c. c == b) (cond v (lo ∷ kept) kept) ≡ true
+put b lo true kept e h = let s : (lo == b) ≡ true = rw e (same b) in rw s refl
+put b lo false kept e h = cc
+
+-- a number that passes is kept from a run of numbers
+kept_at : (p : ℕ → Bool) (lo n b : ℕ) → lo ≤ b → b < lo + n → p b ≡ true → list_any (λ c. c == b) (filter p (range_with_len lo n)) ≡ true
+kept_at p lo zero b h l e = absurd (omega arith)
+kept_at p lo (suc n) b h l e = at (at_or_after lo b h) (kept_at p (lo + 1) n b)
+  where
+    at : (lo ≡ b) ⊎ (lo + 1 ≤ b) → (lo + 1 ≤ b → b < (lo + 1) + n → p b ≡ true → list_any (λ c. c == b) (filter p (range_with_len (lo + 1) n)) ≡ true) → list_any (λ c. c == b) (filter p (range_with_len lo (suc n))) ≡ true
+    at (inl q) ih = put b lo (p lo) (filter p (range_with_len (lo + 1) n)) q (rw q e)
+    at (inr q) ih = keep b lo (p lo) (filter p (range_with_len (lo + 1) n)) (ih q (omega arith) e)
+
+-- what is kept passes
+kept_passes : (p : ℕ → Bool) (xs : List ℕ) (b : ℕ) → list_any (λ c. c == b) (filter p xs) ≡ true → p b ≡ true
+kept_passes p [] b h = cc
+kept_passes p (x ∷ xs) b h = at (p x) refl h (kept_passes p xs b)
+  where
+    at : (v : Bool) → p x ≡ v → list_any (λ c. c == b) (cond v (x ∷ filter p xs) (filter p xs)) ≡ true → (list_any (λ c. c == b) (filter p xs) ≡ true → p b ≡ true) → p b ≡ true
+    at true q g ih = elim (or_either (x == b) _ g) [ inl e ↦ (let f : x ≡ b = grind arith in subst (λ n. p n ≡ true) f q) | inr r ↦ ih r ]
+    at false q g ih = ih g
+
+-- of a run of numbers none is kept where none passes
+none_kept : (p : ℕ → Bool) (lo n : ℕ) → ((b : ℕ) → lo ≤ b → b < lo + n → p b ≡ false) → is_some_list (filter p (range_with_len lo n)) ≡ false
+none_kept p lo zero h = refl
+none_kept p lo (suc n) h = let e : p lo ≡ false = h lo (omega arith) (omega arith) in rw e (none_kept p (lo + 1) n (λ b l m. h b (omega arith) (omega arith)))
+
+some_of : (bytes : List ℕ) (b : ℕ) → list_any (λ c. c == b) bytes ≡ true → is_some_list bytes ≡ true
+some_of [] b h = cc
+some_of (c ∷ cs) b h = refl
+
+-- the bytes of a set, as texts have them
+pub some_bytes : (p : ℕ → Bool) (b : ℕ) → 0 < b → b < 256 → p b ≡ true → is_some_list (bytes_with p) ≡ true
+unfolding bytes_with
+some_bytes p b l m e = some_of (filter p (range_with_len 1 255)) b (kept_at p 1 255 b (omega arith) (omega arith) e)
+
+pub no_bytes : (p : ℕ → Bool) → ((b : ℕ) → 0 < b → b < 256 → p b ≡ false) → is_some_list (bytes_with p) ≡ false
+unfolding bytes_with
+no_bytes p h = none_kept p 1 255 (λ b l m. h b (omega arith) (omega arith))
+
+same_truth : (u v : Bool) → (u ≡ true → v ≡ true) → (v ≡ true → u ≡ true) → u ≡ v
+same_truth true v f g = sym (f refl)
+same_truth false true f g = g refl
+same_truth false false f g = refl
+
+set_bytes : (p : ℕ → Bool) (b : ℕ) → 0 < b → b < 256 → p b ≡ list_any (λ c. c == b) (bytes_with p)
+unfolding bytes_with
+set_bytes p b l m = same_truth (p b) (list_any (λ c. c == b) (filter p (range_with_len 1 255))) (kept_at p 1 255 b (omega arith) (omega arith)) (kept_passes p (range_with_len 1 255) b)
+
+none_below : (p : ℕ → Bool) (lo n b : ℕ) → b < lo → list_any (λ c. c == b) (filter p (range_with_len lo n)) ≡ false
+none_below p lo zero b l = refl
+none_below p lo (suc n) b l = at (p lo) (none_below p (lo + 1) n b (omega arith))
+  where
+    at : (v : Bool) → list_any (λ c. c == b) (filter p (range_with_len (lo + 1) n)) ≡ false → list_any (λ c. c == b) (cond v (lo ∷ filter p (range_with_len (lo + 1) n)) (filter p (range_with_len (lo + 1) n))) ≡ false
+    at true h = let s : (lo == b) ≡ false = grind arith in rw (s, h) refl
+    at false h = h
+
+no_zero : (p : ℕ → Bool) → false ≡ list_any (λ c. c == 0) (bytes_with p)
+unfolding bytes_with
+no_zero p = sym (none_below p 1 255 0 (omega arith))
+
+or_false : (v : Bool) → v ≡ (v || false)
+or_false true = refl
+or_false false = refl
+
+is_zero : (b : ℕ) → (b ≡ 0) ⊎ (0 < b)
+is_zero b = grind arith
+
+-- whether a class takes a byte is whether it is one of its bytes
+pub class_takes : (class : Class) (b : ℕ) → b < 256 → takes class b ≡ list_any (λ c. c == b) (class_bytes class)
+class_takes (Byte c) b m = or_false (c == b)
+class_takes (Set set) b m = at (is_zero b)
+  where
+    at : (b ≡ 0) ⊎ (0 < b) → takes (Set set) b ≡ list_any (λ c. c == b) (bytes_with (has_byte set))
+    at (inl e) = rw e (no_zero (has_byte set))
+    at (inr l) = let n : (b == 0) ≡ false = grind arith in rw n (set_bytes (has_byte set) b l m)

@@ -1,0 +1,11 @@
+pub mod Language
+pub mod Running
+pub mod Holding
+pub mod Classes
+pub mod Lists
+pub mod Stacks
+pub mod Stepping
+pub mod WordBits
+pub mod Rows
+pub mod Machine
+pub mod Reading

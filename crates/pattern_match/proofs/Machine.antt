@@ -1,0 +1,191 @@
+-- A matcher's tables and what its calls do to sets of states.
+use Rattle.std.proofs.Common.{◌≡◌, refl, sym, ◌∙◌, subst, ℕ, zero, suc, ◌+◌, ◌-◌, ◌*◌, ◌/◌, ◌<◌, ◌≤◌, ◌==◌, Bool, true, false, List, [], length, None, ◌⊎◌, inl, inr, arith}
+use Rattle.std.specs.Prelude.{◌&&◌, slice_get, nat_lt}
+use Rattle.pattern_syntax.specs.Tree.{Tree}
+use Rattle.pattern_match.specs.Residuals.{all_residuals, has_texts}
+use Rattle.pattern_match.specs.Automaton.{Place, automaton, all_places}
+use Rattle.pattern_match.specs.States.{bit, width_of, AreStatesOf, StandsFor}
+use Rattle.pattern_match.specs.Tables.{AreTables, leads, ends, has, any_below}
+use Rattle.pattern_match.proofs.Language.{and_first, and_second, and_both, or_either, or_left, or_right}
+use Rattle.pattern_match.proofs.WordBits.{bit_within}
+use Rattle.pattern_match.proofs.Rows.{get_past, row_within}
+use Rattle.pattern_match.proofs.Stepping.{IsStep, IsEnd, IsStart, as_many, starts}
+
+any_from : (test : ℕ → Bool) (n : ℕ) → any_below test n ≡ true → (p : ℕ) × (p < n) × (test p ≡ true)
+any_from test zero h = cc
+any_from test (suc n) h = at (or_either (any_below test n) _ h) (any_from test n)
+  where
+    at : (any_below test n ≡ true) ⊎ (test n ≡ true) → (any_below test n ≡ true → (p : ℕ) × (p < n) × (test p ≡ true)) → (p : ℕ) × (p < suc n) × (test p ≡ true)
+    at (inl g) ih = let r = ih g in (r.0, omega arith, r.2)
+    at (inr g) ih = (n, omega arith, g)
+
+last_or_before : (p n : ℕ) → p < suc n → (p < n) ⊎ (p ≡ n)
+last_or_before p n h = grind arith
+
+any_to : (test : ℕ → Bool) (n p : ℕ) → p < n → test p ≡ true → any_below test n ≡ true
+any_to test zero p l h = absurd (omega arith)
+any_to test (suc n) p l h = at (last_or_before p n l) (any_to test n p)
+  where
+    at : (p < n) ⊎ (p ≡ n) → (p < n → test p ≡ true → any_below test n ≡ true) → any_below test (suc n) ≡ true
+    at (inl g) ih = or_left _ _ (ih g h)
+    at (inr g) ih = or_right (any_below test n) _ (subst (λ m. test m ≡ true) g h)
+
+within_or_past : (k n : ℕ) → (k < n) ⊎ (n ≤ k)
+within_or_past k n = grind arith
+
+leads_within : (ps : List Place) (p q : ℕ) → leads (slice_get ps p) q ≡ true → p < length ps
+leads_within ps p q h = at (within_or_past p (length ps))
+  where
+    at : (p < length ps) ⊎ (length ps ≤ p) → p < length ps
+    at (inl l) = l
+    at (inr l) = let e : leads (slice_get ps p) q ≡ false = (let n : slice_get ps p ≡ None = get_past ps p l in rw n refl) in let d : true ≡ false = sym h ∙ e in cc
+
+has_within : (ps : List Place) (p b : ℕ) → has (slice_get ps p) b ≡ true → p < length ps
+has_within ps p b h = at (within_or_past p (length ps))
+  where
+    at : (p < length ps) ⊎ (length ps ≤ p) → p < length ps
+    at (inl l) = l
+    at (inr l) = let e : has (slice_get ps p) b ≡ false = (let n : slice_get ps p ≡ None = get_past ps p l in rw n refl) in let d : true ≡ false = sym h ∙ e in cc
+
+ends_within : (ps : List Place) (p : ℕ) → ends (slice_get ps p) ≡ true → p < length ps
+ends_within ps p h = at (within_or_past p (length ps))
+  where
+    at : (p < length ps) ⊎ (length ps ≤ p) → p < length ps
+    at (inl l) = l
+    at (inr l) = let e : ends (slice_get ps p) ≡ false = (let n : slice_get ps p ≡ None = get_past ps p l in rw n refl) in let d : true ≡ false = sym h ∙ e in cc
+
+first_is : (n k : ℕ) → suc k ≡ n → nat_lt 0 n ≡ true
+first_is n k e = grind arith
+
+last_is : (n k : ℕ) → suc k ≡ n → (n - 1 == k) ≡ true
+last_is n k e = let f : n - 1 ≡ k = omega arith in grind arith
+
+is_last : (n k : ℕ) → nat_lt 0 n ≡ true → (n - 1 == k) ≡ true → suc k ≡ n
+is_last n k a b = let f : n - 1 ≡ k = grind arith in let g : 0 < n = grind arith in omega arith
+
+module _ (ps : List Place) (width : ℕ) (follow accept bytes : List ℕ) (t : AreTables width follow accept bytes ps) where
+  rows_fit : length ps ≤ 64 * width
+  rows_fit = let w : width ≡ (length ps + 63) / 64 = t.wide in omega arith
+
+  machine_steps : (old new : List ℕ) (b : ℕ) → b < 256 → length old ≡ width → length new ≡ length old → ((k : ℕ) → k < 64 * length old → bit new k ≡ (any_below (λ p. bit old p && bit follow (64 * (p * length old) + k)) (length ps) && bit bytes (64 * (b * width) + k))) → IsStep ps old new b
+  machine_steps old new b m n o h = record {
+    onto = λ p q u v w.
+        let lp = leads_within ps p q v in
+        let lq = has_within ps q b w in
+        let f = rows_fit in
+        let r : bit follow (64 * (p * width) + q) ≡ true = t.follows p q lp (omega arith) ∙ v in
+        let s : bit bytes (64 * (b * width) + q) ≡ true = t.taken b q m (omega arith) ∙ w in
+        h q (omega arith) ∙ and_both _ _ (any_to (λ p. bit old p && bit follow (64 * (p * length old) + q)) (length ps) p lp (and_both _ _ u (rw n r))) s;
+    from = λ q u.
+        let lq = bit_within new q u in
+        let f = rows_fit in
+        let e = sym (h q (omega arith)) ∙ u in
+        let a = any_from (λ p. bit old p && bit follow (64 * (p * length old) + q)) (length ps) (and_first (any_below (λ p. bit old p && bit follow (64 * (p * length old) + q)) (length ps)) _ e) in
+        let d : bit bytes (64 * (b * width) + q) ≡ true = and_second (any_below (λ p. bit old p && bit follow (64 * (p * length old) + q)) (length ps)) _ e in
+        let u2 : bit follow (64 * (a.0 * length old) + q) ≡ true = and_second (bit old a.0) _ a.2 in
+        let g : bit follow (64 * (a.0 * width) + q) ≡ true = subst (λ w. bit follow (64 * (a.0 * w) + q) ≡ true) n u2 in
+        (sym (t.taken b q m (omega arith)) ∙ d, (a.0, and_first (bit old a.0) _ a.2, sym (t.follows a.0 q a.1 (omega arith)) ∙ g));
+  }
+
+  machine_ends : (states : List ℕ) (v : Bool) → length states ≡ width → ((k : ℕ) → bit states k ≡ true → bit accept k ≡ true → v ≡ true) → (v ≡ true → (k : ℕ) × (bit states k ≡ true) × (bit accept k ≡ true)) → IsEnd ps states v
+  machine_ends states v n f g = record {
+    onto = λ p u w.
+        let l = ends_within ps p w in
+        let r = rows_fit in
+        f p u (t.last p (omega arith) ∙ w);
+    from = λ e.
+        let r = g e in
+        let l = bit_within states r.0 r.1 in
+        (r.0, r.1, sym (t.last r.0 (omega arith)) ∙ r.2);
+  }
+
+  machine_starts : (states : List ℕ) → length states ≡ width → ((k : ℕ) → k < 64 * length states → bit states k ≡ (nat_lt 0 (length ps) && (length ps - 1 == k))) → IsStart ps states
+  machine_starts states n h = record {
+    onto = λ k e. let r = rows_fit in h k (omega arith) ∙ and_both (nat_lt 0 (length ps)) (length ps - 1 == k) (first_is (length ps) k e) (last_is (length ps) k e);
+    from = λ k u.
+        let l = bit_within states k u in
+        let e = sym (h k l) ∙ u in
+        is_last (length ps) k (and_first (nat_lt 0 (length ps)) (length ps - 1 == k) e) (and_second (nat_lt 0 (length ps)) (length ps - 1 == k) e);
+  }
+
+-- the states stay a matcher's
+pub stepped_states : (t : Tree) (old new : List ℕ) (b : ℕ) → AreStatesOf t old → length new ≡ length old → IsStep (all_places (automaton t)) old new b → AreStatesOf t new
+stepped_states t old new b a n s = record {
+  words = n ∙ a.words;
+  none_past = λ k l. at k l (bit new k) refl;
+}
+  where
+    at : (k : ℕ) → length (all_residuals t) ≤ k → (v : Bool) → bit new k ≡ v → bit new k ≡ false
+    at k l false e = e
+    at k l true e = let w = has_within (all_places (automaton t)) k b (s.from k e).0 in let m = as_many t in absurd (omega arith)
+
+pub started_states : (t : Tree) (states : List ℕ) → length states ≡ width_of t → IsStart (all_places (automaton t)) states → AreStatesOf t states
+started_states t states n s = record {
+  words = n;
+  none_past = λ k l. at k l (bit states k) refl;
+}
+  where
+    at : (k : ℕ) → length (all_residuals t) ≤ k → (v : Bool) → bit states k ≡ v → bit states k ≡ false
+    at k l false e = e
+    at k l true e = let w = s.from k e in let m = as_many t in absurd (omega arith)
+
+-- the tables of a pattern
+pub record IsMachine (t : Tree) (rows width : ℕ) (follow accept bytes : List ℕ) : Type 0 where
+  pub rows_is : rows ≡ length (all_places (automaton t))
+  pub tables : AreTables width follow accept bytes (all_places (automaton t))
+
+module _ (t : Tree) (rows width : ℕ) (follow accept bytes : List ℕ) (m : IsMachine t rows width follow accept bytes) where
+  width_is : width ≡ width_of t
+  width_is = let w : width ≡ (length (all_places (automaton t)) + 63) / 64 = m.tables.wide in let n = as_many t in omega arith
+
+  pub start_is : (new : List ℕ) → length new ≡ width → ((k : ℕ) → k < 64 * length new → bit new k ≡ (nat_lt 0 rows && (rows - 1 == k))) → IsStart (all_places (automaton t)) new
+  start_is new n h = let F : ℕ → Type 0 = λ r. (k : ℕ) → k < 64 * length new → bit new k ≡ (nat_lt 0 r && (r - 1 == k)) in machine_starts (all_places (automaton t)) width follow accept bytes m.tables new n (subst F m.rows_is h)
+
+  pub start_made : (new : List ℕ) → length new ≡ width → ((k : ℕ) → k < 64 * length new → bit new k ≡ (nat_lt 0 rows && (rows - 1 == k))) → AreStatesOf t new
+  start_made new n h = started_states t new (n ∙ width_is) (start_is new n h)
+
+  pub start_stands : (new : List ℕ) → length new ≡ width → ((k : ℕ) → k < 64 * length new → bit new k ≡ (nat_lt 0 rows && (rows - 1 == k))) → StandsFor t new []
+  start_stands new n h = starts t new (has_texts t) refl (start_is new n h)
+
+  pub wide : (old : List ℕ) → AreStatesOf t old → length old ≡ width
+  wide old a = a.words ∙ sym width_is
+
+  pub rows_in : (old : List ℕ) → AreStatesOf t old → rows ≤ 64 * length old
+  rows_in old a =
+      let w : width ≡ (length (all_places (automaton t)) + 63) / 64 = m.tables.wide in
+      let n = wide old a in
+      let r = m.rows_is in
+      omega arith
+
+  pub follow_in : (old : List ℕ) → AreStatesOf t old → rows * length old ≤ length follow
+  follow_in old a = let n = wide old a in let r = m.rows_is in let f = m.tables.rows in rw (n, r, f) (omega arith)
+
+  pub byte_in : (old : List ℕ) (b : ℕ) → AreStatesOf t old → b < 256 → b * width + length old ≤ length bytes
+  byte_in old b a l = let n = wide old a in let f = m.tables.bytes in rw (n, f) (row_within b 256 width l)
+
+  pub row_fits : (b : ℕ) → b < 256 → b * width ≤ length bytes
+  row_fits b l = let f = m.tables.bytes in let g = row_within b 256 width l in rw f (omega arith)
+
+  pub step_is : (old new : List ℕ) (b : ℕ) → b < 256 → AreStatesOf t old → length new ≡ length old → ((k : ℕ) → k < 64 * length old → bit new k ≡ (any_below (λ p. bit old p && bit follow (64 * (p * length old) + k)) rows && bit bytes (64 * (b * width) + k))) → IsStep (all_places (automaton t)) old new b
+  step_is old new b l a n h =
+      let F : ℕ → Type 0 = λ r. (k : ℕ) → k < 64 * length old → bit new k ≡ (any_below (λ p. bit old p && bit follow (64 * (p * length old) + k)) r && bit bytes (64 * (b * width) + k)) in
+      machine_steps (all_places (automaton t)) width follow accept bytes m.tables old new b l (wide old a) n (subst F m.rows_is h)
+
+  pub accept_in : (states : List ℕ) → AreStatesOf t states → length states ≡ length accept
+  accept_in states a = wide states a ∙ sym m.tables.accepts
+
+  pub end_is : (states : List ℕ) (v : Bool) → AreStatesOf t states → ((k : ℕ) → bit states k ≡ true → bit accept k ≡ true → v ≡ true) → (v ≡ true → (k : ℕ) × (bit states k ≡ true) × (bit accept k ≡ true)) → IsEnd (all_places (automaton t)) states v
+  end_is states v a f g = machine_ends (all_places (automaton t)) width follow accept bytes m.tables states v (wide states a) f g
+
+  pub step_at : (old new shown kept : List ℕ) (b from : ℕ) → shown ≡ follow → kept ≡ bytes → from ≡ b → b < 256 → AreStatesOf t old → length new ≡ length old → ((k : ℕ) → k < 64 * length old → bit new k ≡ (any_below (λ p. bit old p && bit shown (64 * (p * length old) + k)) rows && bit kept (64 * (from * width) + k))) → IsStep (all_places (automaton t)) old new b
+  step_at old new shown kept b from e f g l a n h =
+      let F : List ℕ → Type 0 = λ s. (k : ℕ) → k < 64 * length old → bit new k ≡ (any_below (λ p. bit old p && bit s (64 * (p * length old) + k)) rows && bit kept (64 * (from * width) + k)) in
+      let G : List ℕ → Type 0 = λ s. (k : ℕ) → k < 64 * length old → bit new k ≡ (any_below (λ p. bit old p && bit follow (64 * (p * length old) + k)) rows && bit s (64 * (from * width) + k)) in
+      let H : ℕ → Type 0 = λ c. (k : ℕ) → k < 64 * length old → bit new k ≡ (any_below (λ p. bit old p && bit follow (64 * (p * length old) + k)) rows && bit bytes (64 * (c * width) + k)) in
+      step_is old new b l a n (subst H g (subst G f (subst F e h)))
+
+  pub end_at : (states shown kept : List ℕ) (v : Bool) → shown ≡ states → kept ≡ accept → AreStatesOf t states → ((k : ℕ) → bit shown k ≡ true → bit kept k ≡ true → v ≡ true) → (v ≡ true → (k : ℕ) × (bit shown k ≡ true) × (bit kept k ≡ true)) → IsEnd (all_places (automaton t)) states v
+  end_at states shown kept v e f a g h =
+      end_is states v a
+      (λ k u w. g k (subst (λ (s : List ℕ). bit s k ≡ true) (sym e) u) (subst (λ (s : List ℕ). bit s k ≡ true) (sym f) w))
+      (λ i. let r = h i in (r.0, subst (λ (s : List ℕ). bit s r.0 ≡ true) e r.1, subst (λ (s : List ℕ). bit s r.0 ≡ true) f r.2))

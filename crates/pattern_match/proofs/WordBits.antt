@@ -1,0 +1,145 @@
+-- Bits of lists of words.
+use Rattle.std.proofs.Common.{◌≡◌, refl, sym, ◌∙◌, ap, subst, ℕ, zero, suc, ◌+◌, ◌*◌, ◌/◌, ◌%◌, ◌^◌, ◌<◌, ◌≤◌, ◌==◌, ◌≢◌, Bool, true, false, List, length, set, get_or, ◌⊎◌, inl, inr, arith, w64, min, max}
+use Rattle.std.specs.Prelude.{◌||◌, ◌&&◌, bit_and, bit_or}
+use Rattle.std.specs.Int.{bit_at, trailing_zeros}
+use Rattle.std.proofs.lemmas.List.{get_or-set_same, get_or-set_other, get_or_past}
+use Rattle.std.proofs.lemmas.Nat.{and_le_l}
+use Rattle.std.proofs.lemmas.Nat.Bits.{bit_at_set_same, bit_at_set_other, bit_at_and, bit_at_or, bit_at-zero, bit_at-lt, bit_at-trailing_zeros}
+use Rattle.pattern_match.specs.States.{bit}
+use Rattle.pattern_match.specs.Tables.{any_below}
+
+same_or_not : (j k : ℕ) → (j ≡ k) ⊎ (j ≢ k)
+same_or_not j k = grind arith
+
+or_true : (v w : Bool) → w ≡ true → (v || w) ≡ true
+or_true true w h = refl
+or_true false w h = h
+
+or_false : (v w : Bool) → w ≡ false → (v || w) ≡ v
+or_false true w h = refl
+or_false false w h = h
+
+is_same : (j k : ℕ) → j ≡ k → (j == k) ≡ true
+is_same j k e = grind arith
+
+not_same : (j k : ℕ) → j ≢ k → (j == k) ≡ false
+not_same j k e = grind arith
+
+-- a bit set in a word
+word_bit : (w i j : ℕ) → i < 64 → j < 64 → (bit_at (bit_or w (1 * 2 ^ i % 18446744073709551616)) j == 1) ≡ ((bit_at w j == 1) || (j == i))
+word_bit w i j l m = at (same_or_not j i)
+  where
+    at : (j ≡ i) ⊎ (j ≢ i) → (bit_at (bit_or w (1 * 2 ^ i % 18446744073709551616)) j == 1) ≡ ((bit_at w j == 1) || (j == i))
+    at (inl e) = rw (or_true (bit_at w j == 1) (j == i) (is_same j i e), e) (is_same _ _ (bit_at_set_same w64 w i l))
+    at (inr e) = rw (or_false (bit_at w j == 1) (j == i) (not_same j i e)) (ap (λ n. n == 1) (bit_at_set_other w64 w i l j e))
+
+pub bit_set : (words : List ℕ) (start q : ℕ) → start + q / 64 < length words → (j : ℕ) → bit (set words (start + q / 64) (bit_or (get_or words (start + q / 64) 0) (1 * 2 ^ (q % 64) % 18446744073709551616))) j ≡ (bit words j || (j == 64 * start + q))
+bit_set words start q l j = at (same_or_not (j / 64) (start + q / 64))
+  where
+    new : ℕ
+    new = bit_or (get_or words (start + q / 64) 0) (1 * 2 ^ (q % 64) % 18446744073709551616)
+
+    in_word : j / 64 ≡ start + q / 64 → (j == 64 * start + q) ≡ (j % 64 == q % 64)
+    in_word e = grind arith
+
+    at : (j / 64 ≡ start + q / 64) ⊎ (j / 64 ≢ start + q / 64) → bit (set words (start + q / 64) (bit_or (get_or words (start + q / 64) 0) (1 * 2 ^ (q % 64) % 18446744073709551616))) j ≡ (bit words j || (j == 64 * start + q))
+    at (inl e) =
+        let g = get_or-set_same words (start + q / 64) (bit_or (get_or words (start + q / 64) 0) (1 * 2 ^ (q % 64) % 18446744073709551616)) 0 l in
+        rw (in_word e, e, g) (word_bit (get_or words (start + q / 64) 0) (q % 64) (j % 64) (omega arith) (omega arith))
+    at (inr e) =
+        let n : j ≢ 64 * start + q = λ f. e (let h : j / 64 ≡ start + q / 64 = omega arith in h) in
+        rw (get_or-set_other words (start + q / 64) (j / 64) (bit_or (get_or words (start + q / 64) 0) (1 * 2 ^ (q % 64) % 18446744073709551616)) 0 e, or_false (bit words j) (j == 64 * start + q) (not_same j _ n)) refl
+
+-- no bit stands past the words
+no_word : (words : List ℕ) (k : ℕ) → 64 * length words ≤ k → bit words k ≡ false
+no_word words k l = let g : get_or words (k / 64) 0 ≡ 0 = get_or_past words (k / 64) 0 (omega arith) in rw g (not_same _ 1 (let z : bit_at 0 (k % 64) ≡ 0 = bit_at-zero (k % 64) in rw z (λ e. omega arith)))
+
+pub bit_within : (words : List ℕ) (k : ℕ) → bit words k ≡ true → k < 64 * length words
+bit_within words k h = at (grind arith)
+  where
+    at : (k < 64 * length words) ⊎ (64 * length words ≤ k) → k < 64 * length words
+    at (inl l) = l
+    at (inr l) = let e : bit words k ≡ false = no_word words k l in let d : true ≡ false = sym h ∙ e in cc
+
+max_one : (x y : ℕ) → x < 2 → y < 2 → (max x y == 1) ≡ ((x == 1) || (y == 1))
+max_one zero y l m = grind arith
+max_one (suc zero) zero l m = refl
+max_one (suc zero) (suc zero) l m = refl
+max_one (suc zero) (suc (suc y)) l m = absurd (omega arith)
+max_one (suc (suc x)) y l m = absurd (omega arith)
+
+min_one : (x y : ℕ) → x < 2 → y < 2 → (min x y == 1) ≡ ((x == 1) && (y == 1))
+min_one zero y l m = grind arith
+min_one (suc zero) zero l m = refl
+min_one (suc zero) (suc zero) l m = refl
+min_one (suc zero) (suc (suc y)) l m = absurd (omega arith)
+min_one (suc (suc x)) y l m = absurd (omega arith)
+
+place_of : (start k : ℕ) → (64 * start + k) / 64 ≡ start + k / 64
+place_of start k = omega arith
+
+rest_of : (start k : ℕ) → (64 * start + k) % 64 ≡ k % 64
+rest_of start k = omega arith
+
+pub bit_either : (new old table : List ℕ) (start k : ℕ) → get_or new (k / 64) 0 ≡ bit_or (get_or old (k / 64) 0) (get_or table (start + k / 64) 0) → bit new k ≡ (bit old k || bit table (64 * start + k))
+bit_either new old table start k e =
+    rw (place_of start k, rest_of start k, e, bit_at_or (get_or old (k / 64) 0) (get_or table (start + k / 64) 0) (k % 64))
+    (max_one (bit_at (get_or old (k / 64) 0) (k % 64)) (bit_at (get_or table (start + k / 64) 0) (k % 64)) (bit_at-lt _ _) (bit_at-lt _ _))
+
+pub bit_both : (new old table : List ℕ) (start k : ℕ) → get_or new (k / 64) 0 ≡ bit_and (get_or old (k / 64) 0) (get_or table (start + k / 64) 0) → bit new k ≡ (bit old k && bit table (64 * start + k))
+bit_both new old table start k e =
+    rw (place_of start k, rest_of start k, e, bit_at_and (get_or old (k / 64) 0) (get_or table (start + k / 64) 0) (k % 64))
+    (min_one (bit_at (get_or old (k / 64) 0) (k % 64)) (bit_at (get_or table (start + k / 64) 0) (k % 64)) (bit_at-lt _ _) (bit_at-lt _ _))
+
+pub no_bit : (words : List ℕ) (k : ℕ) → get_or words (k / 64) 0 ≡ 0 → bit words k ≡ false
+no_bit words k g = rw g (not_same _ 1 (let z : bit_at 0 (k % 64) ≡ 0 = bit_at-zero (k % 64) in rw z (λ e. omega arith)))
+
+-- a number that isn't 0 has a bit
+pub one_bit : (n : ℕ) → n ≢ 0 → n < 2 ^ 64 → (i : ℕ) × (i < 64) × (bit_at n i ≡ 1)
+one_bit n z l = let t = bit_at-trailing_zeros w64 n (omega arith) l in (trailing_zeros w64 n, t.0, t.1)
+
+pub bit_of_word : (words : List ℕ) (i t : ℕ) → t < 64 → bit_at (get_or words i 0) t ≡ 1 → bit words (64 * i + t) ≡ true
+bit_of_word words i t l e =
+    let p : (64 * i + t) / 64 ≡ i = omega arith in
+    let q : (64 * i + t) % 64 ≡ t = omega arith in
+    rw (p, q, e) refl
+
+least_one : (x y : ℕ) → x < 2 → y < 2 → min x y ≡ 1 → (x ≡ 1) × (y ≡ 1)
+least_one x y l m e = (omega arith, omega arith)
+
+pub any_found : (words : List ℕ) (i : ℕ) → get_or words i 0 ≢ 0 → get_or words i 0 < 2 ^ 64 → (k : ℕ) × (bit words k ≡ true)
+any_found words i z l = let b = one_bit (get_or words i 0) z l in (64 * i + b.0, bit_of_word words i b.0 b.1 b.2)
+
+pub common_found : (words others : List ℕ) (i : ℕ) → bit_and (get_or words i 0) (get_or others i 0) ≢ 0 → get_or words i 0 < 2 ^ 64 → (k : ℕ) × (bit words k ≡ true) × (bit others k ≡ true)
+common_found words others i z l =
+    let a = and_le_l (get_or words i 0) (get_or others i 0) in
+    let b = one_bit (bit_and (get_or words i 0) (get_or others i 0)) z (omega arith) in
+    let m = least_one (bit_at (get_or words i 0) b.0) (bit_at (get_or others i 0) b.0) (bit_at-lt _ _) (bit_at-lt _ _) (sym (bit_at_and (get_or words i 0) (get_or others i 0) b.0) ∙ b.2) in
+    (64 * i + b.0, bit_of_word words i b.0 b.1 m.0, bit_of_word others i b.0 b.1 m.1)
+
+-- without a common bit in any word there is none
+pub none_common : (words others : List ℕ) → length words ≡ length others → ((i : ℕ) → i < length words → bit_and (get_or words i 0) (get_or others i 0) ≡ 0) → (k : ℕ) → bit words k ≡ true → bit others k ≡ true → ⊥
+none_common words others n h k b c =
+    let l = bit_within words k b in
+    let z : bit_and (get_or words (k / 64) 0) (get_or others (k / 64) 0) ≡ 0 = h (k / 64) (omega arith) in
+    let x : bit_at (get_or words (k / 64) 0) (k % 64) ≡ 1 = grind arith in
+    let y : bit_at (get_or others (k / 64) 0) (k % 64) ≡ 1 = grind arith in
+    let m : bit_at (bit_and (get_or words (k / 64) 0) (get_or others (k / 64) 0)) (k % 64) ≡ min 1 1 = bit_at_and (get_or words (k / 64) 0) (get_or others (k / 64) 0) (k % 64) ∙ rw (x, y) refl in
+    let w : bit_at 0 (k % 64) ≡ 1 = rw z at m in
+    let v : bit_at 0 (k % 64) ≡ 0 = bit_at-zero (k % 64) in
+    omega arith
+
+pub none_any : (words : List ℕ) → ((i : ℕ) → i < length words → get_or words i 0 ≡ 0) → (k : ℕ) → bit words k ≡ true → ⊥
+none_any words h k b =
+    let l = bit_within words k b in
+    let z : get_or words (k / 64) 0 ≡ 0 = h (k / 64) (omega arith) in
+    let e : bit words k ≡ false = no_bit words k z in
+    let d : true ≡ false = sym b ∙ e in cc
+
+-- what is gathered and then kept
+pub step_bits : (marks gathered new shown kept follow bytes : List ℕ) (width rows start k : ℕ) → width ≡ length marks → shown ≡ marks → kept ≡ gathered → bit gathered k ≡ any_below (λ p. bit shown p && bit follow (64 * (p * width) + k)) rows → bit new k ≡ (bit kept k && bit bytes (64 * start + k)) → bit new k ≡ (any_below (λ p. bit marks p && bit follow (64 * (p * length marks) + k)) rows && bit bytes (64 * start + k))
+step_bits marks gathered new shown kept follow bytes width rows start k n e f g h =
+    let F : ℕ → Type 0 = λ w. bit gathered k ≡ any_below (λ p. bit shown p && bit follow (64 * (p * w) + k)) rows in
+    let G : List ℕ → Type 0 = λ m. bit gathered k ≡ any_below (λ p. bit m p && bit follow (64 * (p * length marks) + k)) rows in
+    let a : bit gathered k ≡ any_below (λ p. bit marks p && bit follow (64 * (p * length marks) + k)) rows = subst G e (subst F n g) in
+    h ∙ ap (λ v. v && bit bytes (64 * start + k)) (ap (λ (w : List ℕ). bit w k) f ∙ a)

@@ -1,0 +1,7 @@
+pub mod Residuals
+pub mod Automaton
+pub mod Building
+pub mod Class
+pub mod States
+pub mod Tables
+pub mod Compiled

@@ -1,0 +1,127 @@
+ghost use Rattle.std.specs.Prelude.{◌≡◌, true, false, ◌+◌, ◌*◌, ◌/◌, ◌<◌, ◌≤◌, ◌==◌, ◌||◌, ◌&&◌, ℕ, IfOk, length, replicate};
+ghost use Rattle.pattern_match.specs.States.{bit};
+ghost use Rattle.pattern_match.specs.Tables.{any_below};
+
+use label_base::OutOfMemory;
+use std::alloc::Global;
+
+/// So many words without a bit.
+pub fn no_bits(alloc: Global, words: usize) -> Result<Vec<u64>, OutOfMemory>
+    ensures { IfOk result (λ bits. bits.items ≡ replicate words 0) }
+{
+    Ok(vec![in alloc; 0u64; words]?)
+}
+
+/// Whether bit k is set.
+pub fn has_bit(words: &[u64], k: usize) -> bool
+    requires { k / 64 < length words.now }
+    ensures { result ≡ bit words.now k }
+{
+    words[k / 64] >> (k % 64) & 1 == 1
+}
+
+/// Sets bit k of the row that starts at a word.
+pub fn set_bit(words: &mut [u64], start: usize, k: usize)
+    requires { start + k / 64 < length words.old }
+    ensures { (j : ℕ) → bit words.new j ≡ (bit words.old j || (j == 64 * start + k)) }
+{
+    words[start + k / 64] |= 1 << (k % 64);
+}
+
+/// Adds the bits of the row that starts at a word.
+pub fn add_row(to: &mut Vec<u64>, table: &[u64], start: usize)
+    requires { start + length to.old.items ≤ length table.now }
+    ensures bits { (k : ℕ) → k < 64 * length to.old.items → bit to.new.items k ≡ (bit to.old.items k || bit table.now (64 * start + k)) }
+    ensures words { length to.new.items ≡ length to.old.items }
+{
+    for i in 0..to.len() {
+        to[i] |= table[start + i];
+    }
+}
+
+/// Makes the bits those that both another list and the row that starts at a word have.
+pub fn keep_row(to: &mut Vec<u64>, from: &[u64], table: &[u64], start: usize)
+    requires room { start + length to.old.items ≤ length table.now }
+    requires words { length from.now ≡ length to.old.items }
+    ensures bits { (k : ℕ) → k < 64 * length to.old.items → bit to.new.items k ≡ (bit from.now k && bit table.now (64 * start + k)) }
+    ensures words { length to.new.items ≡ length to.old.items }
+{
+    for i in 0..to.len() {
+        to[i] = from[i] & table[start + i];
+    }
+}
+
+/// Takes all bits out.
+pub fn clear(words: &mut Vec<u64>)
+    ensures bits { (k : ℕ) → k < 64 * length words.old.items → bit words.new.items k ≡ false }
+    ensures words { length words.new.items ≡ length words.old.items }
+{
+    for i in 0..words.len() {
+        words[i] = 0;
+    }
+}
+
+// Adds the bits of the row that starts at a word, if bit p is set.
+fn add_row_if(to: &mut Vec<u64>, marks: &[u64], p: usize, table: &[u64], start: usize)
+    requires mark { p / 64 < length marks.now }
+    requires room { start + length to.old.items ≤ length table.now }
+    ensures bits { (k : ℕ) → k < 64 * length to.old.items → bit to.new.items k ≡ (bit to.old.items k || (bit marks.now p && bit table.now (64 * start + k))) }
+    ensures words { length to.new.items ≡ length to.old.items }
+{
+    if has_bit(marks, p) {
+        add_row(to, table, start);
+    }
+}
+
+/// Makes the bits those of all rows whose number is marked.
+pub fn gather(to: &mut Vec<u64>, marks: &[u64], table: &[u64], rows: usize)
+    requires marks { rows ≤ 64 * length marks.now }
+    requires rows { rows * length to.old.items ≤ length table.now }
+    ensures bits { (k : ℕ) → k < 64 * length to.old.items → bit to.new.items k ≡ any_below (λ p. bit marks.now p && bit table.now (64 * (p * length to.old.items) + k)) rows }
+    ensures words { length to.new.items ≡ length to.old.items }
+{
+    clear(to);
+    let width = to.len();
+    for p in 0..rows {
+        add_row_if(to, marks, p, table, p * width);
+    }
+}
+
+/// Sets bit k if it is wanted, and among the words.
+pub fn set_if(words: &mut Vec<u64>, k: usize, is_wanted: bool)
+    ensures bits { (j : ℕ) → j < 64 * length words.old.items → bit words.new.items j ≡ (bit words.old.items j || (is_wanted && (k == j))) }
+    ensures words { length words.new.items ≡ length words.old.items }
+{
+    if is_wanted {
+        if k / 64 < words.len() {
+            set_bit(words, 0, k);
+        }
+    }
+}
+
+/// Whether some bit is set in both.
+pub fn have_common(words: &[u64], others: &[u64]) -> bool
+    requires { length words.now ≡ length others.now }
+    ensures onto { (k : ℕ) → bit words.now k ≡ true → bit others.now k ≡ true → result ≡ true }
+    ensures from { result ≡ true → (k : ℕ) × (bit words.now k ≡ true) × (bit others.now k ≡ true) }
+{
+    for i in 0..words.len() {
+        if words[i] & others[i] != 0 {
+            return true;
+        }
+    }
+    false
+}
+
+/// Whether some bit is set.
+pub fn have_any(words: &[u64]) -> bool
+    ensures onto { (k : ℕ) → bit words.now k ≡ true → result ≡ true }
+    ensures from { result ≡ true → (k : ℕ) × (bit words.now k ≡ true) }
+{
+    for i in 0..words.len() {
+        if words[i] != 0 {
+            return true;
+        }
+    }
+    false
+}

@@ -1,0 +1,102 @@
+ghost use Rattle.std.specs.Prelude.{◌≡◌, IfOk, OnOk};
+ghost use Rattle.pattern_syntax.specs.Nodes.{tree_of};
+ghost use Rattle.pattern_syntax.specs.declared.node.Node.TheVariants as nodes;
+ghost use Rattle.pattern_match.specs.Automaton.{automaton};
+ghost use Rattle.pattern_match.specs.Building.{Builds};
+
+use crate::class::Class;
+use crate::fragment::Fragment;
+use label_base::OutOfMemory;
+use pattern_syntax::{ByteSet, Node};
+use std::alloc::Global;
+
+fn put_byte(alloc: Global, stack: &mut Vec<Fragment>, b: u8) -> Result<(), OutOfMemory>
+    ensures { OnOk result (Builds (nodes.Byte b) stack.old.items stack.new.items) }
+{
+    stack.push(Fragment::single(alloc, Class::Byte(b))?)?;
+    Ok(())
+}
+
+fn put_set(alloc: Global, stack: &mut Vec<Fragment>, set: &ByteSet) -> Result<(), OutOfMemory>
+    ensures { OnOk result (Builds (nodes.Set set.now) stack.old.items stack.new.items) }
+{
+    stack.push(Fragment::single(alloc, Class::Set(*set))?)?;
+    Ok(())
+}
+
+fn put_nothing(alloc: Global, stack: &mut Vec<Fragment>) -> Result<(), OutOfMemory>
+    ensures { OnOk result (Builds nodes.Nothing stack.old.items stack.new.items) }
+{
+    stack.push(Fragment::bare(alloc, true))?;
+    Ok(())
+}
+
+fn put_both(alloc: Global, stack: &mut Vec<Fragment>) -> Result<(), OutOfMemory>
+    ensures { OnOk result (Builds nodes.Both stack.old.items stack.new.items) }
+{
+    let Some(second) = stack.pop() else {
+        return Ok(());
+    };
+    let Some(first) = stack.pop() else {
+        stack.push(second)?;
+        return Ok(());
+    };
+    stack.push(first.both(alloc, second)?)?;
+    Ok(())
+}
+
+fn put_either(alloc: Global, stack: &mut Vec<Fragment>) -> Result<(), OutOfMemory>
+    ensures { OnOk result (Builds nodes.Either stack.old.items stack.new.items) }
+{
+    let Some(right) = stack.pop() else {
+        return Ok(());
+    };
+    let Some(left) = stack.pop() else {
+        stack.push(right)?;
+        return Ok(());
+    };
+    stack.push(left.either(alloc, right)?)?;
+    Ok(())
+}
+
+fn put_repeat(
+    alloc: Global,
+    stack: &mut Vec<Fragment>,
+    least: u32,
+    most: Option<u32>,
+) -> Result<(), OutOfMemory>
+    ensures { OnOk result (Builds (nodes.Repeat least most) stack.old.items stack.new.items) }
+{
+    let Some(piece) = stack.pop() else {
+        return Ok(());
+    };
+    stack.push(piece.repeated(alloc, least, most)?)?;
+    Ok(())
+}
+
+fn put(alloc: Global, stack: &mut Vec<Fragment>, node: &Node) -> Result<(), OutOfMemory>
+    ensures { OnOk result (Builds node.now stack.old.items stack.new.items) }
+{
+    match node {
+        Node::Byte(b) => put_byte(alloc, stack, *b),
+        Node::Set(set) => put_set(alloc, stack, set),
+        Node::Nothing => put_nothing(alloc, stack),
+        Node::Both => put_both(alloc, stack),
+        Node::Either => put_either(alloc, stack),
+        Node::Repeat { least, most } => put_repeat(alloc, stack, *least, *most),
+    }
+}
+
+/// The automaton of a pattern, given as its nodes in postfix order.
+pub fn compiled(alloc: Global, nodes: &[Node]) -> Result<Fragment, OutOfMemory>
+    ensures { IfOk result (λ fragment. fragment ≡ automaton (tree_of nodes.now)) }
+{
+    let mut stack = Vec::new(alloc);
+    for node in nodes {
+        put(alloc, &mut stack, node)?;
+    }
+    match stack.pop() {
+        Some(fragment) => Ok(fragment),
+        None => Ok(Fragment::bare(alloc, true)),
+    }
+}

@@ -1,0 +1,326 @@
+ghost use Rattle.std.specs.Prelude.{◌≡◌, ◌++◌, ◌&&◌, ◌||◌, ◌==◌, true, IfOk, OnOk, [], map, length, if◌then◌else◌};
+ghost use Rattle.pattern_match.specs.Automaton.{Place, moved, followed, in_turn, bare, single, both, both_live, either, copy_before, looped, up, copies, endless, repeated, all_places};
+ghost use Rattle.pattern_match.specs.Residuals.{is_count};
+
+use crate::class::Class;
+use crate::position::{Position, sum};
+use label_base::OutOfMemory;
+use std::alloc::Global;
+use std::marker::Model;
+
+/// The position automaton of a part of a pattern, under construction.
+#[derive(Debug, Drop)]
+pub struct Fragment {
+    positions: Vec<Position>,
+    first: Vec<usize>,
+    holds_empty: bool,
+    is_live: bool,
+}
+
+impl Model for Fragment {
+    ghost use Rattle.pattern_match.specs.Automaton.{Automaton};
+
+    ghost Value = { Automaton };
+
+    ghost view = { λ f. record { places = f.positions.items; first = f.first.items; holds_empty = f.holds_empty; is_live = f.is_live } };
+}
+
+// Lets another part follow, of which the first positions are given.
+fn follow_each(
+    positions: &mut Vec<Position>,
+    holds_empty: bool,
+    first: &[usize],
+) -> Result<(), OutOfMemory>
+    ensures { OnOk result (positions.new.items ≡ map (followed holds_empty first.now) positions.old.items) }
+{
+    for position in positions.iter_mut() {
+        position.follow(holds_empty, first)?;
+    }
+    Ok(())
+}
+
+// Adds positions that were counted from 0, and are counted from a later place on.
+fn append_moved(
+    positions: &mut Vec<Position>,
+    others: Vec<Position>,
+    by: usize,
+) -> Result<(), OutOfMemory>
+    ensures { OnOk result (positions.new.items ≡ positions.old.items ++ map (moved by) others.items) }
+{
+    for other in others {
+        let mut position = other;
+        position.move_up(by)?;
+        positions.push(position)?;
+    }
+    Ok(())
+}
+
+// The numbers, counted from a later place on.
+fn counted_up(alloc: Global, numbers: &[usize], by: usize) -> Result<Vec<usize>, OutOfMemory>
+    ensures { IfOk result (λ counted. counted.items ≡ up by numbers.now) }
+{
+    let mut counted = Vec::new(alloc);
+    for number in numbers {
+        counted.push(sum(*number, by)?)?;
+    }
+    Ok(counted)
+}
+
+// The first positions of two parts in turn.
+fn first_of(
+    is_optional: bool,
+    first: Vec<usize>,
+    later: &[usize],
+) -> Result<Vec<usize>, OutOfMemory>
+    ensures { IfOk result (λ all. all.items ≡ (if is_optional then first.items ++ later.now else first.items)) }
+{
+    if !is_optional {
+        return Ok(first);
+    }
+    let mut all = first;
+    all.extend_from_slice(later)?;
+    Ok(all)
+}
+
+fn copy_each(alloc: Global, positions: &[Position]) -> Result<Vec<Position>, OutOfMemory>
+    ensures { IfOk result (λ copies. copies.items ≡ positions.now) }
+{
+    let mut copies = Vec::new(alloc);
+    for position in positions {
+        copies.push(position.copy(alloc)?)?;
+    }
+    Ok(copies)
+}
+
+impl Fragment {
+    ghost use Rattle.pattern_match.specs.Class.{class_bytes};
+
+    /// No position: the empty text alone, or no text at all.
+    pub fn bare(alloc: Global, holds_empty: bool) -> Fragment
+        ensures { result ≡ bare holds_empty }
+    {
+        Fragment {
+            positions: Vec::new(alloc),
+            first: Vec::new(alloc),
+            holds_empty,
+            is_live: holds_empty,
+        }
+    }
+
+    /// One byte of a class.
+    pub fn single(alloc: Global, class: Class) -> Result<Fragment, OutOfMemory>
+        ensures { IfOk result (λ fragment. fragment ≡ single (class_bytes class)) }
+    {
+        if !class.is_some() {
+            return Ok(Fragment::bare(alloc, false));
+        }
+        let mut positions = Vec::new(alloc);
+        positions.push(Position::new(alloc, class))?;
+        let mut first = Vec::new(alloc);
+        first.push(0)?;
+        Ok(Fragment {
+            positions,
+            first,
+            holds_empty: false,
+            is_live: true,
+        })
+    }
+
+    /// The same fragment.
+    pub fn copy(&self, alloc: Global) -> Result<Fragment, OutOfMemory>
+        ensures { IfOk result (λ copy. copy ≡ self.now) }
+    {
+        Ok(Fragment {
+            positions: copy_each(alloc, self.positions.as_slice())?,
+            first: Vec::from_slice(alloc, self.first.as_slice())?,
+            holds_empty: self.holds_empty,
+            is_live: self.is_live,
+        })
+    }
+
+    /// The positions, and the one before the first byte at the end.
+    pub fn into_positions(self, alloc: Global) -> Result<Vec<Position>, OutOfMemory>
+        ensures { IfOk result (λ positions. positions.items ≡ all_places self) }
+    {
+        if !self.is_live {
+            return Ok(Vec::new(alloc));
+        }
+        let Fragment {
+            mut positions,
+            first,
+            holds_empty,
+            is_live: _,
+        } = self;
+        positions.push(Position::start(holds_empty, first))?;
+        Ok(positions)
+    }
+
+    /// The one, and the other behind it.
+    pub fn both(self, alloc: Global, second: Fragment) -> Result<Fragment, OutOfMemory>
+        ensures { IfOk result (λ fragment. fragment ≡ both self second) }
+    {
+        if !self.is_live {
+            return Ok(Fragment::bare(alloc, false));
+        }
+        if !second.is_live {
+            return Ok(Fragment::bare(alloc, false));
+        }
+        self.both_live(alloc, second)
+    }
+
+    fn both_live(self, alloc: Global, second: Fragment) -> Result<Fragment, OutOfMemory>
+        ensures { IfOk result (λ fragment. fragment ≡ both_live self second) }
+    {
+        let holds_empty = self.holds_empty && second.holds_empty;
+        let Fragment {
+            mut positions,
+            first,
+            holds_empty: is_optional,
+            is_live: _,
+        } = self;
+        let by = positions.len();
+        let later = counted_up(alloc, second.first.as_slice(), by)?;
+        follow_each(&mut positions, second.holds_empty, later.as_slice())?;
+        append_moved(&mut positions, second.positions, by)?;
+        Ok(Fragment {
+            positions,
+            first: first_of(is_optional, first, later.as_slice())?,
+            holds_empty,
+            is_live: true,
+        })
+    }
+
+    /// The one or the other.
+    pub fn either(self, alloc: Global, right: Fragment) -> Result<Fragment, OutOfMemory>
+        ensures { IfOk result (λ fragment. fragment ≡ either self right) }
+    {
+        let Fragment {
+            mut positions,
+            mut first,
+            holds_empty,
+            is_live,
+        } = self;
+        let by = positions.len();
+        let later = counted_up(alloc, right.first.as_slice(), by)?;
+        first.extend_from_slice(later.as_slice())?;
+        append_moved(&mut positions, right.positions, by)?;
+        Ok(Fragment {
+            positions,
+            first,
+            holds_empty: holds_empty || right.holds_empty,
+            is_live: is_live || right.is_live,
+        })
+    }
+
+    // One copy of the piece of a repeat, and the rest of the copies behind it.
+    fn copy_before(
+        self,
+        alloc: Global,
+        holds_empty: bool,
+        rest: Fragment,
+    ) -> Result<Fragment, OutOfMemory>
+        ensures { IfOk result (λ fragment. fragment ≡ copy_before holds_empty self rest) }
+    {
+        let Fragment {
+            mut positions,
+            first,
+            holds_empty: _,
+            is_live: _,
+        } = self;
+        let by = positions.len();
+        let later = counted_up(alloc, rest.first.as_slice(), by)?;
+        follow_each(&mut positions, rest.holds_empty, later.as_slice())?;
+        append_moved(&mut positions, rest.positions, by)?;
+        Ok(Fragment {
+            positions,
+            first,
+            holds_empty,
+            is_live: true,
+        })
+    }
+
+    // The piece of a repeat, as often as one likes.
+    fn looped(self, holds_empty: bool) -> Result<Fragment, OutOfMemory>
+        ensures { IfOk result (λ fragment. fragment ≡ looped holds_empty self) }
+    {
+        let Fragment {
+            mut positions,
+            first,
+            holds_empty: _,
+            is_live: _,
+        } = self;
+        follow_each(&mut positions, true, first.as_slice())?;
+        Ok(Fragment {
+            positions,
+            first,
+            holds_empty,
+            is_live: true,
+        })
+    }
+
+    // The piece from `least` to `most` times.
+    fn copies(self, alloc: Global, least: u32, most: u32) -> Result<Fragment, OutOfMemory>
+        ensures { IfOk result (λ fragment. fragment ≡ copies least most self) }
+    {
+        let mut whole = Fragment::bare(alloc, true);
+        for done in 0..most {
+            let is_optional = may_stop(least.saturating_sub(most - 1 - done), self.holds_empty);
+            whole = self.copy(alloc)?.copy_before(alloc, is_optional, whole)?;
+        }
+        Ok(whole)
+    }
+
+    // The piece `least` times or more often.
+    fn endless(self, alloc: Global, least: u32) -> Result<Fragment, OutOfMemory>
+        ensures { IfOk result (λ fragment. fragment ≡ endless least self) }
+    {
+        if least == 0 {
+            return self.looped(true);
+        }
+        let mut whole = self.copy(alloc)?.looped(self.holds_empty)?;
+        for _done in 1..least {
+            whole = self
+                .copy(alloc)?
+                .copy_before(alloc, self.holds_empty, whole)?;
+        }
+        Ok(whole)
+    }
+
+    /// The piece from `least` to `most` times, or without an upper number.
+    pub fn repeated(
+        self,
+        alloc: Global,
+        least: u32,
+        most: Option<u32>,
+    ) -> Result<Fragment, OutOfMemory>
+        ensures { IfOk result (λ fragment. fragment ≡ repeated least most self) }
+    {
+        if !is_count(least, most) {
+            return Ok(Fragment::bare(alloc, false));
+        }
+        if self.positions.is_empty() {
+            return Ok(Fragment::bare(alloc, may_stop(least, self.holds_empty)));
+        }
+        match most {
+            Some(most) => self.copies(alloc, least, most),
+            None => self.endless(alloc, least),
+        }
+    }
+}
+
+// Whether a repeat can end here.
+fn may_stop(least: u32, holds_empty: bool) -> bool
+    ensures { result ≡ ((least == 0) || holds_empty) }
+{
+    least == 0 || holds_empty
+}
+
+// Whether some number of times is allowed.
+fn is_count(least: u32, most: Option<u32>) -> bool
+    ensures { result ≡ is_count least most }
+{
+    match most {
+        Some(most) => least <= most,
+        None => true,
+    }
+}

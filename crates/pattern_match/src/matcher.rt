@@ -1,0 +1,187 @@
+ghost use Rattle.std.specs.Prelude.{◌≡◌, ◌++◌, ◌∷◌, ◌+◌, ◌/◌, ◌↔◌, ℕ, List, [], true, false, IfOk, IsTrue, length};
+ghost use Rattle.pattern_syntax.specs.Tree.{Tree};
+ghost use Rattle.pattern_syntax.specs.Language.{In, Opens, holds};
+ghost use Rattle.pattern_match.specs.States.{AreStatesOf, StandsFor, Below};
+
+use crate::bits::{have_any, have_common};
+use crate::compile::compiled;
+use crate::states::States;
+use crate::tables::{accept_row, byte_table, follow_table};
+use label_base::{NormPath, OutOfMemory};
+use pattern_syntax::{Node, Pattern};
+use std::alloc::Global;
+use std::marker::Model;
+
+/// A pattern made ready for matching, seen as the pattern.
+#[derive(Debug, Drop)]
+pub struct Matcher {
+    nodes: Vec<Node>,
+    // How many states there are, and in how many words they are kept.
+    rows: usize,
+    width: usize,
+    // A row for each state: those that may follow it.
+    follow: Vec<u64>,
+    // The states behind which a text may end.
+    accept: Vec<u64>,
+    // A row for each byte: the states to which it leads.
+    bytes: Vec<u64>,
+}
+
+impl Model for Matcher {
+    ghost use Rattle.pattern_syntax.specs.Tree.{Tree, tree_code};
+
+    ghost Value = { Tree };
+
+    ghost coded = { tree_code };
+
+    ghost use Rattle.pattern_syntax.specs.Nodes.{tree_of};
+    ghost use Rattle.pattern_match.specs.Compiled.{IsCompiled};
+
+    ghost view = { λ m. tree_of m.nodes.items };
+
+    ghost invariant = { IsCompiled };
+}
+
+// In how many words so many bits are kept.
+fn words_for(bits: usize) -> Result<usize, OutOfMemory>
+    ensures { IfOk result (λ words. words ≡ (bits + 63) / 64) }
+{
+    if bits > usize::MAX - 63 {
+        return Err(OutOfMemory);
+    }
+    Ok((bits + 63) / 64)
+}
+
+impl Matcher {
+    /// Makes a pattern ready.
+    pub fn new(alloc: Global, pattern: &Pattern) -> Result<Matcher, OutOfMemory>
+        ensures { IfOk result (λ matcher. matcher ≡ pattern.now) }
+    {
+        let nodes = Vec::from_slice(alloc, pattern.nodes())?;
+        let positions = compiled(alloc, pattern.nodes())?.into_positions(alloc)?;
+        let width = words_for(positions.len())?;
+        Ok(Matcher {
+            nodes,
+            rows: positions.len(),
+            width,
+            follow: follow_table(alloc, positions.as_slice(), width)?,
+            accept: accept_row(alloc, positions.as_slice(), width)?,
+            bytes: byte_table(alloc, positions.as_slice(), width)?,
+        })
+    }
+
+    /// The states before the first byte of a text.
+    pub fn states(&self, alloc: Global) -> Result<States, OutOfMemory>
+        ensures made { IfOk result (λ states. AreStatesOf self.now states) }
+        ensures stands { IfOk result (λ states. StandsFor self.now states []) }
+    {
+        let mut states = States::new(alloc, self.width)?;
+        states.restart(self.rows);
+        Ok(states)
+    }
+
+    /// Goes back to the states before the first byte.
+    pub fn restart(&self, states: &mut States)
+        requires { AreStatesOf self.now states.old }
+        ensures made { AreStatesOf self.now states.new }
+        ensures stands { StandsFor self.now states.new [] }
+    {
+        states.restart(self.rows);
+    }
+
+    /// Goes on by a byte.
+    pub fn step(&self, states: &mut States, byte: u8)
+        requires { AreStatesOf self.now states.old }
+        ensures made { AreStatesOf self.now states.new }
+        ensures stands { (text : List ℕ) → StandsFor self.now states.old text → StandsFor self.now states.new (text ++ byte ∷ []) }
+    {
+        states.step(
+            self.follow.as_slice(),
+            self.rows,
+            self.bytes.as_slice(),
+            usize::from(byte) * self.width,
+        );
+    }
+
+    /// Whether the text that was read is in the language.
+    pub fn accepts(&self, states: &States) -> bool
+        requires { AreStatesOf self.now states.now }
+        ensures language { (text : List ℕ) → StandsFor self.now states.now text → IsTrue result ↔ In self.now text }
+        ensures value { (text : List ℕ) → StandsFor self.now states.now text → result ≡ holds self.now text }
+    {
+        have_common(states.as_slice(), self.accept.as_slice())
+    }
+
+    /// Whether some text of the language begins with the text that was read.
+    pub fn alive(&self, states: &States) -> bool
+        requires { AreStatesOf self.now states.now }
+        ensures { (text : List ℕ) → StandsFor self.now states.now text → IsTrue result ↔ Opens self.now text }
+    {
+        have_any(states.as_slice())
+    }
+
+    /// Makes the one set of states what the other is.
+    pub fn copy_states(&self, from: &States, to: &mut States)
+        requires from { AreStatesOf self.now from.now }
+        requires to { AreStatesOf self.now to.old }
+        ensures made { AreStatesOf self.now to.new }
+        ensures stands { (text : List ℕ) → StandsFor self.now from.now text → StandsFor self.now to.new text }
+    {
+        to.copy_from(from);
+    }
+
+    // Starts anew and reads a text. Where no text of the language begins so, it may stop early and say false.
+    fn read(&self, states: &mut States, text: &[u8]) -> bool
+        requires { AreStatesOf self.now states.old }
+        ensures made { AreStatesOf self.now states.new }
+        ensures stands { result ≡ true → StandsFor self.now states.new text.now }
+        ensures dead { result ≡ false → Opens self.now text.now → ⊥ }
+    {
+        self.restart(states);
+        for byte in text {
+            if !self.alive(states) {
+                return false;
+            }
+            self.step(states, *byte);
+        }
+        true
+    }
+
+    /// Whether the text is in the language. The states are used anew.
+    pub fn matches(&self, states: &mut States, text: &[u8]) -> bool
+        requires { AreStatesOf self.now states.old }
+        ensures made { AreStatesOf self.now states.new }
+        ensures language { IsTrue result ↔ In self.now text.now }
+        ensures value { result ≡ holds self.now text.now }
+    {
+        if !self.read(states, text) {
+            return false;
+        }
+        self.accepts(states)
+    }
+
+    /// Whether the language holds the path's text or a text below it: one that begins with the path and a slash, or for
+    /// `/` one that begins with a slash. The states are used anew.
+    pub fn alive_below(&self, states: &mut States, path: &NormPath) -> bool
+        requires { AreStatesOf self.now states.old }
+        ensures made { AreStatesOf self.now states.new }
+        ensures below { IsTrue result ↔ Below self.now path.now }
+    {
+        if !self.read(states, path.as_text()) {
+            return false;
+        }
+        if path.names() == 0 {
+            return self.alive(states);
+        }
+        if self.accepts(states) {
+            return true;
+        }
+        self.step(states, b'/');
+        self.alive(states)
+    }
+}
+
+/// The law that the test by every cut, by which clauses compute, is membership in the language.
+pub fn every_cut_is_membership()
+    ensures { (tree : Tree) (text : List ℕ) → IsTrue (holds tree text) ↔ In tree text }
+{}

@@ -1,0 +1,116 @@
+ghost use Rattle.std.specs.Prelude.{◌≡◌, ◌+◌, ◌==◌, ◌∷◌, true, IfOk, OnOk, []};
+ghost use Rattle.std.specs.List.{list_any};
+ghost use Rattle.pattern_match.specs.Automaton.{Place, moved, followed};
+
+use crate::class::Class;
+use label_base::OutOfMemory;
+use std::alloc::Global;
+use std::marker::Model;
+
+/// A state of an automaton under construction: the bytes that lead into it, whether a text may end behind it, and the
+/// numbers of the positions that may take the next byte.
+#[derive(Debug, Drop)]
+pub struct Position {
+    class: Class,
+    is_last: bool,
+    next: Vec<usize>,
+}
+
+impl Model for Position {
+    ghost use Rattle.pattern_match.specs.Automaton.{Place};
+
+    ghost Value = { Place };
+
+    ghost use Rattle.pattern_match.specs.Class.{class_bytes};
+
+    ghost view = { λ p. record { bytes = class_bytes p.class; is_last = p.is_last; next = p.next.items } };
+}
+
+impl Position {
+    ghost use Rattle.pattern_match.specs.Class.{class_bytes};
+
+    /// A position that ends its pattern.
+    pub fn new(alloc: Global, class: Class) -> Position
+        ensures { result ≡ record { bytes = class_bytes class; is_last = true; next = [] } }
+    {
+        Position {
+            class,
+            is_last: true,
+            next: Vec::new(alloc),
+        }
+    }
+
+    /// The same position.
+    pub fn copy(&self, alloc: Global) -> Result<Position, OutOfMemory>
+        ensures { IfOk result (λ copy. copy ≡ self.now) }
+    {
+        Ok(Position {
+            class: self.class,
+            is_last: self.is_last,
+            next: Vec::from_slice(alloc, self.next.as_slice())?,
+        })
+    }
+
+    /// Counts the numbers from a later place on. A number past the machine's is want of memory.
+    pub fn move_up(&mut self, by: usize) -> Result<(), OutOfMemory>
+        ensures { OnOk result (self.new ≡ moved by self.old) }
+    {
+        for number in self.next.iter_mut() {
+            *number = sum(*number, by)?;
+        }
+        Ok(())
+    }
+
+    /// Lets another part follow, of which the first positions are given.
+    pub fn follow(&mut self, holds_empty: bool, first: &[usize]) -> Result<(), OutOfMemory>
+        ensures { OnOk result (self.new ≡ followed holds_empty first.now self.old) }
+    {
+        if self.is_last {
+            self.next.extend_from_slice(first)?;
+        }
+        self.is_last = self.is_last && holds_empty;
+        Ok(())
+    }
+
+    /// A position before the first byte, of which the position that a first byte leads to are given.
+    pub fn start(holds_empty: bool, first: Vec<usize>) -> Position
+        ensures { result ≡ record { bytes = 0 ∷ []; is_last = holds_empty; next = first.items } }
+    {
+        Position {
+            class: Class::Byte(0),
+            is_last: holds_empty,
+            next: first,
+        }
+    }
+
+    /// Whether a text may end behind the position.
+    pub fn is_last(&self) -> bool
+        ensures { result ≡ self.now.is_last }
+    {
+        self.is_last
+    }
+
+    /// The numbers of the positions that may take the next byte.
+    pub fn next(&self) -> &[usize]
+        ensures { result.now ≡ self.now.next }
+    {
+        self.next.as_slice()
+    }
+
+    /// Whether the byte leads to the position.
+    pub fn takes(&self, b: u8) -> bool
+        ensures { result ≡ list_any (λ c. c == b) self.now.bytes }
+    {
+        self.class.has(b)
+    }
+}
+
+/// The sum, if the machine can count so far.
+pub fn sum(a: usize, b: usize) -> Result<usize, OutOfMemory>
+    ensures { IfOk result (λ sum. sum ≡ a + b) }
+{
+    if a > usize::MAX - b {
+        return Err(OutOfMemory);
+    }
+    Ok(a + b)
+}

@@ -1,0 +1,110 @@
+-- What a builder of a pattern stands for.
+use Rattle.std.specs.Prelude.{◌≡◌, ℕ, ◌+◌, min, true, List, [], ◌∷◌, ◌++◌, length, Option, Some, None, option_map, is_some, Result, Ok, Err}
+use Rattle.std.specs.Global.{Vec}
+use Rattle.label_base.specs.Answers.{Explains}
+use Rattle.pattern_syntax.specs.Tree.{Tree, Set}
+use Rattle.pattern_syntax.specs.Shape.{is_proper, is_proper_set, is_sequence, is_choice, tree_size, stack_size}
+use Rattle.pattern_syntax.specs.Nodes.{after_node, after_nodes, tree_of}
+use Rattle.pattern_syntax.specs.Tokens.{Token, Bytes, Open, Close, Bar, Anchor, Times}
+use Rattle.pattern_syntax.specs.Reading as reading
+use Rattle.pattern_syntax.specs.Reading.{Reading, positions, after_token, structure_fault, reads_as}
+use Rattle.pattern_syntax.specs.PatternCause.{pattern_cause}
+use Rattle.pattern_syntax.specs.declared.pattern_fault.PatternWhy.{PatternWhy}
+use Rattle.pattern_syntax.specs.declared.pattern_fault.PatternFault.{PatternFault}
+use Rattle.pattern_syntax.specs.declared.node.Node.{Node}
+use Rattle.pattern_syntax.specs.declared.builder.Level.{Level}
+use Rattle.pattern_syntax.specs.declared.builder.Builder.{Builder}
+
+-- positions are counted up to one more than a pattern may have
+abbrev pub capped : ℕ → ℕ
+capped n = min 2001 n
+
+abbrev pub count_of : Tree → ℕ
+count_of tree = capped (positions tree)
+
+abbrev pub level_counts : reading.Level → Level
+level_counts level = record { sides = option_map count_of level.sides; sequence = count_of level.sequence; piece = option_map count_of level.piece }
+
+-- the trees of a level, the last on top of those before it
+abbrev pub tree_on : Option Tree → List Tree → List Tree
+tree_on None stack = stack
+tree_on (Some tree) stack = tree ∷ stack
+
+abbrev pub level_trees : reading.Level → List Tree → List Tree
+level_trees level stack = tree_on level.piece (level.sequence ∷ tree_on level.sides stack)
+
+abbrev pub outer_trees : List reading.Level → List Tree
+outer_trees [] = []
+outer_trees (around ∷ outer) = level_trees around (outer_trees outer)
+
+-- the outermost first
+abbrev pub outer_counts : List reading.Level → List Level
+outer_counts [] = []
+outer_counts (around ∷ outer) = outer_counts outer ++ level_counts around ∷ []
+
+abbrev pub IsProperIfAny : Option Tree → Type 0
+IsProperIfAny None = Unit {0}
+IsProperIfAny (Some tree) = is_proper tree ≡ true
+
+pub record IsProperLevel (level : reading.Level) : Type 0 where
+  pub sides : IsProperIfAny level.sides
+  pub shape : is_sequence level.sequence ≡ true
+  pub sequence : is_proper level.sequence ≡ true
+  pub piece : IsProperIfAny level.piece
+
+-- no repeat may follow in a level that a group is open in
+abbrev pub AreProperLevels : List reading.Level → Type 0
+AreProperLevels [] = Unit {0}
+AreProperLevels (around ∷ outer) = (around.piece ≡ None) × IsProperLevel around × AreProperLevels outer
+
+-- the builder's nodes are the trees of what is read, and its counts are theirs
+pub record Stands (builder : Builder) (read : Reading) : Type 0 where
+  pub trees : after_nodes builder.nodes.items [] ≡ level_trees read.level (outer_trees read.outer)
+  pub level : builder.level ≡ level_counts read.level
+  pub outer : builder.outer.items ≡ outer_counts read.outer
+  pub level_proper : IsProperLevel read.level
+  pub outer_proper : AreProperLevels read.outer
+  pub size : length builder.nodes.items ≡ stack_size (level_trees read.level (outer_trees read.outer))
+
+-- the nodes end a tree that stands on these, and this is its count
+pub record Ends (builder : Builder) (stack : List Tree) (tree : Tree) (count : ℕ) : Type 0 where
+  pub trees : after_nodes builder.nodes.items [] ≡ tree ∷ stack
+  pub counted : count ≡ count_of tree
+  pub size : length builder.nodes.items ≡ stack_size (tree ∷ stack)
+
+abbrev pub IsProperToken : Token → Type 0
+IsProperToken (Bytes bytes) = is_proper_set bytes ≡ true
+IsProperToken Open = Unit {0}
+IsProperToken Close = Unit {0}
+IsProperToken Bar = Unit {0}
+IsProperToken Anchor = Unit {0}
+IsProperToken (Times least most) = Unit {0}
+
+abbrev pub Explained : Option PatternWhy → Option PatternWhy → Type 0
+Explained None fault = Unit {0}
+Explained (Some why) fault = fault ≡ Some why
+
+abbrev pub fault_of : Reading → ℕ → Token → Option PatternWhy
+fault_of read place token = structure_fault (length read.outer) (is_some read.level.piece) place token
+
+-- the token has no fault, and the builder stands for what is read with it; or the error is its fault, or want of memory
+abbrev pub Steps : {U : Type 0} → Result U PatternFault → Builder → Builder → ℕ → Token → Type 0
+Steps (Ok u) old new place token = (read : Reading) → Stands old read → (fault_of read place token ≡ None) × Stands new (after_token read token)
+Steps (Err e) old new place token = (read : Reading) → Stands old read → Explained (pattern_cause e) (fault_of read place token)
+
+-- the node is that of a set of these bytes
+abbrev pub IsSetNode : Node → List ℕ → Type 0
+IsSetNode node bytes = (stack : List Tree) → after_node node stack ≡ Set bytes ∷ stack
+
+-- what is read is whole, and the nodes are those of its tree; or the error is its fault, or want of memory
+abbrev pub Finishes : Result (Vec Node) PatternFault → Reading → ℕ → Type 0
+Finishes (Ok nodes) read end = (reads_as end read [] ≡ Ok (tree_of nodes.items)) × (after_nodes nodes.items [] ≡ tree_of nodes.items ∷ []) × (is_proper (tree_of nodes.items) ≡ true) × (is_choice (tree_of nodes.items) ≡ true) × (length nodes.items ≡ tree_size (tree_of nodes.items))
+Finishes (Err e) read end = Explains (pattern_cause e) (reads_as end read [])
+
+-- the positions of a level without its last piece
+abbrev pub side_positions : Option Tree → ℕ
+side_positions None = 0
+side_positions (Some sides) = positions sides
+
+abbrev pub base_positions : reading.Level → ℕ
+base_positions level = side_positions level.sides + positions level.sequence

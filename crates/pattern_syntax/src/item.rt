@@ -1,0 +1,10 @@
+use crate::byte_set::ByteSet;
+
+/// What an escape or an item of a bracket set stands for.
+#[derive(Clone, Copy, Debug, PartialEq, Eq)]
+pub(crate) enum Item {
+    /// This byte.
+    One(u8),
+    /// These bytes.
+    Class(ByteSet),
+}

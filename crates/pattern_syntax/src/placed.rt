@@ -1,0 +1,29 @@
+//! Tokens at their places.
+ghost use Rattle.std.specs.Prelude.{◌≡◌, ◌==◌, ◌<◌, ◌≤◌, ◌^◌, length, drop, IfOk, IfErr, is_some, true};
+ghost use Rattle.label_base.specs.Answers.{Answers};
+ghost use Rattle.pattern_syntax.specs.PatternCause.{pattern_cause};
+ghost use Rattle.pattern_syntax.specs.Reading.{placed_cut};
+ghost use Rattle.pattern_syntax.specs.Tokens.{token_at};
+ghost use Rattle.pattern_syntax.specs.Views.{token_of, token_cut};
+ghost use Rattle.pattern_syntax.specs.Building.{IsProperToken};
+
+use crate::cutting::read_token;
+use crate::pattern_fault::PatternFault;
+use crate::refusal::Refusal;
+use crate::token::Token;
+
+/// The token at a place, and its length.
+pub(crate) fn token_from(bytes: &[u8], at: usize) -> Result<(Token, usize), PatternFault>
+    requires room { length bytes.now < 2 ^ 32 }
+    requires before_end { at < length bytes.now }
+    ensures value { Answers token_cut pattern_cause result (placed_cut at (token_at (at == 0) (drop at bytes.now))) }
+    ensures within { IfOk result (λ cut. (0 < cut.1) × (cut.1 ≤ length (drop at bytes.now))) }
+    ensures causes { IfErr result (λ fault. is_some (pattern_cause fault) ≡ true) }
+    ensures proper { IfOk result (λ cut. IsProperToken (token_of cut.0)) }
+{
+    match read_token(at == 0, &bytes[at..]) {
+        Ok(cut) => Ok(cut),
+        Err(Refusal::Syntax) => Err(PatternFault::Syntax { at: at as u32 }),
+        Err(Refusal::Unsupported) => Err(PatternFault::UnsupportedPattern { at: at as u32 }),
+    }
+}

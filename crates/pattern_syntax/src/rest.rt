@@ -1,0 +1,69 @@
+//! The rest of a pattern that has too many positions, whatever follows.
+ghost use Rattle.std.specs.Prelude.{◌≡◌, ◌+◌, ◌<◌, ◌≤◌, ◌^◌, length, drop, unwrap_or, Some, MatchOption, None, is_some, true};
+ghost use Rattle.pattern_syntax.specs.PatternCause.{pattern_cause};
+ghost use Rattle.pattern_syntax.specs.Reading.{structure_fault, depth_behind, ends_piece, first_fault};
+ghost use Rattle.pattern_syntax.specs.Tokens.{tokens_from};
+ghost use Rattle.pattern_syntax.specs.Views.{token_of};
+ghost use Rattle.pattern_syntax.specs.declared.pattern_fault.PatternWhy.TheVariants.{TooManyPositions};
+
+use crate::pattern_fault::PatternFault;
+use crate::placed::token_from;
+use crate::token::Token;
+
+/// The fault of a token, where so many groups are open, and a piece ends right before it or doesn't.
+fn find_fault(depth: u32, after_piece: bool, at: u32, token: &Token) -> Option<PatternFault>
+    ensures { MatchOption result (structure_fault depth after_piece at (token_of token.now) ≡ None) (λ fault. (pattern_cause fault ≡ structure_fault depth after_piece at (token_of token.now)) × (is_some (pattern_cause fault) ≡ true)) }
+{
+    match token {
+        Token::Open => (depth >= 50).then_some(PatternFault::TooDeep { at }),
+        Token::Close => (depth == 0).then_some(PatternFault::Syntax { at }),
+        Token::Times { .. } => (!after_piece).then_some(PatternFault::Syntax { at }),
+        _ => None,
+    }
+}
+
+/// How many groups are open behind a token.
+fn depth_after(token: &Token, depth: u32) -> u32
+    requires { depth ≤ 50 }
+    ensures { result ≡ depth_behind (token_of token.now) depth }
+{
+    match token {
+        Token::Open => depth + 1,
+        Token::Close => depth.saturating_sub(1),
+        _ => depth,
+    }
+}
+
+/// Whether a repeat may follow a token.
+fn is_piece_end(token: &Token) -> bool
+    ensures { result ≡ ends_piece (token_of token.now) }
+{
+    matches!(token, Token::Byte(_) | Token::Set(_) | Token::Close)
+}
+
+/// The first fault of what stands from a place on, outside of all groups; without one the positions are too many.
+pub(crate) fn refuse_rest(bytes: &[u8], from: usize, after_piece: bool) -> PatternFault
+    requires room { length bytes.now < 2 ^ 32 }
+    requires within { from ≤ length bytes.now }
+    ensures { pattern_cause result ≡ Some (unwrap_or (first_fault (length bytes.now) 0 after_piece (tokens_from from 0 (drop from bytes.now))) TooManyPositions) }
+{
+    let mut depth = 0;
+    let mut after_piece = after_piece;
+    let mut at = from;
+    'tokens: while at < bytes.len() {
+        let (token, length) = match token_from(bytes, at) {
+            Ok(cut) => cut,
+            Err(fault) => return fault,
+        };
+        if let Some(fault) = find_fault(depth, after_piece, at as u32, &token) {
+            return fault;
+        }
+        depth = depth_after(&token, depth);
+        after_piece = is_piece_end(&token);
+        at += length;
+    }
+    if depth > 0 {
+        return PatternFault::Syntax { at: at as u32 };
+    }
+    PatternFault::TooManyPositions
+}

@@ -1,0 +1,150 @@
+ghost use Rattle.std.specs.Prelude.{◌<◌, ◌^◌, length};
+
+use crate::byte_set::ByteSet;
+use crate::exact::is_exact;
+use crate::node::Node;
+use crate::pattern::Pattern;
+use crate::pattern_fault::PatternFault;
+use label_base::Bytes;
+use std::alloc::Global;
+use std::test::Fail;
+
+fn fault_in(alloc: Global, text: &[u8]) -> Option<PatternFault>
+    requires { length text.now < 2 ^ 32 }
+{
+    match Pattern::read(alloc, text) {
+        Ok(_) => None,
+        Err(fault) => Some(fault),
+    }
+}
+
+fn start_of(alloc: Global, text: &[u8]) -> Result<Bytes, PatternFault>
+    requires { length text.now < 2 ^ 32 }
+{
+    let pattern = Pattern::read(alloc, text)?;
+    Ok(pattern.literal_start(alloc)?)
+}
+
+#[test]
+fn repeats_and_groups_are_refused_where_they_stand(rt: HostRuntime) {
+    let a = rt.alloc();
+    assert_eq!(rt; fault_in(a, b"a**"), Some(PatternFault::Syntax { at: 2 }));
+    assert_eq!(rt;
+        fault_in(a, b"x*+"),
+        Some(PatternFault::UnsupportedPattern { at: 1 })
+    );
+    assert_eq!(rt; fault_in(a, b"(a"), Some(PatternFault::Syntax { at: 2 }));
+    assert_eq!(rt; fault_in(a, b"a)"), Some(PatternFault::Syntax { at: 1 }));
+    assert_eq!(rt;
+        fault_in(a, b"a{2,1}+"),
+        Some(PatternFault::Syntax { at: 1 })
+    );
+}
+
+#[test]
+fn what_is_not_of_the_dialect_is_refused_where_it_stands(rt: HostRuntime) {
+    let a = rt.alloc();
+    assert_eq!(rt;
+        fault_in(a, b"a$b"),
+        Some(PatternFault::UnsupportedPattern { at: 1 })
+    );
+    assert_eq!(rt;
+        fault_in(a, b"\\b"),
+        Some(PatternFault::UnsupportedPattern { at: 0 })
+    );
+    assert_eq!(rt;
+        fault_in(a, b"[[:word:]]"),
+        Some(PatternFault::UnsupportedPattern { at: 0 })
+    );
+    assert_eq!(rt;
+        fault_in(a, b"[b-a\\q]"),
+        Some(PatternFault::Syntax { at: 0 })
+    );
+}
+
+#[test]
+fn limits_are_met_exactly(rt: HostRuntime) {
+    let a = rt.alloc();
+    assert_eq!(rt; fault_in(a, b".{2000}"), None);
+    assert_eq!(rt;
+        fault_in(a, b".{2001}"),
+        Some(PatternFault::TooManyPositions)
+    );
+    assert_eq!(rt; fault_in(a, b"(.{3000}){0}"), None);
+    assert_eq!(rt;
+        fault_in(a, &[b'('; 51]),
+        Some(PatternFault::TooDeep { at: 50 })
+    );
+    assert_eq!(rt;
+        fault_in(a, &[b'('; 50]),
+        Some(PatternFault::Syntax { at: 50 })
+    );
+}
+
+#[test]
+fn nodes_stand_behind_their_parts(rt: HostRuntime) -> Result<(), Fail> {
+    let pattern = Pattern::read(rt.alloc(), b"^a(b|c)?$")?;
+    pattern.has_no_empty_set();
+    let wanted = [
+        Node::Nothing,
+        Node::Byte(b'a'),
+        Node::Both,
+        Node::Nothing,
+        Node::Byte(b'b'),
+        Node::Both,
+        Node::Nothing,
+        Node::Byte(b'c'),
+        Node::Both,
+        Node::Either,
+        Node::Repeat {
+            least: 0,
+            most: Some(1),
+        },
+        Node::Both,
+    ];
+    assert_eq!(rt; pattern.nodes(), wanted.as_slice());
+    Ok(())
+}
+
+#[test]
+fn brackets_hold_their_bytes(rt: HostRuntime) -> Result<(), Fail> {
+    let pattern = Pattern::read(rt.alloc(), b"[]a-c[:digit:]]")?;
+    let set = ByteSet::empty()
+        .with(b']')
+        .with_range(b'a', b'c')
+        .with_range(b'0', b'9');
+    let wanted = [Node::Nothing, Node::Set(set), Node::Both];
+    assert_eq!(rt; pattern.nodes(), wanted.as_slice());
+    Ok(())
+}
+
+#[test]
+fn sets_are_built(rt: HostRuntime) {
+    let set = ByteSet::empty().with(b'x');
+    assert_eq!(rt; set.only(), Some(b'x'));
+    assert!(rt; set.union(&ByteSet::empty()).has(b'x'));
+    assert!(rt; !set.complement().has(b'x'));
+    assert!(rt; ByteSet::empty().is_empty());
+}
+
+#[test]
+fn literal_starts_end_at_the_first_other_piece(rt: HostRuntime) -> Result<(), Fail> {
+    let a = rt.alloc();
+    assert_eq!(rt;
+        start_of(a, b"/usr/lib(64)?(/.*)?")?.as_slice(),
+        b"/usr/lib".as_slice()
+    );
+    assert_eq!(rt; start_of(a, b"[a]b")?.as_slice(), b"ab".as_slice());
+    assert_eq!(rt; start_of(a, b"(a)b")?.as_slice(), b"".as_slice());
+    assert_eq!(rt; start_of(a, b"ab|ac")?.as_slice(), b"".as_slice());
+    Ok(())
+}
+
+#[test]
+fn texts_are_exact_without_metacharacters(rt: HostRuntime) {
+    Pattern::follows_grammar(b"/a");
+    assert!(rt; is_exact(b"/a\\d"));
+    assert!(rt; is_exact(b"/a\\."));
+    assert!(rt; !is_exact(b"^/a$"));
+    assert!(rt; !is_exact(b"/a.b"));
+}

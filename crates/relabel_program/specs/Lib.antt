@@ -1,0 +1,7 @@
+pub mod Words
+pub mod Causes
+pub mod Files
+pub mod Input
+pub mod Faults
+pub mod Answer
+pub mod Ending

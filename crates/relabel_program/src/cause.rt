@@ -1,0 +1,64 @@
+ghost use Rattle.std.specs.Prelude.{◌≡◌};
+ghost use Rattle.relabel_program.specs.declared.cause.Cause.TheVariants as causes;
+
+use label_base::{Name, OutOfMemory, Part};
+use spec_reader::SpecWhy;
+
+/// What is wrong with the command's words.
+#[derive(Clone, Copy, Debug, PartialEq, Eq)]
+pub enum UsageWhy {
+    /// The first word names no tool.
+    UnknownTool,
+    /// The words are none that this version takes.
+    NotYet,
+}
+
+/// A quantity that has a greatest value.
+#[derive(Clone, Copy, Debug, PartialEq, Eq)]
+pub enum LimitKind {
+    /// The bytes of a file.
+    File(Part),
+    /// The specifications of all files together.
+    Specs,
+}
+
+/// How a run ended.
+#[derive(Debug, Drop)]
+pub enum Cause {
+    /// The report was written.
+    Done,
+    /// This word is the first that the command does not take; words count from 0.
+    Usage { index: u32, why: UsageWhy },
+    /// The file of the specifications does not exist.
+    Missing { name: Name },
+    /// This line of a file of specifications is the first that is none; lines count from 1.
+    SpecRefused { part: Part, line: u32, why: SpecWhy },
+    /// This line of a file of substitutions is the first that is none; lines count from 1.
+    SubRefused { part: Part, line: u32 },
+    /// A quantity is past its greatest value.
+    Limit { which: LimitKind },
+    /// The input is no run of records of a tree from `/` on without hard links.
+    InputRefused,
+    /// A file or the input could not be read.
+    ReadFault,
+    /// The report could not be written.
+    WriteFault,
+    /// There was not enough memory.
+    OutOfMemory,
+}
+
+/// What a run answers.
+#[derive(Debug, Drop)]
+pub struct Outcome {
+    /// The exit status.
+    pub status: u8,
+    pub cause: Cause,
+}
+
+impl From<OutOfMemory> for Cause {
+    ghost from_gives = { λ _ cause. cause ≡ causes.OutOfMemory };
+
+    fn from(_refused: OutOfMemory) -> Cause {
+        Cause::OutOfMemory
+    }
+}

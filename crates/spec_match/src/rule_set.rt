@@ -1,0 +1,143 @@
+ghost use Rattle.std.specs.Prelude.{◌≡◌, ◌+◌, ◌<◌, ◌^◌, IfOk, IfSome, OnOk, Some, length, map, option_and_then, slice_get};
+ghost use Rattle.label_base.specs.Path.{path_text};
+ghost use Rattle.spec_match.specs.LastMatch.{last_index, last_match};
+ghost use Rattle.spec_match.specs.Scratches.{AreStatesFor, IsScratchOf, pattern_in, patterns_of, spec_in};
+
+use crate::rule::Rule;
+use crate::scratch::Scratch;
+use label_base::{Asked, NormPath, OutOfMemory, Row, Steps};
+use pattern_match::States;
+use spec_reader::Spec;
+use std::alloc::Global;
+use std::marker::Model;
+use std::sync::ledger::Ledger;
+
+/// A list of specifications in which the last match is looked for, seen as that list.
+#[derive(Debug, Drop)]
+pub struct RuleSet {
+    rules: Vec<Rule>,
+}
+
+impl Model for RuleSet {
+    ghost use Rattle.std.specs.Prelude.{List, length, map, ◌<◌, ◌^◌};
+    ghost use Rattle.std.specs.Coded.{codes};
+    ghost use Rattle.pattern_syntax.specs.Tree.{tree_code};
+    ghost use Rattle.spec_reader.specs.SpecValue.{SpecValue};
+
+    ghost Value = { List SpecValue };
+
+    ghost coded = { Prim.hlevel (codes, tree_code) };
+
+    ghost use Rattle.spec_match.specs.Scratches.{spec_in};
+
+    ghost view = { λ s. map spec_in s.rules.items };
+
+    ghost invariant = { λ s. length s.rules.items < 2 ^ 32 };
+}
+
+fn rules_of(alloc: Global, specs: Vec<Spec>) -> Result<Vec<Rule>, OutOfMemory>
+    ensures { IfOk result (λ rules. map spec_in rules.items ≡ specs.items) }
+{
+    let mut rules = Vec::with_capacity(alloc, specs.len())?;
+    'specs: for spec in specs {
+        rules.push(Rule::new(alloc, spec)?)?;
+    }
+    Ok(rules)
+}
+
+fn states_of(alloc: Global, rules: &[Rule]) -> Result<Vec<States>, OutOfMemory>
+    ensures { IfOk result (λ states. AreStatesFor (patterns_of rules.now) states.items) }
+{
+    let mut states = Vec::with_capacity(alloc, rules.len())?;
+    'rules: for rule in rules {
+        states.push(rule.states(alloc)?)?;
+    }
+    Ok(states)
+}
+
+fn find_last(rules: &[Rule], states: &mut Vec<States>, text: &[u8], asked: Asked) -> Option<usize>
+    requires { AreStatesFor (patterns_of rules.now) states.old.items }
+    ensures own { AreStatesFor (patterns_of rules.now) states.new.items }
+    ensures within { IfSome result (λ i. i < length rules.now) }
+    ensures index { result ≡ last_index asked text.now (map spec_in rules.now) }
+    ensures member { option_and_then (slice_get (map spec_in rules.now)) result ≡ last_match asked text.now (map spec_in rules.now) }
+{
+    let mut left = rules.len();
+    'rules: while left > 0 {
+        left -= 1;
+        let rule = &rules[left];
+        let own = &mut states[left];
+        if rule.does_fit(own, text, asked) {
+            return Some(left);
+        }
+    }
+    None
+}
+
+impl RuleSet {
+    /// Makes a list of specifications ready.
+    pub fn new(alloc: Global, specs: Row<Spec>) -> Result<RuleSet, OutOfMemory>
+        requires { length specs < 2 ^ 32 }
+        ensures { IfOk result (λ rules. rules ≡ specs) }
+    {
+        Ok(RuleSet {
+            rules: rules_of(alloc, specs.into_vec())?,
+        })
+    }
+
+    /// How many specifications there are.
+    pub fn len(&self) -> u32
+        ensures { result ≡ length self.now }
+    {
+        self.rules.len() as u32
+    }
+
+    /// The specification at a place.
+    pub fn spec(&self, i: u32) -> &Spec
+        requires { i < length self.now }
+        ensures { slice_get self.now i ≡ Some result.now }
+    {
+        &self.rules[i as usize].spec
+    }
+
+    /// The index of the last specification whose kind applies to what is asked and whose language holds the path's text,
+    /// or none where there is no such specification. It counts one step and takes no memory.
+    ///
+    /// A specification without a kind applies always, one with a kind to it and to [`Asked::Any`].
+    pub fn last_match<L: Ledger>(
+        &self,
+        scratch: &mut Scratch,
+        path: &NormPath,
+        asked: Asked,
+        steps: &mut Steps<L>,
+    ) -> Option<u32>
+        requires { IsScratchOf self.now scratch.old }
+        ensures own { IsScratchOf self.now scratch.new }
+        ensures within { IfSome result (λ i. i < length self.now) }
+        ensures index { result ≡ last_index asked (path_text path.now) self.now }
+        ensures member { option_and_then (slice_get self.now) result ≡ last_match asked (path_text path.now) self.now }
+        ensures count { steps.new ≡ steps.old + 1 }
+    {
+        steps.tick();
+        match find_last(
+            self.rules.as_slice(),
+            &mut scratch.states,
+            path.as_text(),
+            asked,
+        ) {
+            Some(i) => Some(i as u32),
+            None => None,
+        }
+    }
+}
+
+impl Scratch {
+    /// Reserves the states in which the patterns of a list are matched.
+    pub fn new(alloc: Global, rules: &RuleSet) -> Result<Scratch, OutOfMemory>
+        ensures { IfOk result (λ scratch. IsScratchOf rules.now scratch) }
+    {
+        Ok(Scratch {
+            states: states_of(alloc, rules.rules.as_slice())?,
+        })
+    }
+}

@@ -1,0 +1,4 @@
+pub mod Causes
+pub mod SpecFile
+pub mod SpecLines
+pub mod SpecValue

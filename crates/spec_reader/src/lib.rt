@@ -1,0 +1,14 @@
+//! The specifications of a file_contexts file, as selabel_file(5) describes its lines.
+#![tactic(auto)]
+
+mod line;
+mod reading;
+mod spec;
+mod spec_fault;
+
+pub use reading::read_specs;
+pub use spec::{Decision, Spec};
+pub use spec_fault::{SpecFault, SpecWhy};
+
+#[cfg(test)]
+mod tests;

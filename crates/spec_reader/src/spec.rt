@@ -1,0 +1,43 @@
+use context_syntax::Context;
+use label_base::{Bytes, EntryKind, Part};
+use pattern_syntax::Pattern;
+use std::marker::Model;
+
+/// What a specification decides.
+#[derive(Debug, Drop)]
+pub enum Decision {
+    /// `<<none>>`: files keep the labels that they have.
+    Leave,
+    /// Files get this context.
+    Give(Context),
+}
+
+/// One specification of a file_contexts file. Its pattern is what its text reads as, and its kind isn't `Other`.
+#[derive(Debug, Drop)]
+pub struct Spec {
+    /// The pattern field as it stands in the line.
+    pub text: Bytes,
+    pub pattern: Pattern,
+    /// The only kind of file that it is for, or none where it is for every kind.
+    pub kind: Option<EntryKind>,
+    pub decision: Decision,
+    /// The file that the line stands in.
+    pub part: Part,
+    /// The line's number, from 1.
+    pub line: u32,
+}
+
+impl Model for Spec {
+    ghost use Rattle.spec_reader.specs.SpecValue.{SpecValue, IsSpec};
+
+    ghost Value = { SpecValue };
+
+    ghost use Rattle.std.specs.Coded.{codes};
+    ghost use Rattle.pattern_syntax.specs.Tree.{tree_code};
+
+    ghost coded = { Prim.hlevel (codes, tree_code) };
+
+    ghost view = { λ s. record { text = s.text; pattern = s.pattern; kind = s.kind; decision = s.decision; part = s.part; line = s.line } };
+
+    ghost invariant = { λ s. IsSpec (record { text = s.text; pattern = s.pattern; kind = s.kind; decision = s.decision; part = s.part; line = s.line }) };
+}

@@ -1,0 +1,34 @@
+-- What a tree tells of its entries.
+use Rattle.std.specs.Prelude.{◌≡◌, ℕ, ◌<◌, ◌^◌, Bool, List, [], length, Option, Some, None, is_some}
+use Rattle.std.specs.List.{AllPairs, position}
+use Rattle.std.specs.declared.cmp.Ordering.TheVariants.{Less}
+use Rattle.label_base.specs.Path.{Path, path_cmp}
+use Rattle.find_records.specs.declared.record.Record.{Record}
+use Rattle.tree_model.specs.Entries.{same_path}
+use Rattle.tree_model.specs.declared.fault.TreeFault.{TreeFault}
+use Rattle.tree_model.specs.declared.fault.TreeFault.TheVariants.{Doubled, OutOfMemory}
+
+-- the path of each entry is below those of the entries behind
+abbrev pub ByPath : List Record → Type 0
+ByPath entries = AllPairs (λ a b. path_cmp a.path b.path ≡ Less) entries
+
+-- entries of a tree: in the order of their paths, and few enough to be numbered in 32 bits
+pub record IsTree (entries : List Record) : Type 0 where
+  pub by_path : ByPath entries
+  pub few : length entries < 2 ^ 32
+
+-- the numbers of two records that one path has; want of memory has none
+abbrev pub tree_cause : TreeFault → Option (ℕ × ℕ)
+tree_cause (Doubled first second) = Some (first, second)
+tree_cause OutOfMemory = None
+
+abbrev pub is_at : Path → Record → Bool
+is_at path entry = same_path entry.path path
+
+-- the place of the entry with this path
+abbrev pub find_in : Path → List Record → Option ℕ
+find_in path entries = position (is_at path) entries
+
+-- an entry has the path /
+abbrev pub has_root : List Record → Bool
+has_root entries = is_some (find_in [] entries)

@@ -1,0 +1,115 @@
+ghost use Rattle.std.specs.Prelude.{◌≡◌, ◌↔◌, ℕ, ◌<◌, ◌^◌, ◌-◌, [], IfOk, Some, length, slice_get};
+ghost use Rattle.std.specs.List.{Contains};
+ghost use Rattle.label_base.specs.Answers.{Answers};
+ghost use Rattle.label_base.specs.Path.{path_cmp};
+ghost use Rattle.find_records.specs.declared.record.Record.{Record};
+ghost use Rattle.tree_model.specs.Entries.{tree_of};
+ghost use Rattle.tree_model.specs.Links.{has_links};
+ghost use Rattle.tree_model.specs.Tree.{ByPath, tree_cause, find_in, has_root};
+
+use crate::building::{find_doubled, first_of_each, sort_records};
+use crate::fault::TreeFault;
+use crate::links::has_two_names;
+use find_records::Record;
+use label_base::{NormPath, OutOfMemory, Row};
+use std::alloc::Global;
+use std::cmp::Ordering;
+use std::marker::Model;
+
+/// The entries of a tree, seen as their list in the order of their paths.
+#[derive(Debug, Drop)]
+pub struct Tree {
+    entries: Row<Record>,
+    // The path `/`, to be compared with.
+    root: NormPath,
+}
+
+impl Model for Tree {
+    ghost use Rattle.std.specs.Prelude.{List, [], ◌≡◌};
+    ghost use Rattle.find_records.specs.declared.record.Record.{Record};
+    ghost use Rattle.tree_model.specs.Tree.{IsTree};
+
+    ghost Value = { List Record };
+
+    ghost view = { λ t. t.entries };
+
+    ghost invariant = { λ t. IsTree t.entries × (t.root ≡ []) };
+}
+
+fn compare_path(entry: &Record, path: &NormPath) -> Ordering
+    ensures { result ≡ path_cmp entry.now.path path.now }
+{
+    entry.path.cmp(path)
+}
+
+impl Tree {
+    /// The tree of records, as find(1) finds them: in the order of their paths, and each record once, however
+    /// often it is given.
+    ///
+    /// Two records of one path that differ make no tree.
+    pub fn new(alloc: Global, records: Row<Record>) -> Result<Tree, TreeFault>
+        requires { length records < 2 ^ 32 - 1 }
+        ensures answer { Answers (λ tree. tree) tree_cause result (tree_of records) }
+        ensures by_path { IfOk result (λ tree. ByPath tree) }
+        ensures same { IfOk result (λ tree. (r : Record) → Contains tree r ↔ Contains records r) }
+    {
+        let sorted = sort_records(alloc, records)?;
+        match find_doubled(sorted.as_slice()) {
+            Some((first, second)) => Err(TreeFault::Doubled { first, second }),
+            None => Ok(Tree {
+                entries: first_of_each(alloc, sorted)?,
+                root: NormPath::root(alloc),
+            }),
+        }
+    }
+
+    /// All entries, in the order of their paths.
+    pub fn entries(&self) -> &[Record]
+        ensures { result.now ≡ self.now }
+    {
+        self.entries.as_slice()
+    }
+
+    /// How many entries there are.
+    pub fn len(&self) -> u32
+        ensures { result ≡ length self.now }
+    {
+        self.entries.len() as u32
+    }
+
+    /// The entry at a place.
+    pub fn entry(&self, e: u32) -> &Record
+        requires { e < length self.now }
+        ensures { slice_get self.now e ≡ Some result.now }
+    {
+        self.entries.get(e as usize)
+    }
+
+    /// The place of the entry with a path.
+    pub fn find(&self, path: &NormPath) -> Option<u32>
+        ensures { result ≡ find_in path.now self.now }
+    {
+        match self
+            .entries
+            .as_slice()
+            .binary_search_by(|entry| compare_path(entry, path))
+        {
+            Ok(at) => Some(at as u32),
+            Err(_) => None,
+        }
+    }
+
+    /// Whether an entry has the path `/`.
+    pub fn has_root(&self) -> bool
+        ensures { result ≡ has_root self.now }
+    {
+        self.find(&self.root).is_some()
+    }
+
+    /// Whether two entries are names of one inode: have one device and one inode number.
+    pub fn has_hard_links(&self, alloc: Global) -> Result<bool, OutOfMemory>
+        ensures { IfOk result (λ has. has ≡ has_links self.now) }
+    {
+        has_two_names(alloc, self.entries.as_slice())
+    }
+}
