@@ -1,4 +1,4 @@
-ghost use Rattle.std.specs.Prelude.{◌≡◌, ◌++◌, ◌∷◌, ◌+◌, ◌/◌, ◌↔◌, ℕ, List, [], true, false, IfOk, IsTrue, length};
+ghost use Rattle.std.specs.Prelude.{◌≡◌, ◌++◌, ◌∷◌, ◌+◌, ◌/◌, ◌^◌, ◌<◌, ◌↔◌, ℕ, List, [], true, false, IfOk, IsTrue, length};
 ghost use Rattle.pattern_syntax.specs.Tree.{Tree};
 ghost use Rattle.pattern_syntax.specs.Language.{In, Opens, holds};
 ghost use Rattle.pattern_match.specs.States.{AreStatesOf, StandsFor, Below};
@@ -185,3 +185,110 @@ impl Matcher {
 pub fn every_cut_is_membership()
     ensures { (tree : Tree) (text : List ℕ) → IsTrue (holds tree text) ↔ In tree text }
 {}
+
+#[cfg(test)]
+mod tests {
+    use super::*;
+    use std::test::Fail;
+
+    fn matched(alloc: Global, pattern: &Pattern, text: &[u8]) -> Result<bool, OutOfMemory> {
+        let matcher = Matcher::new(alloc, pattern)?;
+        let mut states = matcher.states(alloc)?;
+        Ok(matcher.matches(&mut states, text))
+    }
+
+    fn lies_below(alloc: Global, pattern: &Pattern, path: &NormPath) -> Result<bool, OutOfMemory> {
+        let matcher = Matcher::new(alloc, pattern)?;
+        let mut states = matcher.states(alloc)?;
+        Ok(matcher.alive_below(&mut states, path))
+    }
+
+    // Whether the pattern's language holds the text, or nothing for what is no pattern.
+    fn held(alloc: Global, pattern: &[u8], text: &[u8]) -> Option<bool>
+        requires { length pattern.now < 2 ^ 32 }
+    {
+        let pattern = Pattern::read(alloc, pattern).ok()?;
+        matched(alloc, &pattern, text).ok()
+    }
+
+    // Whether the pattern's language holds the path or something below it.
+    fn below(alloc: Global, pattern: &[u8], path: &[u8]) -> Option<bool>
+        requires { length pattern.now < 2 ^ 32 }
+    {
+        let pattern = Pattern::read(alloc, pattern).ok()?;
+        let path = NormPath::read(alloc, path).ok()?;
+        lies_below(alloc, &pattern, &path).ok()
+    }
+
+    #[test]
+    fn texts_of_patterns(rt: HostRuntime) {
+        let alloc = rt.alloc();
+        assert_eq!(rt;
+            held(alloc, b"/usr/lib(64)?(/.*)?", b"/usr/lib64/x"),
+            Some(true)
+        );
+        assert_eq!(rt;
+            held(alloc, b"/usr/lib(64)?(/.*)?", b"/usr/lib6"),
+            Some(false)
+        );
+        assert_eq!(rt; held(alloc, b"/dev/[shmx]d[^/]*", b"/dev/sda1"), Some(true));
+        assert_eq!(rt;
+            held(alloc, b"/dev/[shmx]d[^/]*", b"/dev/sd/a"),
+            Some(false)
+        );
+        assert_eq!(rt; held(alloc, b"[]a]", b"]"), Some(true));
+        assert_eq!(rt; held(alloc, b"[]a]", b"a"), Some(true));
+        assert_eq!(rt; held(alloc, b"a{,3}", b"a{,3}"), Some(true));
+        assert_eq!(rt; held(alloc, b"a{,3}", b"aa"), Some(false));
+        assert_eq!(rt; held(alloc, b"^/a$", b"/a"), Some(true));
+        assert_eq!(rt; held(alloc, b"^/a$", b"/a/b"), Some(false));
+        assert_eq!(rt; held(alloc, b"a**", b"a"), None);
+    }
+
+    #[test]
+    fn repeats(rt: HostRuntime) {
+        let alloc = rt.alloc();
+        assert_eq!(rt; held(alloc, b"(ab?){2,3}", b"aba"), Some(true));
+        assert_eq!(rt; held(alloc, b"(ab?){2,3}", b"ab"), Some(false));
+        assert_eq!(rt; held(alloc, b"(ab?){2,3}", b"aaaa"), Some(false));
+        assert_eq!(rt; held(alloc, b"(a?){3,}b", b"aaaaab"), Some(true));
+        assert_eq!(rt; held(alloc, b"(a?){3,}b", b"b"), Some(true));
+        assert_eq!(rt; held(alloc, b".{70}", &[b'x'; 70]), Some(true));
+        assert_eq!(rt; held(alloc, b".{70}", &[b'x'; 69]), Some(false));
+    }
+
+    #[test]
+    fn below_paths(rt: HostRuntime) {
+        let alloc = rt.alloc();
+        assert_eq!(rt; below(alloc, b"/usr/lib(/.*)?", b"/"), Some(true));
+        assert_eq!(rt; below(alloc, b"/usr/lib(/.*)?", b"/usr"), Some(true));
+        assert_eq!(rt; below(alloc, b"/usr/lib(/.*)?", b"/usr/lib"), Some(true));
+        assert_eq!(rt; below(alloc, b"/usr/lib(/.*)?", b"/us"), Some(false));
+        assert_eq!(rt; below(alloc, b"/usr/libx", b"/usr/lib"), Some(false));
+        assert_eq!(rt; below(alloc, b"x", b"/"), Some(false));
+    }
+
+    #[test]
+    fn states_of_a_text(rt: HostRuntime) -> Result<(), Fail> {
+        let alloc = rt.alloc();
+        let Ok(pattern) = Pattern::read(alloc, b"/ab?") else {
+            panic!(rt; "a pattern")
+        };
+        let matcher = Matcher::new(alloc, &pattern)?;
+        let mut states = matcher.states(alloc)?;
+        let mut kept = matcher.states(alloc)?;
+        matcher.step(&mut states, b'/');
+        assert!(rt; matcher.alive(&states));
+        assert!(rt; !matcher.accepts(&states));
+        matcher.step(&mut states, b'a');
+        assert!(rt; matcher.accepts(&states));
+        matcher.copy_states(&states, &mut kept);
+        matcher.step(&mut states, b'c');
+        assert!(rt; !matcher.alive(&states));
+        assert!(rt; matcher.accepts(&kept));
+        matcher.restart(&mut kept);
+        assert!(rt; !matcher.accepts(&kept));
+        every_cut_is_membership();
+        Ok(())
+    }
+}

@@ -82,6 +82,27 @@ fn limits_are_met_exactly(rt: HostRuntime) {
 }
 
 #[test]
+fn positions_are_those_of_the_whole_pattern(rt: HostRuntime) {
+    let a = rt.alloc();
+    assert_eq!(rt; fault_in(a, b"(.{50}){40}"), None);
+    assert_eq!(rt;
+        fault_in(a, b"(.{50}){41}"),
+        Some(PatternFault::TooManyPositions)
+    );
+    assert_eq!(rt;
+        fault_in(a, b".{2001}a)"),
+        Some(PatternFault::Syntax { at: 8 })
+    );
+    assert_eq!(rt;
+        fault_in(
+            a,
+            b"((((((((((((((((((((((((((((((((((((((((((((((((((a))))))))))))))))))))))))))))))))))))))))))))))))))"
+        ),
+        None
+    );
+}
+
+#[test]
 fn nodes_stand_behind_their_parts(rt: HostRuntime) -> Result<(), Fail> {
     let pattern = Pattern::read(rt.alloc(), b"^a(b|c)?$")?;
     pattern.has_no_empty_set();

@@ -9,6 +9,8 @@ mod input;
 mod policy;
 mod report;
 mod runs;
+#[cfg(test)]
+mod tests;
 mod words;
 
 use crate::runs::top;
