@@ -53,7 +53,7 @@ fn words_for(bits: usize) -> Result<usize, OutOfMemory>
 }
 
 impl Matcher {
-    /// Makes a pattern ready.
+    /// Makes a pattern ready. There may be too little memory for its tables.
     pub fn new(alloc: Global, pattern: &Pattern) -> Result<Matcher, OutOfMemory>
         ensures { IfOk result (λ matcher. matcher ≡ pattern.now) }
     {
@@ -70,7 +70,7 @@ impl Matcher {
         })
     }
 
-    /// The states before the first byte of a text.
+    /// The states before the first byte of a text. Only they take memory, so later calls can't fail.
     pub fn states(&self, alloc: Global) -> Result<States, OutOfMemory>
         ensures made { IfOk result (λ states. AreStatesOf self.now states) }
         ensures stands { IfOk result (λ states. StandsFor self.now states []) }
@@ -89,7 +89,7 @@ impl Matcher {
         states.restart(self.rows);
     }
 
-    /// Goes on by a byte.
+    /// Goes on by a byte: what the states stand for gets it at its end.
     pub fn step(&self, states: &mut States, byte: u8)
         requires { AreStatesOf self.now states.old }
         ensures made { AreStatesOf self.now states.new }

@@ -72,7 +72,7 @@ impl Position {
         Ok(())
     }
 
-    /// A position before the first byte, of which the position that a first byte leads to are given.
+    /// The position before the first byte, with the numbers of those that may take it.
     pub fn start(holds_empty: bool, first: Vec<usize>) -> Position
         ensures { result ≡ record { bytes = 0 ∷ []; is_last = holds_empty; next = first.items } }
     {
