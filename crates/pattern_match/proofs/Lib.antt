@@ -4,8 +4,10 @@ pub mod Holding
 pub mod Classes
 pub mod Lists
 pub mod Stacks
+pub mod Copies
 pub mod Stepping
 pub mod WordBits
+pub mod Marks
 pub mod Rows
 pub mod Machine
 pub mod Reading

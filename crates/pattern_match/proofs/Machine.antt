@@ -1,5 +1,5 @@
 -- A matcher's tables and what its calls do to sets of states.
-use Rattle.std.proofs.Common.{◌≡◌, refl, sym, ◌∙◌, subst, ℕ, zero, suc, ◌+◌, ◌-◌, ◌*◌, ◌/◌, ◌<◌, ◌≤◌, ◌==◌, Bool, true, false, List, [], length, None, ◌⊎◌, inl, inr, arith}
+use Rattle.std.proofs.Common.{◌≡◌, refl, sym, ◌∙◌, ap, subst, ℕ, zero, suc, ◌+◌, ◌-◌, ◌*◌, ◌/◌, ◌<◌, ◌≤◌, ◌==◌, Bool, true, false, List, [], length, None, ◌⊎◌, inl, inr, arith}
 use Rattle.std.specs.Prelude.{◌&&◌, slice_get, nat_lt}
 use Rattle.pattern_syntax.specs.Tree.{Tree}
 use Rattle.pattern_match.specs.Residuals.{all_residuals, has_texts}
@@ -9,6 +9,7 @@ use Rattle.pattern_match.specs.Tables.{AreTables, leads, ends, has, any_below}
 use Rattle.pattern_match.proofs.Language.{and_first, and_second, and_both, or_either, or_left, or_right}
 use Rattle.pattern_match.proofs.WordBits.{bit_within}
 use Rattle.pattern_match.proofs.Rows.{get_past, row_within}
+use Rattle.pattern_match.proofs.Marks.{any_past}
 use Rattle.pattern_match.proofs.Stepping.{IsStep, IsEnd, IsStart, as_many, starts}
 
 any_from : (test : ℕ → Bool) (n : ℕ) → any_below test n ≡ true → (p : ℕ) × (p < n) × (test p ≡ true)
@@ -160,6 +161,17 @@ module _ (t : Tree) (rows width : ℕ) (follow accept bytes : List ℕ) (m : IsM
   pub follow_in : (old : List ℕ) → AreStatesOf t old → rows * length old ≤ length follow
   follow_in old a = let n = wide old a in let r = m.rows_is in let f = m.tables.rows in rw (n, r, f) (omega arith)
 
+  pub marked_in : (old : List ℕ) → AreStatesOf t old → (p : ℕ) → bit old p ≡ true → p * length old + length old ≤ length follow
+  marked_in old a p h = at (within_or_past p rows)
+    where
+      at : (p < rows) ⊎ (rows ≤ p) → p * length old + length old ≤ length follow
+      at (inl l) = let f = follow_in old a in let w = row_within p rows (length old) l in omega arith
+      at (inr l) = let n = as_many t in let r = m.rows_is in let e : bit old p ≡ false = a.none_past p (omega arith) in let d : true ≡ false = sym h ∙ e in cc
+
+  -- no state stands past the rows
+  pub all_rows : (old : List ℕ) (test : ℕ → Bool) → AreStatesOf t old → any_below (λ p. bit old p && test p) (64 * length old) ≡ any_below (λ p. bit old p && test p) rows
+  all_rows old test a = any_past (λ p. bit old p && test p) rows (64 * length old) (rows_in old a) (λ p l. let n = as_many t in let r = m.rows_is in let e : bit old p ≡ false = a.none_past p (omega arith) in ap (λ v. v && test p) e)
+
   pub byte_in : (old : List ℕ) (b : ℕ) → AreStatesOf t old → b < 256 → b * width + length old ≤ length bytes
   byte_in old b a l = let n = wide old a in let f = m.tables.bytes in rw (n, f) (row_within b 256 width l)
 
@@ -177,12 +189,12 @@ module _ (t : Tree) (rows width : ℕ) (follow accept bytes : List ℕ) (m : IsM
   pub end_is : (states : List ℕ) (v : Bool) → AreStatesOf t states → ((k : ℕ) → bit states k ≡ true → bit accept k ≡ true → v ≡ true) → (v ≡ true → (k : ℕ) × (bit states k ≡ true) × (bit accept k ≡ true)) → IsEnd (all_places (automaton t)) states v
   end_is states v a f g = machine_ends (all_places (automaton t)) width follow accept bytes m.tables states v (wide states a) f g
 
-  pub step_at : (old new shown kept : List ℕ) (b from : ℕ) → shown ≡ follow → kept ≡ bytes → from ≡ b → b < 256 → AreStatesOf t old → length new ≡ length old → ((k : ℕ) → k < 64 * length old → bit new k ≡ (any_below (λ p. bit old p && bit shown (64 * (p * length old) + k)) rows && bit kept (64 * (from * width) + k))) → IsStep (all_places (automaton t)) old new b
+  pub step_at : (old new shown kept : List ℕ) (b from : ℕ) → shown ≡ follow → kept ≡ bytes → from ≡ b → b < 256 → AreStatesOf t old → length new ≡ length old → ((k : ℕ) → k < 64 * length old → bit new k ≡ (any_below (λ p. bit old p && bit shown (64 * (p * length old) + k)) (64 * length old) && bit kept (64 * (from * width) + k))) → IsStep (all_places (automaton t)) old new b
   step_at old new shown kept b from e f g l a n h =
-      let F : List ℕ → Type 0 = λ s. (k : ℕ) → k < 64 * length old → bit new k ≡ (any_below (λ p. bit old p && bit s (64 * (p * length old) + k)) rows && bit kept (64 * (from * width) + k)) in
-      let G : List ℕ → Type 0 = λ s. (k : ℕ) → k < 64 * length old → bit new k ≡ (any_below (λ p. bit old p && bit follow (64 * (p * length old) + k)) rows && bit s (64 * (from * width) + k)) in
-      let H : ℕ → Type 0 = λ c. (k : ℕ) → k < 64 * length old → bit new k ≡ (any_below (λ p. bit old p && bit follow (64 * (p * length old) + k)) rows && bit bytes (64 * (c * width) + k)) in
-      step_is old new b l a n (subst H g (subst G f (subst F e h)))
+      let F : List ℕ → Type 0 = λ s. (k : ℕ) → k < 64 * length old → bit new k ≡ (any_below (λ p. bit old p && bit s (64 * (p * length old) + k)) (64 * length old) && bit kept (64 * (from * width) + k)) in
+      let G : List ℕ → Type 0 = λ s. (k : ℕ) → k < 64 * length old → bit new k ≡ (any_below (λ p. bit old p && bit follow (64 * (p * length old) + k)) (64 * length old) && bit s (64 * (from * width) + k)) in
+      let H : ℕ → Type 0 = λ c. (k : ℕ) → k < 64 * length old → bit new k ≡ (any_below (λ p. bit old p && bit follow (64 * (p * length old) + k)) (64 * length old) && bit bytes (64 * (c * width) + k)) in
+      step_is old new b l a n (λ k u. subst H g (subst G f (subst F e h)) k u ∙ ap (λ v. v && bit bytes (64 * (b * width) + k)) (all_rows old (λ p. bit follow (64 * (p * length old) + k)) a))
 
   pub end_at : (states shown kept : List ℕ) (v : Bool) → shown ≡ states → kept ≡ accept → AreStatesOf t states → ((k : ℕ) → bit shown k ≡ true → bit kept k ≡ true → v ≡ true) → (v ≡ true → (k : ℕ) × (bit shown k ≡ true) × (bit kept k ≡ true)) → IsEnd (all_places (automaton t)) states v
   end_at states shown kept v e f a g h =

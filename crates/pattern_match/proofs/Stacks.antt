@@ -10,7 +10,7 @@ use Rattle.pattern_syntax.specs.declared.node.Node.TheVariants.{Byte, Set, Nothi
 use Rattle.pattern_syntax.specs.declared.byte_set.ByteSet.{ByteSet}
 use Rattle.pattern_match.specs.declared.class.Class.TheVariants as class
 use Rattle.pattern_match.specs.Class.{class_bytes}
-use Rattle.pattern_match.specs.Automaton.{Automaton, automaton, both, either, repeated, single, bare, copies, endless, copy_before}
+use Rattle.pattern_match.specs.Automaton.{Automaton, automaton, both, either, repeated, single, bare}
 use Rattle.pattern_match.specs.Building.{HoldsTrees, Builds}
 
 -- a stack with one more on top
@@ -87,23 +87,6 @@ pub no_tree : (trees : List Tree) → HoldsTrees [] trees → bare true ≡ auto
 unfolding automaton
 no_tree [] h = refl
 no_tree (t ∷ ts) h = cc
-
--- one copy more
-pub copies_more : (least most done : ℕ) (piece whole : Automaton) → done < most → whole ≡ copies (least - (most - done)) done piece → copy_before ((least - ((most - 1) - done) == 0) || piece.holds_empty) piece whole ≡ copies (least - (most - (done + 1))) (done + 1) piece
-copies_more least most done piece whole l e =
-    let p : (most - 1) - done ≡ most - suc done = omega arith in
-    let q : pred (least - (most - suc done)) ≡ least - (most - done) = omega arith in
-    rw (add-one, p, e, ← q) refl
-
-pub endless_more : (done : ℕ) (piece whole : Automaton) → 0 < done → whole ≡ endless done piece → copy_before piece.holds_empty piece whole ≡ endless (done + 1) piece
-endless_more zero piece whole l e = absurd (omega arith)
-endless_more (suc done) piece whole l e = rw (add-one, e) refl
-
-pub copies_step : (least most done : ℕ) (piece copy whole new : Automaton) (h : Bool) → done < most → whole ≡ copies (least - (most - done)) done piece → copy ≡ piece → h ≡ ((least - ((most - 1) - done) == 0) || piece.holds_empty) → new ≡ copy_before h copy whole → new ≡ copies (least - (most - (done + 1))) (done + 1) piece
-copies_step least most done piece copy whole new h l e f g n = n ∙ rw (g, f) (copies_more least most done piece whole l e)
-
-pub endless_step : (done : ℕ) (piece copy whole new : Automaton) (h : Bool) → 0 < done → whole ≡ endless done piece → copy ≡ piece → h ≡ piece.holds_empty → new ≡ copy_before h copy whole → new ≡ endless (done + 1) piece
-endless_step done piece copy whole new h l e f g n = n ∙ rw (g, f) (endless_more done piece whole l e)
 
 -- at the end of the nodes
 pub top_at_end : (nodes : List Node) (i : ℕ) (stack s : List Automaton) (a : Automaton) → length nodes ≤ i → stack ≡ s ++ a ∷ [] → HoldsTrees stack (after_nodes (take i nodes) []) → a ≡ automaton (tree_of nodes)

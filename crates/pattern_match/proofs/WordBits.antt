@@ -91,6 +91,12 @@ bit_both new old table start k e =
     rw (place_of start k, rest_of start k, e, bit_at_and (get_or old (k / 64) 0) (get_or table (start + k / 64) 0) (k % 64))
     (min_one (bit_at (get_or old (k / 64) 0) (k % 64)) (bit_at (get_or table (start + k / 64) 0) (k % 64)) (bit_at-lt _ _) (bit_at-lt _ _))
 
+pub word_either : (v w k : ℕ) → (bit_at (bit_or v w) k == 1) ≡ ((bit_at v k == 1) || (bit_at w k == 1))
+word_either v w k = rw (bit_at_or v w k) (max_one (bit_at v k) (bit_at w k) (bit_at-lt _ _) (bit_at-lt _ _))
+
+pub word_both : (v w k : ℕ) → (bit_at (bit_and v w) k == 1) ≡ ((bit_at v k == 1) && (bit_at w k == 1))
+word_both v w k = rw (bit_at_and v w k) (min_one (bit_at v k) (bit_at w k) (bit_at-lt _ _) (bit_at-lt _ _))
+
 pub no_bit : (words : List ℕ) (k : ℕ) → get_or words (k / 64) 0 ≡ 0 → bit words k ≡ false
 no_bit words k g = rw g (not_same _ 1 (let z : bit_at 0 (k % 64) ≡ 0 = bit_at-zero (k % 64) in rw z (λ e. omega arith)))
 
@@ -137,9 +143,9 @@ none_any words h k b =
     let d : true ≡ false = sym b ∙ e in cc
 
 -- what is gathered and then kept
-pub step_bits : (marks gathered new shown kept follow bytes : List ℕ) (width rows start k : ℕ) → width ≡ length marks → shown ≡ marks → kept ≡ gathered → bit gathered k ≡ any_below (λ p. bit shown p && bit follow (64 * (p * width) + k)) rows → bit new k ≡ (bit kept k && bit bytes (64 * start + k)) → bit new k ≡ (any_below (λ p. bit marks p && bit follow (64 * (p * length marks) + k)) rows && bit bytes (64 * start + k))
-step_bits marks gathered new shown kept follow bytes width rows start k n e f g h =
-    let F : ℕ → Type 0 = λ w. bit gathered k ≡ any_below (λ p. bit shown p && bit follow (64 * (p * w) + k)) rows in
-    let G : List ℕ → Type 0 = λ m. bit gathered k ≡ any_below (λ p. bit m p && bit follow (64 * (p * length marks) + k)) rows in
-    let a : bit gathered k ≡ any_below (λ p. bit marks p && bit follow (64 * (p * length marks) + k)) rows = subst G e (subst F n g) in
+pub step_bits : (marks gathered new shown kept follow bytes : List ℕ) (width start k : ℕ) → width ≡ length marks → shown ≡ marks → kept ≡ gathered → bit gathered k ≡ any_below (λ p. bit shown p && bit follow (64 * (p * width) + k)) (64 * width) → bit new k ≡ (bit kept k && bit bytes (64 * start + k)) → bit new k ≡ (any_below (λ p. bit marks p && bit follow (64 * (p * length marks) + k)) (64 * length marks) && bit bytes (64 * start + k))
+step_bits marks gathered new shown kept follow bytes width start k n e f g h =
+    let F : ℕ → Type 0 = λ w. bit gathered k ≡ any_below (λ p. bit shown p && bit follow (64 * (p * w) + k)) (64 * w) in
+    let G : List ℕ → Type 0 = λ m. bit gathered k ≡ any_below (λ p. bit m p && bit follow (64 * (p * length marks) + k)) (64 * length marks) in
+    let a : bit gathered k ≡ any_below (λ p. bit marks p && bit follow (64 * (p * length marks) + k)) (64 * length marks) = subst G e (subst F n g) in
     h ∙ ap (λ v. v && bit bytes (64 * start + k)) (ap (λ (w : List ℕ). bit w k) f ∙ a)

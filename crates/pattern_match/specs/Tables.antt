@@ -32,3 +32,7 @@ pub record AreTables (width : ℕ) (follow accept masks : List ℕ) (places : Li
 abbrev pub any_below : (ℕ → Bool) → ℕ → Bool
 any_below test zero = false
 any_below test (suc n) = any_below test n || test n
+
+-- some bit of a word passes
+unfoldable pub any_bit : (ℕ → Bool) → Bool
+any_bit test = any_below test 64

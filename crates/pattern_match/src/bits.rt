@@ -1,6 +1,7 @@
-ghost use Rattle.std.specs.Prelude.{◌≡◌, true, false, ◌+◌, ◌*◌, ◌/◌, ◌<◌, ◌≤◌, ◌==◌, ◌||◌, ◌&&◌, ℕ, IfOk, length, replicate};
+ghost use Rattle.std.specs.Prelude.{◌≡◌, true, false, ◌+◌, ◌*◌, ◌/◌, ◌<◌, ◌≤◌, ◌==◌, ◌||◌, ◌&&◌, ℕ, IfOk, length, replicate, slice_index};
 ghost use Rattle.pattern_match.specs.States.{bit};
-ghost use Rattle.pattern_match.specs.Tables.{any_below};
+ghost use Rattle.std.specs.Int.{bit_at};
+ghost use Rattle.pattern_match.specs.Tables.{any_below, any_bit};
 
 use label_base::OutOfMemory;
 use std::alloc::Global;
@@ -61,29 +62,45 @@ pub fn clear(words: &mut Vec<u64>)
     }
 }
 
-// Adds the bits of the row that starts at a word, if bit p is set.
-fn add_row_if(to: &mut Vec<u64>, marks: &[u64], p: usize, table: &[u64], start: usize)
-    requires mark { p / 64 < length marks.now }
-    requires room { start + length to.old.items ≤ length table.now }
-    ensures bits { (k : ℕ) → k < 64 * length to.old.items → bit to.new.items k ≡ (bit to.old.items k || (bit marks.now p && bit table.now (64 * start + k))) }
+// Adds the rows of the bits that are set in word i of the marks.
+fn add_marked(to: &mut Vec<u64>, word: u64, i: usize, table: &[u64])
+    requires word { i < length to.old.items }
+    requires rows { (j : ℕ) → j < 64 → bit_at word j ≡ 1 → (64 * i + j) * length to.old.items + length to.old.items ≤ length table.now }
+    ensures bits { (k : ℕ) → k < 64 * length to.old.items → bit to.new.items k ≡ (bit to.old.items k || any_bit (λ j. (bit_at word j == 1) && bit table.now (64 * ((64 * i + j) * length to.old.items) + k))) }
     ensures words { length to.new.items ≡ length to.old.items }
 {
-    if has_bit(marks, p) {
-        add_row(to, table, start);
+    let mut left = word;
+    'marks: while left != 0 {
+        let row = 64 * i + left.trailing_zeros() as usize;
+        add_row(to, table, row * to.len());
+        left &= left - 1;
     }
 }
 
+/// The bits of all rows whose number is marked, where the marks and the rows are one word each.
+pub fn gathered(marks: u64, table: &[u64]) -> u64
+    requires { (j : ℕ) → j < 64 → bit_at marks j ≡ 1 → j < length table.now }
+    ensures { (k : ℕ) → (bit_at result k == 1) ≡ any_bit (λ j. (bit_at marks j == 1) && (bit_at (slice_index table.now j) k == 1)) }
+{
+    let mut reached = 0;
+    let mut left = marks;
+    'marks: while left != 0 {
+        reached |= table[left.trailing_zeros() as usize];
+        left &= left - 1;
+    }
+    reached
+}
+
 /// Makes the bits those of all rows whose number is marked.
-pub fn gather(to: &mut Vec<u64>, marks: &[u64], table: &[u64], rows: usize)
-    requires marks { rows ≤ 64 * length marks.now }
-    requires rows { rows * length to.old.items ≤ length table.now }
-    ensures bits { (k : ℕ) → k < 64 * length to.old.items → bit to.new.items k ≡ any_below (λ p. bit marks.now p && bit table.now (64 * (p * length to.old.items) + k)) rows }
+pub fn gather(to: &mut Vec<u64>, marks: &[u64], table: &[u64])
+    requires words { length marks.now ≡ length to.old.items }
+    requires rows { (p : ℕ) → bit marks.now p ≡ true → p * length to.old.items + length to.old.items ≤ length table.now }
+    ensures bits { (k : ℕ) → k < 64 * length to.old.items → bit to.new.items k ≡ any_below (λ p. bit marks.now p && bit table.now (64 * (p * length to.old.items) + k)) (64 * length to.old.items) }
     ensures words { length to.new.items ≡ length to.old.items }
 {
     clear(to);
-    let width = to.len();
-    for p in 0..rows {
-        add_row_if(to, marks, p, table, p * width);
+    'words: for i in 0..marks.len() {
+        add_marked(to, marks[i], i, table);
     }
 }
 

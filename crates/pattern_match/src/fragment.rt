@@ -1,5 +1,5 @@
 ghost use Rattle.std.specs.Prelude.{◌≡◌, ◌++◌, ◌&&◌, ◌||◌, ◌==◌, true, IfOk, OnOk, [], map, length, if◌then◌else◌};
-ghost use Rattle.pattern_match.specs.Automaton.{Place, moved, followed, in_turn, bare, single, both, both_live, either, copy_before, looped, up, copies, endless, repeated, all_places};
+ghost use Rattle.pattern_match.specs.Automaton.{Place, moved, followed, in_turn, bare, single, both, both_live, either, looped, up, copies, endless, repeated, all_places};
 ghost use Rattle.pattern_match.specs.Residuals.{is_count};
 
 use crate::class::Class;
@@ -82,14 +82,24 @@ fn first_of(
     Ok(all)
 }
 
-fn copy_each(alloc: Global, positions: &[Position]) -> Result<Vec<Position>, OutOfMemory>
-    ensures { IfOk result (λ copies. copies.items ≡ positions.now) }
+// Adds a copy of a piece, which is counted from 0, and lets another part follow it.
+fn append_copy(
+    alloc: Global,
+    positions: &mut Vec<Position>,
+    piece: &[Position],
+    holds_empty: bool,
+    first: &[usize],
+) -> Result<(), OutOfMemory>
+    ensures { OnOk result (positions.new.items ≡ positions.old.items ++ map (moved (length positions.old.items)) (map (followed holds_empty first.now) piece.now)) }
 {
-    let mut copies = Vec::new(alloc);
-    for position in positions {
-        copies.push(position.copy(alloc)?)?;
+    let by = positions.len();
+    'piece: for position in piece {
+        let mut copy = position.copy(alloc)?;
+        copy.follow(holds_empty, first)?;
+        copy.move_up(by)?;
+        positions.push(copy)?;
     }
-    Ok(copies)
+    Ok(())
 }
 
 impl Fragment {
@@ -123,18 +133,6 @@ impl Fragment {
             first,
             holds_empty: false,
             is_live: true,
-        })
-    }
-
-    /// The same fragment.
-    pub fn copy(&self, alloc: Global) -> Result<Fragment, OutOfMemory>
-        ensures { IfOk result (λ copy. copy ≡ self.now) }
-    {
-        Ok(Fragment {
-            positions: copy_each(alloc, self.positions.as_slice())?,
-            first: Vec::from_slice(alloc, self.first.as_slice())?,
-            holds_empty: self.holds_empty,
-            is_live: self.is_live,
         })
     }
 
@@ -212,33 +210,6 @@ impl Fragment {
         })
     }
 
-    // One copy of the piece of a repeat, and the rest of the copies behind it.
-    fn copy_before(
-        self,
-        alloc: Global,
-        holds_empty: bool,
-        rest: Fragment,
-    ) -> Result<Fragment, OutOfMemory>
-        ensures { IfOk result (λ fragment. fragment ≡ copy_before holds_empty self rest) }
-    {
-        let Fragment {
-            mut positions,
-            first,
-            holds_empty: _,
-            is_live: _,
-        } = self;
-        let by = positions.len();
-        let later = counted_up(alloc, rest.first.as_slice(), by)?;
-        follow_each(&mut positions, rest.holds_empty, later.as_slice())?;
-        append_moved(&mut positions, rest.positions, by)?;
-        Ok(Fragment {
-            positions,
-            first,
-            holds_empty,
-            is_live: true,
-        })
-    }
-
     // The piece of a repeat, as often as one likes.
     fn looped(self, holds_empty: bool) -> Result<Fragment, OutOfMemory>
         ensures { IfOk result (λ fragment. fragment ≡ looped holds_empty self) }
@@ -262,12 +233,34 @@ impl Fragment {
     fn copies(self, alloc: Global, least: u32, most: u32) -> Result<Fragment, OutOfMemory>
         ensures { IfOk result (λ fragment. fragment ≡ copies least most self) }
     {
-        let mut whole = Fragment::bare(alloc, true);
-        for done in 0..most {
-            let is_optional = may_stop(least.saturating_sub(most - 1 - done), self.holds_empty);
-            whole = self.copy(alloc)?.copy_before(alloc, is_optional, whole)?;
+        if most == 0 {
+            return Ok(Fragment::bare(alloc, true));
         }
-        Ok(whole)
+        let Fragment {
+            positions: piece,
+            first,
+            holds_empty,
+            is_live: _,
+        } = self;
+        let later = counted_up(alloc, first.as_slice(), piece.len())?;
+        let mut positions = Vec::new(alloc);
+        'copies: for done in 0..most - 1 {
+            let can_stop = may_stop(least.saturating_sub(done + 1), holds_empty);
+            append_copy(
+                alloc,
+                &mut positions,
+                piece.as_slice(),
+                can_stop,
+                later.as_slice(),
+            )?;
+        }
+        append_copy(alloc, &mut positions, piece.as_slice(), true, &[])?;
+        Ok(Fragment {
+            positions,
+            first,
+            holds_empty: may_stop(least, holds_empty),
+            is_live: true,
+        })
     }
 
     // The piece `least` times or more often.
@@ -277,13 +270,36 @@ impl Fragment {
         if least == 0 {
             return self.looped(true);
         }
-        let mut whole = self.copy(alloc)?.looped(self.holds_empty)?;
-        for _done in 1..least {
-            whole = self
-                .copy(alloc)?
-                .copy_before(alloc, self.holds_empty, whole)?;
+        let Fragment {
+            positions: piece,
+            first,
+            holds_empty,
+            is_live: _,
+        } = self;
+        let later = counted_up(alloc, first.as_slice(), piece.len())?;
+        let mut positions = Vec::new(alloc);
+        'copies: for _done in 0..least - 1 {
+            append_copy(
+                alloc,
+                &mut positions,
+                piece.as_slice(),
+                holds_empty,
+                later.as_slice(),
+            )?;
         }
-        Ok(whole)
+        append_copy(
+            alloc,
+            &mut positions,
+            piece.as_slice(),
+            true,
+            first.as_slice(),
+        )?;
+        Ok(Fragment {
+            positions,
+            first,
+            holds_empty,
+            is_live: true,
+        })
     }
 
     /// The piece from `least` to `most` times, or without an upper number.

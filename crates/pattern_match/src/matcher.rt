@@ -97,7 +97,6 @@ impl Matcher {
     {
         states.step(
             self.follow.as_slice(),
-            self.rows,
             self.bytes.as_slice(),
             usize::from(byte) * self.width,
         );

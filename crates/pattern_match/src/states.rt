@@ -1,8 +1,8 @@
-ghost use Rattle.std.specs.Prelude.{◌≡◌, ◌+◌, ◌-◌, ◌*◌, ◌<◌, ◌≤◌, ◌==◌, ◌&&◌, ℕ, IfOk, length, nat_lt};
+ghost use Rattle.std.specs.Prelude.{◌≡◌, ◌+◌, ◌-◌, ◌*◌, ◌<◌, ◌≤◌, ◌==◌, ◌&&◌, true, ℕ, IfOk, length, nat_lt};
 ghost use Rattle.pattern_match.specs.States.{bit};
 ghost use Rattle.pattern_match.specs.Tables.{any_below};
 
-use crate::bits::{clear, gather, keep_row, no_bits, set_if};
+use crate::bits::{clear, gather, gathered, keep_row, no_bits, set_if};
 use label_base::OutOfMemory;
 use std::alloc::Global;
 use std::marker::Model;
@@ -52,14 +52,17 @@ impl States {
     }
 
     /// Goes on to the states that follow, and are in the row of a byte.
-    pub(crate) fn step(&mut self, follow: &[u64], rows: usize, bytes: &[u64], start: usize)
-        requires marks { rows ≤ 64 * length self.old }
-        requires rows { rows * length self.old ≤ length follow.now }
+    pub(crate) fn step(&mut self, follow: &[u64], bytes: &[u64], start: usize)
+        requires rows { (p : ℕ) → bit self.old p ≡ true → p * length self.old + length self.old ≤ length follow.now }
         requires room { start + length self.old ≤ length bytes.now }
-        ensures bits { (k : ℕ) → k < 64 * length self.old → bit self.new k ≡ (any_below (λ p. bit self.old p && bit follow.now (64 * (p * length self.old) + k)) rows && bit bytes.now (64 * start + k)) }
+        ensures bits { (k : ℕ) → k < 64 * length self.old → bit self.new k ≡ (any_below (λ p. bit self.old p && bit follow.now (64 * (p * length self.old) + k)) (64 * length self.old) && bit bytes.now (64 * start + k)) }
         ensures words { length self.new ≡ length self.old }
     {
-        gather(&mut self.reached, self.marks.as_slice(), follow, rows);
+        if self.marks.len() == 1 {
+            self.marks[0] = gathered(self.marks[0], follow) & bytes[start];
+            return;
+        }
+        gather(&mut self.reached, self.marks.as_slice(), follow);
         keep_row(&mut self.marks, self.reached.as_slice(), bytes, start);
     }
 

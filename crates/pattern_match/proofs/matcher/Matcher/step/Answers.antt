@@ -1,21 +1,15 @@
 use Rattle.std.proofs.Common.{◌≡◌, ◌<◌, ap, subst, arith, length, List, ℕ}
 use Rattle.pattern_syntax.specs.Tree.{Tree}
 use Rattle.pattern_match.proofs.Stepping.{steps}
-use Rattle.pattern_match.proofs.Machine.{IsMachine, rows_in, follow_in, byte_in, step_at, stepped_states}
+use Rattle.pattern_match.proofs.Machine.{IsMachine, marked_in, byte_in, step_at, stepped_states}
 use Rattle.pattern_match.proofs.matcher.Matcher.step.Goals as goal
-
-pub step-requires-clause-marks : goal.step-requires-clause-marks
-step-requires-clause-marks c =
-    let P : Tree → Type 0 = λ t. IsMachine t c.self.inside.rows c.self.inside.width c.self.inside.follow.items c.self.inside.accept.items c.self.inside.bytes.items in
-    let m : IsMachine c.args.self.now c.self.inside.rows c.self.inside.width c.self.inside.follow.items c.self.inside.accept.items c.self.inside.bytes.items = subst P c.self.view_is (record { rows_is = c.self.invariant.rows; tables = c.self.invariant.tables }) in
-    rows_in c.args.self.now c.self.inside.rows c.self.inside.width c.self.inside.follow.items c.self.inside.accept.items c.self.inside.bytes.items m c.args.states.now c.requires
 
 pub step-requires-clause-rows : goal.step-requires-clause-rows
 step-requires-clause-rows c =
     let P : Tree → Type 0 = λ t. IsMachine t c.self.inside.rows c.self.inside.width c.self.inside.follow.items c.self.inside.accept.items c.self.inside.bytes.items in
     let m : IsMachine c.args.self.now c.self.inside.rows c.self.inside.width c.self.inside.follow.items c.self.inside.accept.items c.self.inside.bytes.items = subst P c.self.view_is (record { rows_is = c.self.invariant.rows; tables = c.self.invariant.tables }) in
     let n : length c.as_slice.result.now ≡ length c.self.inside.follow.items = ap (λ (w : List ℕ). length w) c.as_slice.ensures.value in
-    rw n (follow_in c.args.self.now c.self.inside.rows c.self.inside.width c.self.inside.follow.items c.self.inside.accept.items c.self.inside.bytes.items m c.args.states.now c.requires)
+    λ p h. rw n (marked_in c.args.self.now c.self.inside.rows c.self.inside.width c.self.inside.follow.items c.self.inside.accept.items c.self.inside.bytes.items m c.args.states.now c.requires p h)
 
 pub step-requires-clause-room : goal.step-requires-clause-room
 step-requires-clause-room c =

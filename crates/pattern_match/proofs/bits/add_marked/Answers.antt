@@ -1,0 +1,46 @@
+use Rattle.std.proofs.Common.{◌≡◌, ◌+◌, ◌*◌, ◌<◌, ◌≤◌, ◌==◌, ap, length, arith, w64, subst, ℕ}
+use Rattle.std.specs.Prelude.{◌||◌}
+use Rattle.std.specs.Int.{trailing_zeros}
+use Rattle.std.proofs.lemmas.Nat.Bits.{bit_at-trailing_zeros}
+use Rattle.pattern_match.specs.States.{bit}
+use Rattle.pattern_match.proofs.Marks.{row_added, rows_added, still_marked, row_number}
+use Rattle.pattern_match.proofs.bits.add_marked.Goals as goal
+
+pub overflow_mul-row : goal.overflow_mul-row
+overflow_mul-row c =
+    let t = bit_at-trailing_zeros w64 c.marks.left (omega arith) (omega arith) in
+    let r = c.requires.rows (trailing_zeros w64 c.marks.left) t.0 (c.marks.invariant.1 _ t.1) in
+    let n = row_number (64 * c.args.i + trailing_zeros w64 c.marks.left) (length c.args.to.now.items) (length c.args.table.now) (omega arith) r in
+    omega arith
+
+pub overflow_add-row : goal.overflow_add-row
+overflow_add-row c =
+    let t = bit_at-trailing_zeros w64 c.marks.left (omega arith) (omega arith) in
+    let r = c.requires.rows (trailing_zeros w64 c.marks.left) t.0 (c.marks.invariant.1 _ t.1) in
+    let n = row_number (64 * c.args.i + trailing_zeros w64 c.marks.left) (length c.args.to.now.items) (length c.args.table.now) (omega arith) r in
+    omega arith
+
+pub overflow_mul-row-in-marks : goal.overflow_mul-row-in-marks
+overflow_mul-row-in-marks c =
+    let t = bit_at-trailing_zeros w64 c.marks.left (omega arith) (omega arith) in
+    let r = c.requires.rows (trailing_zeros w64 c.marks.left) t.0 (c.marks.invariant.1 _ t.1) in
+    let e : c.len.result ≡ length c.args.to.now.items = omega arith in
+    rw e (omega arith)
+
+pub add_row-requires : goal.add_row-requires
+add_row-requires c =
+    let t = bit_at-trailing_zeros w64 c.marks.left (omega arith) (omega arith) in
+    let r = c.requires.rows (trailing_zeros w64 c.marks.left) t.0 (c.marks.invariant.1 _ t.1) in
+    let e : c.len.result ≡ length c.args.to.now.items = omega arith in
+    rw e (omega arith)
+
+pub marks-preserved : goal.marks-preserved
+marks-preserved c =
+    let e : c.len.result ≡ length c.args.to.now.items = omega arith in (
+      omega arith,
+      λ j h. c.marks.invariant.1 j (still_marked c.marks.left j (omega arith) (omega arith) h),
+      λ k l. row_added (bit c.add_row.new.to.items k) (bit c.marks.to.items k) c.marks.left (λ j. bit c.args.table.now (64 * ((64 * c.args.i + j) * length c.args.to.now.items) + k)) _ (omega arith) (omega arith) (subst (λ n. bit c.add_row.new.to.items k ≡ (bit c.marks.to.items k || bit c.args.table.now (64 * ((64 * c.args.i + trailing_zeros w64 c.marks.left) * n) + k))) e (c.add_row.ensures.bits k (omega arith))) (c.marks.invariant.2 k l),
+    )
+
+pub returns-clause-bits : goal.returns-clause-bits
+returns-clause-bits c = λ k l. rows_added (bit c.marks.to.items k) c.marks.left (λ j. bit c.args.table.now (64 * ((64 * c.args.i + j) * length c.args.to.now.items) + k)) _ (omega arith) (c.marks.invariant.2 k l)
