@@ -17,20 +17,22 @@ TYPES = [f"{word}_{kind}_t" for word in WORDS[:40] for kind in ("conf", "data", 
 def main(count):
     generator = random.Random(count)
     write = sys.stdout.buffer.write
+    inodes = list(range(3, count + 3))
+    generator.shuffle(inodes)
     write(b"d 2049 2 system_u:object_r:root_t:s0 /\0")
     folders = [""]
-    written, inode = 1, 3
-    while written < count:
-        parent = folders[generator.randrange(max(0, len(folders) - 2000), len(folders))]
+    for number, inode in enumerate(inodes[1:]):
+        parent = generator.choice(folders)
         depth = parent.count("/")
-        name = generator.choice(WORDS)
-        is_folder = depth < 11 and (depth < 2 or generator.random() < 0.2)
-        path = f"{parent}/{name}-{written:x}" if depth >= 2 else f"{parent}/{name}{written % 997}-{written:x}"
+        while depth > 10:
+            parent = generator.choice(folders)
+            depth = parent.count("/")
+        is_folder = number < 40 or depth < 2 or generator.random() < 0.08
+        path = f"{parent}/{generator.choice(WORDS)}{number:x}"
         if is_folder:
             folders.append(path)
         context = f"system_u:object_r:{generator.choice(TYPES)}:s0"
         write(f"{'d' if is_folder else 'f'} 2049 {inode} {context} {path}\0".encode())
-        written, inode = written + 1, inode + 1
 
 
 main(int(sys.argv[1]))

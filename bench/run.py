@@ -36,7 +36,7 @@ def main(count):
             subprocess.run([sys.executable, HERE / "generate.py", str(count)], stdout=out, check=True)
         (room / "fc").write_text(SPECS)
         size = records.stat().st_size
-        subprocess.run([HERE.parent / "relabel"], stdout=subprocess.DEVNULL, stdin=subprocess.DEVNULL)
+        subprocess.run([HERE.parent / "relabel"], stdout=subprocess.DEVNULL, stderr=subprocess.DEVNULL, stdin=subprocess.DEVNULL)
         print(f"{count} records, {size} bytes, {size / count:.0f} a record")
         sort, _, _ = timed(["sort", "-z", "--parallel=1"], records, room, env={**os.environ, "LC_ALL": "C"})
         print(f"sort     {sort:.2f} s")

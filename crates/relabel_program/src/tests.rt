@@ -14,6 +14,7 @@ const REPORT: &[u8] =
     b"Would relabel /etc/passwd from system_u:object_r:etc_t:s0 to system_u:object_r:passwd_file_t:s0\n";
 
 /// The calls that fail: 0 for none.
+#[derive(Clone, Copy, Debug)]
 struct Failing {
     store: u64,
     input: u64,
@@ -196,21 +197,16 @@ fn specifications_of_three_files_are_counted_together(rt: HostRuntime) -> Result
     Ok(())
 }
 
+fn with_feeds(alloc: Global, count: u32, status: u8, text: &[u8]) -> Result<bool, OutOfMemory> {
+    let feeds = repeated(alloc, b"\n", count)?;
+    let files = [("fc", SPECS), ("fc.subs", feeds.as_slice())];
+    answers(alloc, &files, RECORDS, &NONE_FAILS, status, text)
+}
+
 #[test]
 fn a_substitution_file_past_its_limit(rt: HostRuntime) -> Result<(), Fail> {
-    let feeds = repeated(rt.alloc(), b"\n", 1_048_577)?;
-    let files = [("fc", SPECS), ("fc.subs", feeds.as_slice())];
-    assert!(rt;
-        answers(
-            rt.alloc(),
-            &files,
-            RECORDS,
-            &NONE_FAILS,
-            255,
-            b"relabel: limit: bytes of fc.subs\n"
-        )?
-    );
-    let files = [("fc", SPECS), ("fc.subs", &feeds.as_slice()[1..])];
-    assert!(rt; answers(rt.alloc(), &files, RECORDS, &NONE_FAILS, 0, REPORT)?);
+    let line = b"relabel: limit: bytes of fc.subs\n";
+    assert!(rt; with_feeds(rt.alloc(), 1_048_577, 255, line)?);
+    assert!(rt; with_feeds(rt.alloc(), 1_048_576, 0, REPORT)?);
     Ok(())
 }
