@@ -3,6 +3,8 @@
 
 mod lines;
 mod message;
+#[cfg(test)]
+mod tests;
 
 pub use lines::{add_no_default, add_relabel, line, report};
 pub use message::Message;

@@ -4,6 +4,8 @@
 mod rule;
 mod rule_set;
 mod scratch;
+#[cfg(test)]
+mod tests;
 
 pub use rule_set::RuleSet;
 pub use scratch::Scratch;

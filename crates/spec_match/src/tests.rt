@@ -1,0 +1,94 @@
+ghost use Rattle.std.specs.Prelude.{◌≡◌, ◌<◌, ◌^◌, length};
+
+use crate::rule_set::RuleSet;
+use crate::scratch::Scratch;
+use label_base::{Asked, EntryKind, NormPath, Part, Row, Steps};
+use spec_reader::{Spec, read_specs};
+use std::alloc::Global;
+use std::marker::Brand;
+use std::sync::ledger::{Blank, Ledger};
+
+fn counted<L: Ledger>(
+    alloc: Global,
+    rules: &RuleSet,
+    path: &NormPath,
+    asked: Asked,
+    blank: Blank,
+) -> Option<u32>
+    requires name { blank.name ≡ L.name }
+    requires parts { blank.parts ≡ L.parts }
+    requires some { 0 < blank.parts }
+{
+    let mut steps = Steps::<L>::open(blank);
+    match Scratch::new(alloc, rules) {
+        Ok(mut scratch) => rules.last_match(&mut scratch, path, asked, &mut steps),
+        Err(_) => None,
+    }
+}
+
+fn looked_up(alloc: Global, rules: &RuleSet, path: &NormPath, asked: Asked) -> Option<u32> {
+    counted::<Brand>(alloc, rules, path, asked, Blank::new(1))
+}
+
+fn found(alloc: Global, specs: Row<Spec>, path: &[u8], asked: Asked) -> Option<u32>
+    requires { length specs < 2 ^ 32 }
+{
+    let Ok(rules) = RuleSet::new(alloc, specs) else {
+        return None;
+    };
+    let Ok(path) = NormPath::read(alloc, path) else {
+        return None;
+    };
+    looked_up(alloc, &rules, &path, asked)
+}
+
+// The index of the last match, or 99 where the specifications can't be read.
+fn last(alloc: Global, specs: &[u8], path: &[u8], asked: Asked) -> Option<u32>
+    requires { length specs.now < 2 ^ 32 }
+{
+    match read_specs(alloc, specs, Part::Base, 9) {
+        Ok(specs) => found(alloc, specs, path, asked),
+        Err(_) => Some(99),
+    }
+}
+
+#[test]
+fn the_last_match_decides(rt: HostRuntime) {
+    let specs = b"/usr/.* <<none>>\n/usr/bin/.* <<none>>\n/usr/bin/ls -- <<none>>\n";
+    let file = Asked::Of(EntryKind::Regular);
+    assert_eq!(rt; last(rt.alloc(), specs, b"/usr/bin/ls", file), Some(2));
+    assert_eq!(rt; last(rt.alloc(), specs, b"/usr/bin/cat", file), Some(1));
+    assert_eq!(rt; last(rt.alloc(), specs, b"/usr/lib", file), Some(0));
+    assert_eq!(rt; last(rt.alloc(), specs, b"/usr", file), None);
+}
+
+#[test]
+fn an_escaped_name_is_the_name_alone(rt: HostRuntime) {
+    let specs = b"/etc/.* <<none>>\n/etc/foo\\.conf <<none>>\n";
+    assert_eq!(rt;
+        last(rt.alloc(), specs, b"/etc/foo.conf", Asked::Any),
+        Some(1)
+    );
+    assert_eq!(rt;
+        last(rt.alloc(), specs, b"/etc/fooxconf", Asked::Any),
+        Some(0)
+    );
+}
+
+#[test]
+fn types_apply_to_their_own(rt: HostRuntime) {
+    let specs = b"/x/.* -l <<none>>\n/x/.* -d <<none>>\n";
+    assert_eq!(rt;
+        last(rt.alloc(), specs, b"/x/a", Asked::Of(EntryKind::Link)),
+        Some(0)
+    );
+    assert_eq!(rt;
+        last(rt.alloc(), specs, b"/x/a", Asked::Of(EntryKind::Directory)),
+        Some(1)
+    );
+    assert_eq!(rt;
+        last(rt.alloc(), specs, b"/x/a", Asked::Of(EntryKind::Regular)),
+        None
+    );
+    assert_eq!(rt; last(rt.alloc(), specs, b"/x/a", Asked::Any), Some(1));
+}
