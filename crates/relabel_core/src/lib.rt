@@ -6,3 +6,6 @@ mod sequential;
 
 pub use rules::Rules;
 pub use sequential::{Walked, walk};
+
+#[cfg(test)]
+mod tests;
