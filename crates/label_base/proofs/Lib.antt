@@ -8,3 +8,4 @@ pub mod NumberLemmas
 pub mod EscapeLemmas
 pub mod Sending
 pub mod PathMoves
+pub mod PathFronts

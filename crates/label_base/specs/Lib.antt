@@ -6,6 +6,7 @@ pub mod Lines
 pub mod Number
 pub mod Path
 pub mod PathCause
+pub mod PathFront
 pub mod PathText
 pub mod Pieces
 pub mod Reading

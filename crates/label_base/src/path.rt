@@ -15,6 +15,7 @@ use crate::bytes::Bytes;
 use crate::cut::cut_at;
 use crate::memory::OutOfMemory;
 use crate::path_fault::PathFault;
+use crate::path_key::PathKey;
 use std::alloc::Global;
 use std::cmp::Ordering;
 use std::marker::Model;
@@ -176,7 +177,7 @@ fn piece_at(text: &[u8], i: usize) -> &[u8]
     cut_at(b'/', rest).0
 }
 
-fn rank(byte: u8) -> u16
+pub(crate) fn rank(byte: u8) -> u16
     ensures { result ≡ byte_rank byte }
 {
     if byte == b'/' { 0 } else { byte as u16 + 1 }
@@ -198,7 +199,7 @@ fn behind_same<'a>(text: &'a [u8], other: &'a [u8]) -> Option<(&'a [u8], &'a [u8
 }
 
 // The order of paths' texts. Paths of one tree have long fronts in common.
-fn cmp_texts(text: &[u8], other: &[u8]) -> Ordering
+pub(crate) fn cmp_texts(text: &[u8], other: &[u8]) -> Ordering
     ensures { result ≡ text_cmp text.now other.now }
 {
     let mut left = text;
@@ -341,6 +342,13 @@ impl NormPath {
         text_or_slash(self.text.as_slice())
     }
 
+    /// The path, made ready to be sorted among many.
+    pub fn key(&self) -> PathKey<'_>
+        ensures { result ≡ self.now }
+    {
+        PathKey::of_text(self.text.as_slice())
+    }
+
     /// A copy of the text of the path.
     pub fn text(&self, alloc: Global) -> Result<Bytes, OutOfMemory>
         ensures { IfOk result (λ text. text ≡ path_text self.now) }
@@ -440,6 +448,16 @@ mod tests {
         assert!(rt; !top.is_at_or_below(&path));
         assert!(rt; top.is_at_or_below(&NormPath::root(rt.alloc())));
         assert!(rt; !NormPath::read(rt.alloc(), b"/usr2")?.is_at_or_below(&top));
+        Ok(())
+    }
+
+    #[test]
+    fn a_front_replaced(rt: HostRuntime) -> Result<(), Fail> {
+        let path = NormPath::read(rt.alloc(), b"/usr/lib64/a/b")?;
+        let source = NormPath::read(rt.alloc(), b"/usr/lib64")?;
+        let target = NormPath::read(rt.alloc(), b"/lib")?;
+        let changed = path.replaced(rt.alloc(), &source, &target)?;
+        assert_eq!(rt; changed.as_text(), b"/lib/a/b".as_slice());
         Ok(())
     }
 

@@ -91,8 +91,8 @@ next_more qs i k old new l e h =
     rw (t, any_push (take i qs) (get_or qs i 0) k, ← e) h
 
 -- a table of rows
-pub table_old : (table row : List ℕ) (start k : ℕ) → 64 * start + k < 64 * length table → bit (table ++ row) (64 * start + k) ≡ bit table (64 * start + k)
-table_old table row start k l = rw (get_or_append_left table row 0 ((64 * start + k) / 64) (omega arith)) refl
+pub table_old : (table added : List ℕ) (start k : ℕ) → 64 * start + k < 64 * length table → bit (table ++ added) (64 * start + k) ≡ bit table (64 * start + k)
+table_old table added start k l = rw (get_or_append_left table added 0 ((64 * start + k) / 64) (omega arith)) refl
 
 pub table_new : (table row : List ℕ) (k : ℕ) → bit (table ++ row) (64 * length table + k) ≡ bit row k
 table_new table row k =

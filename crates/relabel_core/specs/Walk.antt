@@ -1,7 +1,7 @@
 -- What one walk over a tree means: each entry by itself, no running state.
-use Rattle.std.specs.Prelude.{ℕ, Bool, true, List, Option, Some, None, if◌then◌else◌}
+use Rattle.std.specs.Prelude.{true, List, Option, Some, None, if◌then◌else◌}
 use Rattle.std.specs.List.{filter_map}
-use Rattle.label_base.specs.Path.{Path, path_text}
+use Rattle.label_base.specs.Path.{path_text}
 use Rattle.label_base.specs.declared.kind.Asked.TheVariants.{Of}
 use Rattle.context_syntax.specs.Context.{ContextValue}
 use Rattle.context_syntax.specs.Label.{same_label}

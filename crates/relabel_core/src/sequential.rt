@@ -109,15 +109,16 @@ fn add_entry<L: Ledger>(
 fn report_entries<L: Ledger>(
     alloc: Global,
     rules: &Rules,
-    entries: &[Record],
+    tree: &Tree,
     steps: &mut Steps<L>,
 ) -> Result<Bytes, OutOfMemory>
-    ensures report { IfOk result (λ report. report ≡ entries_text rules.now entries.now) }
-    ensures count { steps.new ≤ steps.old + length entries.now }
+    ensures report { IfOk result (λ report. report ≡ entries_text rules.now tree.now) }
+    ensures count { steps.new ≤ steps.old + length tree.now }
 {
     let mut scratch = Scratch::new(alloc, &rules.rules)?;
     let mut report = Bytes::new(alloc);
-    'entries: for entry in entries {
+    'entries: for e in 0..tree.len() {
+        let entry = tree.entry(e);
         add_entry(alloc, rules, entry, &mut scratch, &mut report, steps)?;
     }
     Ok(report)
@@ -136,6 +137,6 @@ pub fn walk<L: Ledger>(
     ensures count { steps.new ≤ steps.old + length tree.now }
 {
     Ok(Walked {
-        report: report_entries(alloc, rules, tree.entries(), steps)?,
+        report: report_entries(alloc, rules, tree, steps)?,
     })
 }

@@ -5,7 +5,7 @@ ghost use Rattle.relabel_program.specs.declared.cause.Cause.TheVariants as cause
 
 use crate::cause::Cause;
 use crate::fault::{out_of_memory_line, refusal_line};
-use label_base::{Sink, write_all};
+use label_base::{Bytes, Sink, write_all};
 use std::alloc::Global;
 
 fn line_told<O: Sink>(out: &mut O, line: &[u8])
@@ -39,11 +39,11 @@ pub fn refuse<O: Sink>(alloc: Global, base: &str, cause: Cause, out: &mut O) -> 
 }
 
 /// Writes the report.
-pub fn finish<O: Sink>(report: &[u8], out: &mut O) -> Cause
+pub fn finish<O: Sink>(report: Bytes, out: &mut O) -> Cause
     ensures end { (result ≡ causes.Done) ⊎ (result ≡ causes.WriteFault) }
-    ensures told { Finishes report.now result (O.written out.old) (O.written out.new) (O.faults out.old) (O.faults out.new) }
+    ensures told { Finishes report result (O.written out.old) (O.written out.new) (O.faults out.old) (O.faults out.new) }
 {
-    match write_all(out, report) {
+    match write_all(out, report.as_slice()) {
         Ok(()) => Cause::Done,
         Err(_) => Cause::WriteFault,
     }

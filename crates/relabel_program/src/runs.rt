@@ -41,7 +41,7 @@ fn ended_run<S: Store, I: Source, O: Sink>(
     ensures usage { IfSome (usage (word_texts words.now)) (λ wrong. (result.cause ≡ causes.Usage wrong.0 wrong.1) ⊎ (result.cause ≡ causes.OutOfMemory)) }
 {
     let cause = match make_report(alloc, words, store, input) {
-        Ok(report) => finish(report.as_slice(), out),
+        Ok(report) => finish(report, out),
         Err(cause) => refuse(alloc, base_word(words), cause, out),
     };
     Outcome {

@@ -92,3 +92,26 @@ fn types_apply_to_their_own(rt: HostRuntime) {
     );
     assert_eq!(rt; last(rt.alloc(), specs, b"/x/a", Asked::Any), Some(1));
 }
+
+// The line of the specification at a place, or 99 where there is none.
+fn line_at(alloc: Global, specs: Row<Spec>, place: u32) -> u32
+    requires { length specs < 2 ^ 32 }
+{
+    match RuleSet::new(alloc, specs) {
+        Ok(rules) if place < rules.len() => rules.spec(place).line,
+        _ => 99,
+    }
+}
+
+#[test]
+fn a_specification_by_its_place(rt: HostRuntime) {
+    let text = b"# two\n/x <<none>>\n\n/y <<none>>\n";
+    match read_specs(rt.alloc(), text, Part::Base, 9) {
+        Ok(specs) => {
+            assert_eq!(rt; line_at(rt.alloc(), specs, 1), 4);
+        }
+        Err(_) => {
+            assert!(rt; false);
+        }
+    }
+}

@@ -5,13 +5,13 @@ use Rattle.std.specs.List.{list_any}
 use Rattle.std.proofs.lemmas.Bool.{true≢false, false_from_ne_true}
 use Rattle.label_base.specs.Path.{Path}
 use Rattle.find_records.specs.declared.record.Record.{Record}
-use Rattle.tree_model.specs.declared.numbered.Numbered.{Numbered}
+use Rattle.tree_model.specs.Numbered.{Numbered}
 use Rattle.tree_model.specs.Entries.{conflict, same_path, first_from, doubled_after, doubled}
 use Rattle.tree_model.specs.Numbered.{numbered_from}
 use Rattle.tree_model.proofs.Members.{Has, has_push, any_has, none_has}
 use Rattle.tree_model.proofs.SameLemmas.{conflict_path, conflict_back, conflict_itself, conflict_at, path_exact, path_same, peace_same}
 use Rattle.tree_model.proofs.Verdicts.{Verdict, IsDoubled}
-use Rattle.tree_model.proofs.NumberedLemmas.{in_low, in_high, in_item, item_in, parts, left, middle}
+use Rattle.tree_model.proofs.NumberedLemmas.{in_low, in_high, in_item, item_in, in_front_or_behind, left, middle}
 
 -- no two are in conflict
 abbrev pub Calm : List Record → Type 0
@@ -72,14 +72,14 @@ module _ (earlier : List Record) (r : Record) (rs : List Record) (calm : Calm ea
         other_is = refl;
         upto = omega (arith, high, f.number_is);
         clashes = conflict_back r p.0.item (conflict_at r p.0.item r y refl same ∙ k);
-        least = λ a b n ha hb c an bn. elim (parts 1 earlier (r ∷ rs) a ha) [
-          | inl ta ↦ elim (parts 1 earlier (r ∷ rs) b hb) [
+        least = λ a b n ha hb c an bn. elim (in_front_or_behind 1 earlier (r ∷ rs) a ha) [
+          | inl ta ↦ elim (in_front_or_behind 1 earlier (r ∷ rs) b hb) [
             | inl tb ↦ absurd (true≢false (sym c ∙ calm a.item b.item (in_item 1 earlier a ta) (in_item 1 earlier b tb)))
             | inr l ↦ omega arith
           ]
           | inr l ↦ omega arith
         ];
-        lowest = λ a ha e. elim (parts 1 earlier (r ∷ rs) a ha) [
+        lowest = λ a ha e. elim (in_front_or_behind 1 earlier (r ∷ rs) a ha) [
           | inl ta ↦ (let l = f.lowest a ta e in omega (arith, l, f.number_is))
           | inr l ↦ omega (arith, high, f.number_is)
         ];

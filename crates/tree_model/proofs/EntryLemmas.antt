@@ -14,7 +14,7 @@ use Rattle.std.proofs.lemmas.List.Sorted.{IsPermutation-sym}
 use Rattle.std.proofs.lemmas.Map.Keys.{sorted_head, sorted_tail}
 use Rattle.label_base.specs.Path.{Path, path_cmp}
 use Rattle.find_records.specs.declared.record.Record.{Record}
-use Rattle.tree_model.specs.declared.numbered.Numbered.{Numbered}
+use Rattle.tree_model.specs.Numbered.{Numbered}
 use Rattle.tree_model.specs.Entries.{placed, entered, entries_of, doubled}
 use Rattle.tree_model.specs.Numbered.{numbered_cmp, numbered_from, item_of}
 use Rattle.tree_model.specs.Runs.{same_place}

@@ -8,3 +8,6 @@ pub mod SortedLemmas
 pub mod EntryLemmas
 pub mod FindLemmas
 pub mod LinkLemmas
+mod PlaceLemmas
+mod SearchLemmas
+mod PassLemmas

@@ -1,7 +1,7 @@
 -- Records and their numbers.
 use Rattle.std.proofs.Common.{◌≡◌, ◌∙◌, ap, sym, refl, subst, ℕ, suc, ◌+◌, ◌<◌, ◌≤◌, List, [], ◌∷◌, ◌++◌, length, arith, inl, inr, ◌⊎◌}
 use Rattle.find_records.specs.declared.record.Record.{Record}
-use Rattle.tree_model.specs.declared.numbered.Numbered.{Numbered}
+use Rattle.tree_model.specs.Numbered.{Numbered}
 use Rattle.tree_model.specs.Numbered.{numbered_from}
 use Rattle.tree_model.proofs.Members.{Has}
 
@@ -34,11 +34,11 @@ one_each n (r ∷ rs) a b ha hb e = elim ha [
 ]
 
 -- the records in front keep their numbers, and those behind have greater ones
-pub parts : (n : ℕ) (xs ys : List Record) (a : Numbered) → Has (numbered_from n (xs ++ ys)) a → Has (numbered_from n xs) a ⊎ (n + length xs ≤ a.number)
-parts n [] ys a h = inr (let l = in_low n ys a h in omega (arith, l))
-parts n (x ∷ xs) ys a h = elim h [
+pub in_front_or_behind : (n : ℕ) (xs ys : List Record) (a : Numbered) → Has (numbered_from n (xs ++ ys)) a → Has (numbered_from n xs) a ⊎ (n + length xs ≤ a.number)
+in_front_or_behind n [] ys a h = inr (let l = in_low n ys a h in omega (arith, l))
+in_front_or_behind n (x ∷ xs) ys a h = elim h [
   | inl q ↦ inl (inl q)
-  | inr t ↦ elim (parts (n + 1) xs ys a t) [ inl s ↦ inl (inr s) | inr l ↦ inr (omega arith) ]
+  | inr t ↦ elim (in_front_or_behind (n + 1) xs ys a t) [ inl s ↦ inl (inr s) | inr l ↦ inr (omega arith) ]
 ]
 
 pub left : (n : ℕ) (xs ys : List Record) (a : Numbered) → Has (numbered_from n xs) a → Has (numbered_from n (xs ++ ys)) a

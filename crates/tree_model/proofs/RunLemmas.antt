@@ -11,7 +11,7 @@ use Rattle.std.proofs.lemmas.Bool.{true≢false}
 use Rattle.std.proofs.lemmas.Cmp.{upto, tied_itself}
 use Rattle.std.proofs.lemmas.Map.Keys.{ge_from_not_lt}
 use Rattle.label_base.specs.Path.{Path, path_cmp}
-use Rattle.tree_model.specs.declared.numbered.Numbered.{Numbered}
+use Rattle.tree_model.specs.Numbered.{Numbered}
 use Rattle.tree_model.specs.Entries.{conflict, same_record}
 use Rattle.tree_model.specs.Numbered.{numbered_cmp}
 use Rattle.tree_model.specs.Runs.{same_place, noted, lesser, passed, doubled_in}

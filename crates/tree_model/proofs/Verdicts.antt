@@ -2,7 +2,7 @@
 use Rattle.std.proofs.Common.{◌≡◌, ◌∙◌, ap, sym, refl, ℕ, ◌≤◌, true, false, List, arith}
 use Rattle.std.specs.Prelude.{Option, Some, None}
 use Rattle.std.proofs.lemmas.Bool.{true≢false}
-use Rattle.tree_model.specs.declared.numbered.Numbered.{Numbered}
+use Rattle.tree_model.specs.Numbered.{Numbered}
 use Rattle.tree_model.specs.Entries.{conflict}
 use Rattle.tree_model.proofs.Members.{Has}
 use Rattle.tree_model.proofs.SameLemmas.{conflict_at, conflict_path}

@@ -1,12 +1,15 @@
 -- Records with their numbers, and their order.
-use Rattle.std.specs.Prelude.{ℕ, ◌+◌, List, [], ◌∷◌}
+use Rattle.std.specs.Prelude.{ℕ, ◌+◌, ◌-◌, List, [], ◌∷◌}
 use Rattle.std.specs.Cmp.{IsTotalOrder, then_total, on_total, nat_cmp_total}
 use Rattle.std.specs.Cmp.Lexicographic.{lists_total, nat_list_cmp_total}
 use Rattle.std.specs.Ordering.{nat_cmp, then_cmp, on}
 use Rattle.std.specs.declared.cmp.Ordering.{Ordering}
 use Rattle.label_base.specs.Path.{path_cmp}
 use Rattle.find_records.specs.declared.record.Record.{Record}
-use Rattle.tree_model.specs.declared.numbered.Numbered.{Numbered}
+
+pub record Numbered : Type 0 where
+  pub number : ℕ
+  pub item : Record
 
 -- by path, and then by number
 abbrev pub numbered_cmp : Numbered → Numbered → Ordering
@@ -22,3 +25,7 @@ numbered_from n (r ∷ rs) = record { number = n; item = r } ∷ numbered_from (
 
 abbrev pub item_of : Numbered → Record
 item_of n = n.item
+
+-- where the record stands among all, counted from 0
+abbrev pub place_of : Numbered → ℕ
+place_of n = n.number - 1

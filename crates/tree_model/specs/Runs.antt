@@ -1,7 +1,7 @@
 -- Doubled records, among records in the order of their paths, and of their numbers where they have one path.
 use Rattle.std.specs.Prelude.{ℕ, Bool, nat_le, List, [], ◌∷◌, Option, Some, None, if◌then◌else◌}
 use Rattle.tree_model.specs.Entries.{same_path, same_record}
-use Rattle.tree_model.specs.declared.numbered.Numbered.{Numbered}
+use Rattle.tree_model.specs.Numbered.{Numbered}
 
 abbrev pub same_place : Numbered → Numbered → Bool
 same_place a b = same_path a.item.path b.item.path

@@ -7,6 +7,6 @@ use Rattle.relabel_core.proofs.sequential.report_entries.Given as goal
 abbrev pub invariant-entries : goal.invariant-entries
 invariant-entries g l = record {
   own : IsScratchOf l.rules.rules l.scratch;
-  written : l.report ++ entries_text l.rules (drop l.entry-index l.entries) ≡ entries_text l.rules l.entries;
-  count : l.steps ≤ l.initial.steps + l.entry-index;
+  written : l.report ++ entries_text l.rules (drop l.e l.tree) ≡ entries_text l.rules l.tree;
+  count : l.steps ≤ l.initial.steps + l.e;
 }

@@ -1,11 +1,10 @@
-use Rattle.std.proofs.Common.{[], ◌+◌, ◌∷◌, arith, length-append}
-use Rattle.tree_model.proofs.NumberedLemmas.{numbered_more}
+use Rattle.std.proofs.Common.{arith}
+use Rattle.tree_model.proofs.PlaceLemmas.{numbered_next}
 use Rattle.tree_model.proofs.building.number_all.Goals as goal
 
-pub loop-item-preserved : goal.loop-item-preserved
-loop-item-preserved c =
-    let xs = c.loop-item.yielded in
+pub records-preserved : goal.records-preserved
+records-preserved c =
     record {
-      count = omega (arith, length-append xs (c.in-Some.item ∷ []), c.loop-item.invariant.count);
-      all = numbered_more 1 (c.loop-item.number + 1) xs c.in-Some.item c.loop-item.all.items c.push.new.self.items c.in_ok-push.ensures.items c.loop-item.invariant.all (omega (arith, c.loop-item.invariant.count));
+      count = omega (arith, c.records.invariant.count);
+      all = numbered_next c.args.records.now c.records.item-index c.records.number c.item-item.result c.records.all.items c.push.new.self.items c.records-test.true c.item-item.is c.records.invariant.count c.records.invariant.all (rw (← c.new.ensures) c.in_ok-push.ensures.items);
     }

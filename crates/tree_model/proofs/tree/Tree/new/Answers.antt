@@ -1,35 +1,32 @@
-use Rattle.std.proofs.Common.{◌≡◌, ◌∙◌, sym, ap, subst, arith}
-use Rattle.std.specs.Prelude.{None}
-use Rattle.tree_model.specs.Entries.{doubled, entries_of}
-use Rattle.tree_model.specs.Runs.{doubled_in}
-use Rattle.tree_model.specs.Tree.{ByPath}
+use Rattle.std.proofs.Common.{◌≡◌, ◌≤◌, sym, subst, arith, length}
+use Rattle.std.specs.Prelude.{None, Ok}
+use Rattle.tree_model.specs.Entries.{doubled, entries_of, tree_of}
+use Rattle.tree_model.specs.Tree.{ByPath, entries_in}
 use Rattle.tree_model.proofs.EntryLemmas.{entries_pairs, entries_same}
+use Rattle.tree_model.proofs.PlaceLemmas.{calm_tree, kept_tree}
 use Rattle.tree_model.proofs.tree.Tree.new.Goals as goal
+
+answer : (c : goal.After-root) → tree_of c.args.records ≡ Ok (entries_in c.args.records c.in_ok-order.order.items)
+answer c = rw c.as_slice.ensures at c.in_ok-order.ensures.answer
+
+none : (c : goal.After-root) → doubled c.args.records ≡ None
+none c = calm_tree (doubled c.args.records) (entries_of c.args.records) (entries_in c.args.records c.in_ok-order.order.items) (answer c)
+
+kept : (c : goal.After-root) → entries_in c.args.records c.in_ok-order.order.items ≡ entries_of c.args.records
+kept c = kept_tree (doubled c.args.records) (entries_of c.args.records) (entries_in c.args.records c.in_ok-order.order.items) (answer c)
 
 pub invariant_of-result : goal.invariant_of-result
 invariant_of-result c =
-    let none : doubled c.args.records ≡ None = sym c.in_ok-sorted.ensures.doubled ∙ sym (ap doubled_in c.as_slice.ensures.value) ∙ sym c.find_doubled.ensures ∙ c.in-None.is in
-    let kept = c.in_ok-first_of_each-in-None in
-    let is : kept.field-0 ≡ entries_of c.args.records = kept.ensures.firsts ∙ c.in_ok-sorted.ensures.entries none in (
-      record {
-        by_path = subst ByPath (sym is) (entries_pairs c.args.records);
-        few = omega (arith, kept.ensures.fewer, c.in_ok-sorted.ensures.count);
-      },
-      c.root.ensures,
-    )
+    let few : length c.in_ok-order.order.items ≤ length c.args.records = rw c.as_slice.ensures at c.in_ok-order.ensures.fewer in
+    record {
+      by_path = subst ByPath (sym (kept c)) (entries_pairs c.args.records);
+      within = rw c.as_slice.ensures at c.in_ok-order.ensures.within;
+      few = omega (arith, few, c.requires);
+      root_is = c.root.ensures;
+    }
 
-pub returns-in_ok-first_of_each-in-None-clause-by_path :
-    goal.returns-in_ok-first_of_each-in-None-clause-by_path
-returns-in_ok-first_of_each-in-None-clause-by_path c =
-    let none : doubled c.args.records ≡ None = sym c.in_ok-sorted.ensures.doubled ∙ sym (ap doubled_in c.as_slice.ensures.value) ∙ sym c.find_doubled.ensures ∙ c.in-None.is in
-    let kept = c.in_ok-first_of_each-in-None in
-    let is : kept.field-0 ≡ entries_of c.args.records = kept.ensures.firsts ∙ c.in_ok-sorted.ensures.entries none in
-    subst ByPath (sym is) (entries_pairs c.args.records)
+pub returns-clause-by_path : goal.returns-clause-by_path
+returns-clause-by_path c = subst ByPath (sym (kept c)) (entries_pairs c.args.records)
 
-pub returns-in_ok-first_of_each-in-None-clause-same :
-    goal.returns-in_ok-first_of_each-in-None-clause-same
-returns-in_ok-first_of_each-in-None-clause-same c =
-    let none : doubled c.args.records ≡ None = sym c.in_ok-sorted.ensures.doubled ∙ sym (ap doubled_in c.as_slice.ensures.value) ∙ sym c.find_doubled.ensures ∙ c.in-None.is in
-    let kept = c.in_ok-first_of_each-in-None in
-    let is : kept.field-0 ≡ entries_of c.args.records = kept.ensures.firsts ∙ c.in_ok-sorted.ensures.entries none in
-    entries_same c.args.records kept.field-0 is none
+pub returns-clause-same : goal.returns-clause-same
+returns-clause-same c = entries_same c.args.records (entries_in c.args.records c.in_ok-order.order.items) (kept c) (none c)

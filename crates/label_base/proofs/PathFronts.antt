@@ -1,0 +1,121 @@
+-- The first bytes of two texts, as numbers, decide their order, or say that what stands behind does.
+use Rattle.std.proofs.Common.{◌≡◌, refl, sym, ap, ◌∙◌, ℕ, ◌+◌, ◌*◌, ◌-◌, ◌<◌, ◌≤◌, ◌^◌, Bool, true, false, nat_eq, eqb-true, List, [], ◌∷◌, drop, length, get_or, arith, add-one, zero, suc}
+use Rattle.std.proofs.Math.Nat.{pow-le-pow_right}
+use Rattle.std.proofs.lemmas.Grind.{pow_more}
+use Rattle.std.proofs.lemmas.Bool.{false_from_ne_true}
+use Rattle.std.proofs.lemmas.Bool.Decides.{nat_tests}
+use Rattle.std.specs.Cmp.Lexicographic.{pointwise, bytes_decides}
+use Rattle.std.specs.Ordering.{nat_cmp, ordering_then, is_ne}
+use Rattle.std.specs.declared.cmp.Ordering.{Ordering}
+use Rattle.std.specs.declared.cmp.Ordering.TheVariants.{Less, Equal, Greater}
+use Rattle.label_base.specs.PathFront.{digit, front, IsKey}
+use Rattle.label_base.specs.Path.{path_cmp, path_names, same_bytes}
+use Rattle.label_base.proofs.PathTexts.{cmp_normal, same_normal}
+use Rattle.label_base.specs.PathText.{byte_rank, text_cmp}
+
+abbrev pub AreBytes : List ℕ → Type 0
+AreBytes text = (k : ℕ) → get_or text k 0 < 256
+
+then_assoc : (o p q : Ordering) → ordering_then o (ordering_then p q) ≡ ordering_then (ordering_then o p) q
+then_assoc Less p q = refl
+then_assoc Equal p q = refl
+then_assoc Greater p q = refl
+
+bytes_behind : (k : ℕ) (text : List ℕ) → AreBytes text → AreBytes (drop k text)
+bytes_behind zero text h = h
+bytes_behind (suc k) [] h = h
+bytes_behind (suc k) (b ∷ bs) h = bytes_behind k bs (λ i. h (suc i))
+
+drop_one : (k : ℕ) (text : List ℕ) → drop 1 (drop k text) ≡ drop (suc k) text
+drop_one zero text = refl
+drop_one (suc k) [] = refl
+drop_one (suc k) (b ∷ bs) = drop_one k bs
+
+rank_small : (b : ℕ) → b < 256 → byte_rank b < 257
+rank_small b h = grind (arith, nat_tests)
+
+digit_small : (text : List ℕ) → AreBytes text → digit text < 512
+digit_small [] h = omega arith
+digit_small (b ∷ bs) h = let r = rank_small b (h 0) in omega (arith, r)
+
+cmp_more : (a b : ℕ) → nat_cmp (a + 1) (b + 1) ≡ nat_cmp a b
+cmp_more a b = grind (arith, nat_tests)
+
+cmp_none_left : (n : ℕ) → nat_cmp 0 (n + 1) ≡ Less
+cmp_none_left n = grind (arith, nat_tests)
+
+cmp_none_right : (n : ℕ) → nat_cmp (n + 1) 0 ≡ Greater
+cmp_none_right n = grind (arith, nat_tests)
+
+-- the first byte's digit, and then what stands behind it
+by_digit : (xs ys : List ℕ) → text_cmp xs ys ≡ ordering_then (nat_cmp (digit xs) (digit ys)) (text_cmp (drop 1 xs) (drop 1 ys))
+by_digit [] [] = refl
+by_digit [] (y ∷ ys) = rw (cmp_none_left (byte_rank y)) refl
+by_digit (x ∷ xs) [] = rw (cmp_none_right (byte_rank x)) refl
+by_digit (x ∷ xs) (y ∷ ys) = rw (cmp_more (byte_rank x) (byte_rank y)) refl
+
+-- numbers of two digits are compared by the first and then by the second
+digits_cmp : (a b d e : ℕ) → d < 512 → e < 512 → nat_cmp (a * 512 + d) (b * 512 + e) ≡ ordering_then (nat_cmp a b) (nat_cmp d e)
+digits_cmp a b d e h g = grind (arith, nat_tests)
+
+pub by_front : (k : ℕ) (xs ys : List ℕ) → AreBytes xs → AreBytes ys
+    → text_cmp xs ys ≡ ordering_then (nat_cmp (front xs k) (front ys k)) (text_cmp (drop k xs) (drop k ys))
+by_front zero xs ys h g = refl
+by_front (suc k) xs ys h g =
+    let x = drop k xs in
+    let y = drop k ys in
+    let above = nat_cmp (front xs k) (front ys k) in
+    let here = nat_cmp (digit x) (digit y) in
+    let next : ordering_then here (text_cmp (drop 1 x) (drop 1 y)) ≡ ordering_then here (text_cmp (drop (suc k) xs) (drop (suc k) ys))
+    = ap (λ l. ordering_then here (text_cmp l (drop 1 y))) (drop_one k xs) ∙ ap (λ l. ordering_then here (text_cmp (drop (suc k) xs) l)) (drop_one k ys) in
+    by_front k xs ys h g
+    ∙ ap (ordering_then above) (by_digit x y ∙ next)
+    ∙ then_assoc above here (text_cmp (drop (suc k) xs) (drop (suc k) ys))
+    ∙ ap (λ o. ordering_then o (text_cmp (drop (suc k) xs) (drop (suc k) ys)))
+    (sym (digits_cmp (front xs k) (front ys k) (digit x) (digit y) (digit_small x (bytes_behind k xs h)) (digit_small y (bytes_behind k ys g))))
+
+-- seven digits fit into a word
+pub word_small : (k word : ℕ) → k < 7 → word < 512 ^ k → word < 512 ^ 6
+word_small k word h g = let p : 512 ^ k ≤ 512 ^ 6 =
+    (let few : k ≤ 6 = omega (arith, h) in pow-le-pow_right {n = 512} (omega arith) {i = k} {j = 6} few) in
+    omega (arith, g, p)
+
+pub next_word : (k word d : ℕ) → word < 512 ^ k → d < 512 → word * 512 + d < 512 ^ (k + 1)
+next_word k word d h g = let p : 512 ^ (k + 1) ≡ 512 ^ k * 512 = pow_more 512 k in omega (arith, h, g, p)
+
+pub word_fits : (word d : ℕ) → word < 512 ^ 6 → d < 512 → word * 512 + d < 18446744073709551616
+word_fits word d h g = omega (arith, h, g)
+
+decided : (r rest : Ordering) → is_ne r ≡ true → ordering_then r rest ≡ r
+decided Less rest h = refl
+decided Equal rest h = cc
+decided Greater rest h = refl
+
+-- unequal words decide the order of paths
+pub by_words : (xs ys : List ℕ) (first second last other_first other_second other_last : ℕ) (r : Ordering) → IsKey xs first second last → IsKey ys other_first other_second other_last
+    → r ≡ ordering_then (nat_cmp first other_first) (nat_cmp second other_second) → is_ne r ≡ true → r ≡ path_cmp (path_names xs) (path_names ys)
+by_words xs ys first second last other_first other_second other_last r own others e n =
+    let front_is : nat_cmp first other_first ≡ nat_cmp (front xs 7) (front ys 7) = ap (λ a. nat_cmp a other_first) own.first_is ∙ ap (nat_cmp (front xs 7)) others.first_is in
+    let next_is : nat_cmp second other_second ≡ nat_cmp (front (drop 7 xs) 7) (front (drop 7 ys) 7) = ap (λ a. nat_cmp a other_second) own.second_is ∙ ap (nat_cmp (front (drop 7 xs) 7)) others.second_is in
+    let rest = text_cmp (drop 7 (drop 7 xs)) (drop 7 (drop 7 ys)) in
+    let whole : text_cmp xs ys ≡ ordering_then (ordering_then (nat_cmp first other_first) (nat_cmp second other_second)) rest =
+    by_front 7 xs ys own.bytes others.bytes
+    ∙ ap (ordering_then (nat_cmp (front xs 7) (front ys 7))) (by_front 7 (drop 7 xs) (drop 7 ys) (bytes_behind 7 xs own.bytes) (bytes_behind 7 ys others.bytes))
+    ∙ then_assoc _ _ rest
+    ∙ ap (λ o. ordering_then (ordering_then o (nat_cmp (front (drop 7 xs) 7) (front (drop 7 ys) 7))) rest) (sym front_is)
+    ∙ ap (λ o. ordering_then (ordering_then (nat_cmp first other_first) o) rest) (sym next_is) in
+    let texts : r ≡ text_cmp xs ys = sym (decided r rest n) ∙ ap (λ o. ordering_then o rest) e ∙ sym whole in
+    cmp_normal xs ys xs ys r own.normal others.normal refl refl texts
+
+pub front_more : (text : List ℕ) (k word d : ℕ) → word ≡ front text k → d ≡ digit (drop k text) → word * 512 + d ≡ front text (k + 1)
+front_more text k word d h g = rw (add-one, h, g) refl
+
+-- texts with other last words differ
+pub by_last : (xs ys : List ℕ) (first second last other_first other_second other_last : ℕ) (r : Bool) → IsKey xs first second last → IsKey ys other_first other_second other_last
+    → (last ≡ other_last → ⊥) → r ≡ nat_eq last other_last → r ≡ pointwise same_bytes (path_names xs) (path_names ys)
+by_last xs ys first second last other_first other_second other_last r own others n e =
+    let words : nat_eq last other_last ≡ false = false_from_ne_true (nat_eq last other_last) (λ t. n (eqb-true last other_last t)) in
+    let texts : same_bytes xs ys ≡ false = false_from_ne_true (same_bytes xs ys) (λ t.
+    let one : xs ≡ ys = (bytes_decides xs ys).0 t in
+    n (own.last_is ∙ ap (λ l. front (drop (length l - 7) l) 7) one ∙ sym others.last_is)) in
+    same_normal xs ys r own.normal others.normal (e ∙ words ∙ sym texts)

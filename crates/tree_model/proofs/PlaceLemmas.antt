@@ -1,0 +1,110 @@
+-- The places of records that were numbered and sorted.
+use Rattle.std.proofs.Common.{◌≡◌, ◌∙◌, ap, sym, refl, ℕ, zero, suc, ◌+◌, ◌-◌, ◌<◌, ◌≤◌, List, [], ◌∷◌, ◌++◌, length, length-take, map, take, get_or, arith, inl, inr}
+use Rattle.std.specs.Prelude.{Option, Some, None, Ok, slice_get, option_map}
+use Rattle.std.proofs.Math.ListN.{get_or-map}
+use Rattle.std.proofs.lemmas.List.{take_more, map_more}
+use Rattle.std.proofs.lemmas.Option.{slice_get-map, slice_get_read, slice_get_within, get_or_from_slice_get}
+use Rattle.label_base.specs.Path.{Path}
+use Rattle.tree_model.specs.Entries.{unless_doubled}
+use Rattle.tree_model.specs.Links.{inode_of}
+use Rattle.std.specs.List.{dedup}
+use Rattle.std.specs.List.Sorted.{IsPermutation}
+use Rattle.std.proofs.lemmas.List.Kept.{Contains-from_dedup}
+use Rattle.std.proofs.lemmas.List.Sorted.{IsPermutation-sym}
+use Rattle.find_records.specs.declared.record.Record.{Record}
+use Rattle.tree_model.specs.Numbered.{Numbered, numbered_from, item_of, place_of}
+use Rattle.tree_model.specs.Runs.{same_place}
+use Rattle.tree_model.specs.Tree.{AreWithin, entries_in, no_record, path_in}
+use Rattle.tree_model.proofs.Members.{Has, has_from_contains, contains_from_has}
+use Rattle.tree_model.proofs.NumberedLemmas.{in_low, in_high, numbered_more}
+use Rattle.tree_model.proofs.SortedLemmas.{has_moved}
+
+next_place : (n m : ℕ) → n + 1 ≤ m → m - n ≡ suc (m - (n + 1))
+next_place n m h = omega (arith, h)
+
+-- a record stands where its number says
+at_number : (n : ℕ) (rs : List Record) (a : Numbered) → Has (numbered_from n rs) a → get_or rs (a.number - n) no_record ≡ a.item
+at_number n [] a h = absurd h
+at_number n (r ∷ rs) a h = elim h [
+  | inl q ↦ (let e : a.number - n ≡ 0 = (let m : n ≡ a.number = ap (λ z. z.number) q in omega (arith, m)) in ap (λ k. get_or (r ∷ rs) k no_record) e ∙ ap (λ z. z.item) q)
+  | inr t ↦ (let l = in_low (n + 1) rs a t in ap (λ k. get_or (r ∷ rs) k no_record) (next_place n a.number l) ∙ at_number (n + 1) rs a t)
+]
+
+abbrev pub Among : List Record → List Numbered → Type 0
+Among records ks = (a : Numbered) → Has ks a → Has (numbered_from 1 records) a
+
+items_at : (records : List Record) (ks : List Numbered) → Among records ks → entries_in records (map place_of ks) ≡ map item_of ks
+items_at records [] f = refl
+items_at records (k ∷ ks) f =
+    let first : get_or records (place_of k) no_record ≡ k.item = at_number 1 records k (f k (inl refl)) in
+    let rest = items_at records ks (λ a h. f a (inr h)) in
+    λ i. first i ∷ rest i
+
+all_within : (records : List Record) (ks : List Numbered) → Among records ks → AreWithin (length records) (map place_of ks)
+all_within records [] f = tt
+all_within records (k ∷ ks) f =
+    let h = f k (inl refl) in
+    let low = in_low 1 records k h in
+    let high = in_high 1 records k h in
+    (omega (arith, low, high), all_within records ks (λ a t. f a (inr t)))
+
+kept_among : (records : List Record) (S : List Numbered) → IsPermutation (numbered_from 1 records) S → Among records (dedup same_place S)
+kept_among records S p a h =
+    let c = has_from_contains S a (Contains-from_dedup same_place S a (contains_from_has (dedup same_place S) a h)) in
+    has_moved S (numbered_from 1 records) (IsPermutation-sym (numbered_from 1 records) S p) a c
+
+pub places_are : (records : List Record) (S : List Numbered) → IsPermutation (numbered_from 1 records) S → entries_in records (map place_of (dedup same_place S)) ≡ map item_of (dedup same_place S)
+places_are records S p = items_at records (dedup same_place S) (kept_among records S p)
+
+pub places_within : (records : List Record) (S : List Numbered) → IsPermutation (numbered_from 1 records) S → AreWithin (length records) (map place_of (dedup same_place S))
+places_within records S p = all_within records (dedup same_place S) (kept_among records S p)
+
+-- a place that is read
+pub within_at : (count : ℕ) (places : List ℕ) (e place : ℕ) → AreWithin count places → e < length places → place ≡ get_or places e place → place < count
+within_at count [] e place w l h = absurd (omega arith)
+within_at count (p ∷ places) zero place w l h = omega (arith, h, w.0)
+within_at count (p ∷ places) (suc e) place w l h = within_at count places e place w.1 (omega arith) h
+
+-- the record that stands there
+pub entry_at : (records : List Record) (places : List ℕ) (e place : ℕ) (r : Record) → e < length places → place ≡ get_or places e place → slice_get records place ≡ Some r → slice_get (entries_in records places) e ≡ Some r
+entry_at records places e place r l h g =
+    slice_get-map (λ p. get_or records p no_record) places e
+    ∙ ap (option_map (λ p. get_or records p no_record)) (slice_get_read places (length places) e place refl l h)
+    ∙ ap Some (get_or_from_slice_get records place r no_record g)
+
+pub length_entries : (records : List Record) (places : List ℕ) → length (entries_in records places) ≡ length places
+length_entries records [] = refl
+length_entries records (p ∷ places) = ap suc (length_entries records places)
+
+length_take_within : {X : Type 0} (xs : List X) (k : ℕ) → k < length xs → length (take k xs) ≡ k
+length_take_within {X} xs k l = omega (arith, length-take {A = X})
+
+-- one record more
+pub numbered_next : (records : List Record) (k number : ℕ) (r : Record) (all new : List Numbered) → k < length records → r ≡ get_or records k r → number ≡ k
+    → all ≡ numbered_from 1 (take k records) → new ≡ all ++ record { number = number + 1; item = r } ∷ [] → new ≡ numbered_from 1 (take (k + 1) records)
+numbered_next records k number r all new l h m e f =
+    let long : length (take k records) ≡ k = length_take_within records k l in
+    numbered_more 1 (number + 1) (take k records) r all new f e (omega (arith, m, long))
+    ∙ ap (numbered_from 1) (sym (take_more records k r l ∙ ap (λ z. take k records ++ z ∷ []) (sym h)))
+
+-- one entry more
+pub inodes_next : (entries : List Record) (k : ℕ) (r : Record) (all new : List (ℕ × ℕ)) → slice_get entries k ≡ Some r
+    → all ≡ map inode_of (take k entries) → new ≡ all ++ inode_of r ∷ [] → new ≡ map inode_of (take (k + 1) entries)
+inodes_next entries k r all new g e f =
+    let l = slice_get_within entries k r g in
+    f ∙ ap (λ z. z ++ inode_of r ∷ []) e
+    ∙ ap (λ z. map inode_of (take k entries) ++ inode_of z ∷ []) (sym (get_or_from_slice_get entries k r r g))
+    ∙ sym (map_more inode_of entries k r l)
+
+-- a tree that is given has the entries, and no record is doubled
+pub calm_tree : (d : Option (ℕ × ℕ)) (entries kept : List Record) → unless_doubled d entries ≡ Ok kept → d ≡ None
+calm_tree None entries kept h = refl
+calm_tree (Some d) entries kept h = cc
+
+pub kept_tree : (d : Option (ℕ × ℕ)) (entries kept : List Record) → unless_doubled d entries ≡ Ok kept → kept ≡ entries
+kept_tree None entries kept h = cc
+kept_tree (Some d) entries kept h = cc
+
+-- the path at a place within is that of the record
+pub path_at : (root : Path) (records : List Record) (place : ℕ) → root ≡ [] → path_in root records place ≡ (get_or records place no_record).path
+path_at root records place e = ap (λ r. path_in r records place) e ∙ get_or-map (λ r. r.path) records place no_record
