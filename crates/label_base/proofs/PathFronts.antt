@@ -1,16 +1,14 @@
 -- The first bytes of two texts, as numbers, decide their order, or say that what stands behind does.
-use Rattle.std.proofs.Common.{◌≡◌, refl, sym, ap, ◌∙◌, ℕ, ◌+◌, ◌*◌, ◌-◌, ◌<◌, ◌≤◌, ◌^◌, Bool, true, false, nat_eq, eqb-true, List, [], ◌∷◌, drop, length, get_or, arith, add-one, zero, suc}
+use Rattle.std.proofs.Common.{◌≡◌, refl, sym, ap, ◌∙◌, ℕ, ◌+◌, ◌*◌, ◌<◌, ◌≤◌, ◌^◌, true, List, [], ◌∷◌, drop, get_or, arith, add-one, zero, suc}
 use Rattle.std.proofs.Math.Nat.{pow-le-pow_right}
 use Rattle.std.proofs.lemmas.Grind.{pow_more}
-use Rattle.std.proofs.lemmas.Bool.{false_from_ne_true}
 use Rattle.std.proofs.lemmas.Bool.Decides.{nat_tests}
-use Rattle.std.specs.Cmp.Lexicographic.{pointwise, bytes_decides}
 use Rattle.std.specs.Ordering.{nat_cmp, ordering_then, is_ne}
 use Rattle.std.specs.declared.cmp.Ordering.{Ordering}
 use Rattle.std.specs.declared.cmp.Ordering.TheVariants.{Less, Equal, Greater}
 use Rattle.label_base.specs.PathFront.{digit, front, IsKey}
-use Rattle.label_base.specs.Path.{path_cmp, path_names, same_bytes}
-use Rattle.label_base.proofs.PathTexts.{cmp_normal, same_normal}
+use Rattle.label_base.specs.Path.{path_cmp, path_names}
+use Rattle.label_base.proofs.PathTexts.{cmp_normal}
 use Rattle.label_base.specs.PathText.{byte_rank, text_cmp}
 
 abbrev pub AreBytes : List ℕ → Type 0
@@ -92,30 +90,26 @@ decided Equal rest h = cc
 decided Greater rest h = refl
 
 -- unequal words decide the order of paths
-pub by_words : (xs ys : List ℕ) (first second last other_first other_second other_last : ℕ) (r : Ordering) → IsKey xs first second last → IsKey ys other_first other_second other_last
-    → r ≡ ordering_then (nat_cmp first other_first) (nat_cmp second other_second) → is_ne r ≡ true → r ≡ path_cmp (path_names xs) (path_names ys)
-by_words xs ys first second last other_first other_second other_last r own others e n =
-    let front_is : nat_cmp first other_first ≡ nat_cmp (front xs 7) (front ys 7) = ap (λ a. nat_cmp a other_first) own.first_is ∙ ap (nat_cmp (front xs 7)) others.first_is in
-    let next_is : nat_cmp second other_second ≡ nat_cmp (front (drop 7 xs) 7) (front (drop 7 ys) 7) = ap (λ a. nat_cmp a other_second) own.second_is ∙ ap (nat_cmp (front (drop 7 xs) 7)) others.second_is in
-    let rest = text_cmp (drop 7 (drop 7 xs)) (drop 7 (drop 7 ys)) in
-    let whole : text_cmp xs ys ≡ ordering_then (ordering_then (nat_cmp first other_first) (nat_cmp second other_second)) rest =
+pub by_words : (xs ys : List ℕ) (a b d a' b' d' : ℕ) (r : Ordering) → IsKey xs a b d → IsKey ys a' b' d'
+    → r ≡ ordering_then (ordering_then (nat_cmp a a') (nat_cmp b b')) (nat_cmp d d') → is_ne r ≡ true → r ≡ path_cmp (path_names xs) (path_names ys)
+by_words xs ys a b d a' b' d' r own others e n =
+    let xs' = drop 7 xs in
+    let ys' = drop 7 ys in
+    let own' = bytes_behind 7 xs own.bytes in
+    let others' = bytes_behind 7 ys others.bytes in
+    let rest = text_cmp (drop 7 (drop 7 xs')) (drop 7 (drop 7 ys')) in
+    let one = nat_cmp (front xs 7) (front ys 7) in
+    let two = nat_cmp (front xs' 7) (front ys' 7) in
+    let three = nat_cmp (front (drop 7 xs') 7) (front (drop 7 ys') 7) in
+    let words : r ≡ ordering_then (ordering_then one two) three =
+    e ∙ λ i. ordering_then (ordering_then (nat_cmp (own.first_is i) (others.first_is i)) (nat_cmp (own.second_is i) (others.second_is i))) (nat_cmp (own.third_is i) (others.third_is i)) in
+    let whole : text_cmp xs ys ≡ ordering_then (ordering_then (ordering_then one two) three) rest =
     by_front 7 xs ys own.bytes others.bytes
-    ∙ ap (ordering_then (nat_cmp (front xs 7) (front ys 7))) (by_front 7 (drop 7 xs) (drop 7 ys) (bytes_behind 7 xs own.bytes) (bytes_behind 7 ys others.bytes))
-    ∙ then_assoc _ _ rest
-    ∙ ap (λ o. ordering_then (ordering_then o (nat_cmp (front (drop 7 xs) 7) (front (drop 7 ys) 7))) rest) (sym front_is)
-    ∙ ap (λ o. ordering_then (ordering_then (nat_cmp first other_first) o) rest) (sym next_is) in
-    let texts : r ≡ text_cmp xs ys = sym (decided r rest n) ∙ ap (λ o. ordering_then o rest) e ∙ sym whole in
+    ∙ ap (ordering_then one) (by_front 7 xs' ys' own' others' ∙ ap (ordering_then two) (by_front 7 (drop 7 xs') (drop 7 ys') (bytes_behind 7 xs' own') (bytes_behind 7 ys' others')))
+    ∙ then_assoc one two (ordering_then three rest)
+    ∙ then_assoc (ordering_then one two) three rest in
+    let texts : r ≡ text_cmp xs ys = sym (decided r rest n) ∙ ap (λ o. ordering_then o rest) words ∙ sym whole in
     cmp_normal xs ys xs ys r own.normal others.normal refl refl texts
 
 pub front_more : (text : List ℕ) (k word d : ℕ) → word ≡ front text k → d ≡ digit (drop k text) → word * 512 + d ≡ front text (k + 1)
 front_more text k word d h g = rw (add-one, h, g) refl
-
--- texts with other last words differ
-pub by_last : (xs ys : List ℕ) (first second last other_first other_second other_last : ℕ) (r : Bool) → IsKey xs first second last → IsKey ys other_first other_second other_last
-    → (last ≡ other_last → ⊥) → r ≡ nat_eq last other_last → r ≡ pointwise same_bytes (path_names xs) (path_names ys)
-by_last xs ys first second last other_first other_second other_last r own others n e =
-    let words : nat_eq last other_last ≡ false = false_from_ne_true (nat_eq last other_last) (λ t. n (eqb-true last other_last t)) in
-    let texts : same_bytes xs ys ≡ false = false_from_ne_true (same_bytes xs ys) (λ t.
-    let one : xs ≡ ys = (bytes_decides xs ys).0 t in
-    n (own.last_is ∙ ap (λ l. front (drop (length l - 7) l) 7) one ∙ sym others.last_is)) in
-    same_normal xs ys r own.normal others.normal (e ∙ words ∙ sym texts)

@@ -1,5 +1,5 @@
 -- The first bytes of a path's text as a number, so that of two texts the lower number has the earlier path.
-use Rattle.std.specs.Prelude.{◌≡◌, ℕ, zero, suc, ◌+◌, ◌*◌, ◌-◌, ◌<◌, List, [], ◌∷◌, drop, length, get_or}
+use Rattle.std.specs.Prelude.{◌≡◌, ℕ, zero, suc, ◌+◌, ◌*◌, ◌<◌, List, [], ◌∷◌, drop, get_or}
 use Rattle.label_base.specs.PathText.{byte_rank, IsNormal}
 
 -- the first byte's digit to the base 512: none at the text's end, which stands before each byte
@@ -12,10 +12,10 @@ abbrev pub front : List ℕ → ℕ → ℕ
 front text zero = 0
 front text (suc k) = front text k * 512 + digit (drop k text)
 
--- the words of a text's first bytes and of its last ones; the bytes are below 256
-pub record IsKey (text : List ℕ) (first second last : ℕ) : Type 0 where
+-- the words of a text's first bytes; the bytes are below 256
+pub record IsKey (text : List ℕ) (first second third : ℕ) : Type 0 where
   pub normal : IsNormal text
   pub bytes : (k : ℕ) → get_or text k 0 < 256
   pub first_is : first ≡ front text 7
   pub second_is : second ≡ front (drop 7 text) 7
-  pub last_is : last ≡ front (drop (length text - 7) text) 7
+  pub third_is : third ≡ front (drop 7 (drop 7 text)) 7

@@ -1,10 +1,10 @@
 ghost use Rattle.std.specs.Cmp.{partial_equiv_from_equiv, partial_order_from_own_ties};
 ghost use Rattle.std.specs.Cmp.Rules.{comparing};
 ghost use Rattle.std.specs.Cmp.Lexicographic.{pointwise, lists_total, lists_ties, texts_ties, lists_equiv, slice_cmp, nat_list_cmp_total, nat_list_eq_equiv};
-ghost use Rattle.std.specs.Ordering.{as_partial_cmp, nat_cmp, ordering_then};
+ghost use Rattle.std.specs.Ordering.{as_partial_cmp, nat_cmp};
 ghost use Rattle.std.specs.Str.{bytes_eq};
 ghost use Rattle.std.proofs.Common.{rules};
-ghost use Rattle.std.specs.Prelude.{◌≡◌, ◌<◌, ◌-◌, drop, length};
+ghost use Rattle.std.specs.Prelude.{◌≡◌, ◌<◌, drop};
 ghost use Rattle.label_base.specs.Path.{path_cmp, path_names};
 ghost use Rattle.label_base.specs.PathFront.{digit, front};
 ghost use Rattle.label_base.specs.PathText.{IsNormal, text_cmp};
@@ -18,13 +18,13 @@ const DIGITS: usize = 7;
 
 /// A path to be sorted among many, seen as the path.
 ///
-/// The first bytes of its text and the last ones stand in words that are compared first, so that most comparisons need not look
-/// at the text, which lies elsewhere in memory.
+/// The first 21 bytes of its text stand in words that are compared first, so that most comparisons need not look at the text,
+/// which lies elsewhere in memory.
 #[derive(Debug, Drop)]
 pub struct PathKey<'a> {
     first: u64,
     second: u64,
-    last: u64,
+    third: u64,
     text: &'a [u8],
 }
 
@@ -37,7 +37,7 @@ impl<'a> Model for PathKey<'a> {
 
     ghost view = { λ k. path_names k.text.now };
 
-    ghost invariant = { λ k. IsKey k.text.now k.first k.second k.last };
+    ghost invariant = { λ k. IsKey k.text.now k.first k.second k.third };
 }
 
 fn digit(text: &[u8], place: usize) -> u64
@@ -71,29 +71,17 @@ fn behind_front(text: &[u8]) -> &[u8]
     &text[DIGITS..]
 }
 
-// The bytes that the last word holds.
-fn end(text: &[u8]) -> &[u8]
-    ensures { result.now ≡ drop (length text.now - 7) text.now }
-{
-    &text[text.len().saturating_sub(DIGITS)..]
-}
-
-fn cmp_words(first: u64, second: u64, other_first: u64, other_second: u64) -> Ordering
-    ensures { result ≡ ordering_then (nat_cmp first other_first) (nat_cmp second other_second) }
-{
-    first.cmp(&other_first).then(second.cmp(&other_second))
-}
-
 impl<'a> PathKey<'a> {
     // The key of a path that is kept as this text.
     pub(crate) fn of_text(text: &'a [u8]) -> PathKey<'a>
         requires { IsNormal text.now }
         ensures { result ≡ path_names text.now }
     {
+        let behind = behind_front(text);
         PathKey {
             first: front(text),
-            second: front(behind_front(text)),
-            last: front(end(text)),
+            second: front(behind),
+            third: front(behind_front(behind)),
             text,
         }
     }
@@ -105,7 +93,7 @@ impl<'a> PartialEq for PathKey<'a> {
     ghost laws = { partial_equiv_from_equiv (lists_equiv nat_list_eq_equiv) };
 
     fn eq(&self, other: &PathKey<'a>) -> bool {
-        self.last == other.last && self.text == other.text
+        self.text == other.text
     }
 }
 
@@ -133,7 +121,11 @@ impl<'a> Ord for PathKey<'a> {
     ghost matches_eq = { λ x y. lists_ties (slice_cmp nat_cmp) texts_ties x y };
 
     fn cmp(&self, other: &PathKey<'a>) -> Ordering {
-        let by_words = cmp_words(self.first, self.second, other.first, other.second);
+        let by_words = self
+            .first
+            .cmp(&other.first)
+            .then(self.second.cmp(&other.second))
+            .then(self.third.cmp(&other.third));
         if by_words.is_ne() {
             return by_words;
         }
