@@ -1,8 +1,8 @@
 -- The places of records that were numbered and sorted.
-use Rattle.std.proofs.Common.{◌≡◌, ◌∙◌, ap, sym, refl, ℕ, zero, suc, ◌+◌, ◌-◌, ◌<◌, ◌≤◌, List, [], ◌∷◌, ◌++◌, length, length-take, map, take, get_or, arith, inl, inr}
+use Rattle.std.proofs.Common.{◌≡◌, ◌∙◌, ap, sym, refl, ℕ, zero, suc, ◌+◌, ◌-◌, ◌<◌, ◌≤◌, List, [], ◌∷◌, ◌++◌, length, map, take, get_or, arith, inl, inr}
 use Rattle.std.specs.Prelude.{Option, Some, None, Ok, slice_get, option_map}
 use Rattle.std.proofs.Math.ListN.{get_or-map}
-use Rattle.std.proofs.lemmas.List.{take_more, map_more}
+use Rattle.std.proofs.lemmas.List.{take_more, map_more, length-map, length-take-le}
 use Rattle.std.proofs.lemmas.Option.{slice_get-map, slice_get_read, slice_get_within, get_or_from_slice_get}
 use Rattle.label_base.specs.Path.{Path}
 use Rattle.tree_model.specs.Entries.{unless_doubled}
@@ -73,17 +73,13 @@ entry_at records places e place r l h g =
     ∙ ap Some (get_or_from_slice_get records place r no_record g)
 
 pub length_entries : (records : List Record) (places : List ℕ) → length (entries_in records places) ≡ length places
-length_entries records [] = refl
-length_entries records (p ∷ places) = ap suc (length_entries records places)
-
-length_take_within : {X : Type 0} (xs : List X) (k : ℕ) → k < length xs → length (take k xs) ≡ k
-length_take_within {X} xs k l = omega (arith, length-take {A = X})
+length_entries records places = length-map places (λ p. get_or records p no_record)
 
 -- one record more
 pub numbered_next : (records : List Record) (k number : ℕ) (r : Record) (all new : List Numbered) → k < length records → r ≡ get_or records k r → number ≡ k
     → all ≡ numbered_from 1 (take k records) → new ≡ all ++ record { number = number + 1; item = r } ∷ [] → new ≡ numbered_from 1 (take (k + 1) records)
 numbered_next records k number r all new l h m e f =
-    let long : length (take k records) ≡ k = length_take_within records k l in
+    let long : length (take k records) ≡ k = length-take-le k records (omega (arith, l)) in
     numbered_more 1 (number + 1) (take k records) r all new f e (omega (arith, m, long))
     ∙ ap (numbered_from 1) (sym (take_more records k r l ∙ ap (λ z. take k records ++ z ∷ []) (sym h)))
 
