@@ -1,90 +1,66 @@
 -- The exit status of a cause, and the line that tells a refusal.
-use Rattle.std.specs.Prelude.{ℕ, List, [], ◌∷◌, ◌++◌, codes}
+use Rattle.std.specs.Prelude.{ℕ, List, [], ◌++◌}
 use Rattle.std.specs.Fmt.{decimal}
 use Rattle.label_base.specs.Escape.{escaped}
 use Rattle.pattern_syntax.specs.declared.pattern_fault.PatternWhy.{PatternWhy}
 use Rattle.pattern_syntax.specs.declared.pattern_fault.PatternWhy.TheVariants as pattern
 use Rattle.spec_reader.specs.declared.spec_fault.SpecWhy.{SpecWhy}
 use Rattle.spec_reader.specs.declared.spec_fault.SpecWhy.TheVariants.{MissingContext, BadKind, BadContext, BadPattern}
-use Rattle.relabel_program.specs.Files.{part_name}
+use Rattle.relabel_program.specs.Names.{name_of}
 use Rattle.relabel_program.specs.declared.cause.Cause.{Cause}
 use Rattle.relabel_program.specs.declared.cause.Cause.TheVariants.{Done, Usage, Missing, SpecRefused, SubRefused, Limit, InputRefused, ReadFault, WriteFault, OutOfMemory}
 use Rattle.relabel_program.specs.declared.cause.LimitKind.{LimitKind}
 use Rattle.relabel_program.specs.declared.cause.LimitKind.TheVariants.{File, Specs}
 use Rattle.relabel_program.specs.declared.cause.UsageWhy.{UsageWhy}
 use Rattle.relabel_program.specs.declared.cause.UsageWhy.TheVariants.{UnknownTool, NotYet}
-use Rattle.relabel_program.specs.declared.fault.Words.{Words}
-use Rattle.relabel_program.specs.declared.fault.Words.TheVariants as words
+use Rattle.relabel_program.specs.declared.names.FileNames.{FileNames}
+use Rattle.relabel_program.specs.declared.fault.TheConstants as texts
 
 abbrev pub status_of : Cause → ℕ
 status_of Done = 0
 status_of ReadFault = 253
 status_of WriteFault = 252
 status_of OutOfMemory = 254
-status_of (Usage index why) = 255
-status_of (Missing name) = 255
-status_of (SpecRefused part line why) = 255
-status_of (SubRefused part line) = 255
-status_of (Limit which) = 255
-status_of InputRefused = 255
+status_of cause = 255
 
--- the fixed words of the lines
-unfoldable pub words_text : Words → List ℕ
-words_text words.Program = codes "relabel: "
-words_text words.UsageWord = codes "usage: word "
-words_text words.Line = codes ": line "
-words_text words.Colon = codes ": "
-words_text words.NotFound = codes ": not found"
-words_text words.NotASubstitution = codes ": not a substitution"
-words_text words.LimitBytes = codes "limit: bytes of "
-words_text words.LimitSpecs = codes "limit: specifications"
-words_text words.RecordsRefused = codes "records refused"
-words_text words.ReadFailed = codes "read failed"
-words_text words.WriteFailed = codes "write failed"
-words_text words.OutOfMemory = codes "out of memory"
-words_text words.UnknownTool = codes "unknown tool"
-words_text words.NotYet = codes "not yet"
-words_text words.MissingContext = codes "missing context"
-words_text words.BadType = codes "bad type"
-words_text words.BadContext = codes "bad context"
-words_text words.PatternSyntax = codes "pattern: syntax at "
-words_text words.PatternUnsupported = codes "pattern: unsupported at "
-words_text words.PatternTooDeep = codes "pattern: too deep at "
-words_text words.PatternTooManyPositions = codes "pattern: too many positions"
+abbrev pub usage_text : UsageWhy → List ℕ
+usage_text UnknownTool = texts.UNKNOWN_TOOL.now
+usage_text NotYet = texts.NOT_YET.now
 
-abbrev pub usage_words : UsageWhy → Words
-usage_words UnknownTool = words.UnknownTool
-usage_words NotYet = words.NotYet
-
+-- where in a pattern's text, counted from 0, the fault stands
 abbrev pub pattern_text : PatternWhy → List ℕ
-pattern_text (pattern.Syntax place) = words_text words.PatternSyntax ++ decimal place
-pattern_text (pattern.UnsupportedPattern place) = words_text words.PatternUnsupported ++ decimal place
-pattern_text (pattern.TooDeep place) = words_text words.PatternTooDeep ++ decimal place
-pattern_text pattern.TooManyPositions = words_text words.PatternTooManyPositions
+pattern_text (pattern.Syntax place) = texts.PATTERN_SYNTAX.now ++ decimal place
+pattern_text (pattern.UnsupportedPattern place) = texts.PATTERN_UNSUPPORTED.now ++ decimal place
+pattern_text (pattern.TooDeep place) = texts.PATTERN_TOO_DEEP.now ++ decimal place
+pattern_text pattern.TooManyPositions = texts.PATTERN_TOO_MANY_POSITIONS.now
 
 abbrev pub spec_text : SpecWhy → List ℕ
-spec_text MissingContext = words_text words.MissingContext
-spec_text BadKind = words_text words.BadType
-spec_text BadContext = words_text words.BadContext
+spec_text MissingContext = texts.MISSING_CONTEXT.now
+spec_text BadKind = texts.BAD_TYPE.now
+spec_text BadContext = texts.BAD_CONTEXT.now
 spec_text (BadPattern why) = pattern_text why
 
-abbrev pub limit_text : List ℕ → LimitKind → List ℕ
-limit_text base (File part) = words_text words.LimitBytes ++ escaped (part_name base part)
-limit_text base Specs = words_text words.LimitSpecs
+abbrev pub limit_text : FileNames → LimitKind → List ℕ
+limit_text names (File part) = texts.LIMIT_BYTES.now ++ escaped (name_of names part)
+limit_text names Specs = texts.LIMIT_SPECS.now
+
+-- a line of a file, counted from 1
+abbrev pub place_text : List ℕ → ℕ → List ℕ
+place_text name line = escaped name ++ texts.LINE.now ++ decimal line
 
 -- what stands between the program's name and the line feed
-abbrev pub refusal_text : List ℕ → Cause → List ℕ
-refusal_text base Done = []
-refusal_text base (Usage index why) = words_text words.UsageWord ++ decimal index ++ words_text words.Colon ++ words_text (usage_words why)
-refusal_text base (Missing name) = escaped name ++ words_text words.NotFound
-refusal_text base (SpecRefused part line why) = escaped (part_name base part) ++ words_text words.Line ++ decimal line ++ words_text words.Colon ++ spec_text why
-refusal_text base (SubRefused part line) = escaped (part_name base part) ++ words_text words.Line ++ decimal line ++ words_text words.NotASubstitution
-refusal_text base (Limit which) = limit_text base which
-refusal_text base InputRefused = words_text words.RecordsRefused
-refusal_text base ReadFault = words_text words.ReadFailed
-refusal_text base WriteFault = words_text words.WriteFailed
-refusal_text base OutOfMemory = words_text words.OutOfMemory
+abbrev pub refusal_text : FileNames → Cause → List ℕ
+refusal_text names Done = []
+refusal_text names (Usage index why) = texts.USAGE_WORD.now ++ decimal index ++ texts.COLON.now ++ usage_text why
+refusal_text names (Missing name) = escaped name ++ texts.NOT_FOUND.now
+refusal_text names (SpecRefused part line why) = place_text (name_of names part) line ++ texts.COLON.now ++ spec_text why
+refusal_text names (SubRefused part line) = place_text (name_of names part) line ++ texts.NOT_A_SUBSTITUTION.now
+refusal_text names (Limit which) = limit_text names which
+refusal_text names InputRefused = texts.RECORDS_REFUSED.now
+refusal_text names ReadFault = texts.READ_FAILED.now
+refusal_text names WriteFault = texts.WRITE_FAILED.now
+refusal_text names OutOfMemory = texts.OUT_OF_MEMORY.now
 
 -- the line that tells a refusal
-abbrev pub fault_line : List ℕ → Cause → List ℕ
-fault_line base cause = words_text words.Program ++ refusal_text base cause ++ 10 ∷ []
+abbrev pub fault_line : FileNames → Cause → List ℕ
+fault_line names cause = texts.PROGRAM.now ++ refusal_text names cause ++ texts.LINE_FEED.now

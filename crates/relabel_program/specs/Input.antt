@@ -9,10 +9,11 @@ use Rattle.tree_model.specs.Links.{has_links}
 use Rattle.tree_model.specs.Tree.{has_root}
 use Rattle.relabel_program.specs.declared.cause.Cause.{Cause}
 use Rattle.relabel_program.specs.declared.cause.Cause.TheVariants.{InputRefused}
+use Rattle.relabel_program.specs.declared.input.TheConstants.{MOST_RECORD_BYTES, MOST_RECORDS}
 
 -- the greatest numbers of records and of their bytes
 abbrev pub record_limits : RecordLimits
-record_limits = record { records = 2097152; bytes = 536870912 }
+record_limits = record { records = MOST_RECORDS; bytes = MOST_RECORD_BYTES }
 
 -- for now hard links and trees without their root are refused
 abbrev pub checked_entries : List Record → Result (List Record) Cause
@@ -28,4 +29,4 @@ entries_read (Err why) = Err InputRefused
 
 -- the entries of the tree that the bytes of the input are
 unfoldable pub entries_of : List ℕ → Result (List Record) Cause
-entries_of bytes = if nat_lt 536870912 (length bytes) then Err InputRefused else entries_read (records_of record_limits bytes)
+entries_of bytes = if nat_lt MOST_RECORD_BYTES (length bytes) then Err InputRefused else entries_read (records_of record_limits bytes)

@@ -1,7 +1,8 @@
 pub mod Words
+pub mod Names
 pub mod Causes
 pub mod Files
 pub mod Input
 pub mod Faults
 pub mod Answer
-pub mod Ending
+pub mod Run

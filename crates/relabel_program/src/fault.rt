@@ -1,42 +1,58 @@
-ghost use Rattle.std.specs.Prelude.{◌≡◌, ◌++◌, ◌∷◌, [], List, ℕ, OnOk, IfOk};
+ghost use Rattle.std.specs.Prelude.{◌≡◌, ◌++◌, OnOk, IfOk};
 ghost use Rattle.std.specs.Fmt.{decimal};
 ghost use Rattle.label_base.specs.Escape.{escaped};
-ghost use Rattle.relabel_program.specs.Faults.{fault_line, limit_text, pattern_text, refusal_text, spec_text, status_of, usage_words, words_text};
-ghost use Rattle.relabel_program.specs.Files.{part_name};
-ghost use Rattle.relabel_program.specs.declared.cause.Cause.TheVariants.{OutOfMemory as out_of_memory};
+ghost use Rattle.relabel_program.specs.Faults.{fault_line, limit_text, pattern_text, place_text, refusal_text, spec_text, status_of, usage_text};
 
 use crate::cause::{Cause, LimitKind, UsageWhy};
-use crate::files::name_of;
-use label_base::{Bytes, OutOfMemory, Part, write_escaped};
+use crate::names::FileNames;
+use label_base::{Bytes, OutOfMemory, write_escaped};
 use pattern_syntax::PatternWhy;
 use spec_reader::SpecWhy;
 use std::alloc::Global;
 
-/// The fixed words of the lines that tell a refusal.
-#[derive(Clone, Copy, Debug, PartialEq, Eq)]
-enum Words {
-    Program,
-    UsageWord,
-    Line,
-    Colon,
-    NotFound,
-    NotASubstitution,
-    LimitBytes,
-    LimitSpecs,
-    RecordsRefused,
-    ReadFailed,
-    WriteFailed,
-    OutOfMemory,
-    UnknownTool,
-    NotYet,
-    MissingContext,
-    BadType,
-    BadContext,
-    PatternSyntax,
-    PatternUnsupported,
-    PatternTooDeep,
-    PatternTooManyPositions,
-}
+const PROGRAM: &str = "relabel: ";
+
+const USAGE_WORD: &str = "usage: word ";
+
+const LINE: &str = ": line ";
+
+const COLON: &str = ": ";
+
+const LINE_FEED: &str = "\n";
+
+const NOT_FOUND: &str = ": not found";
+
+const NOT_A_SUBSTITUTION: &str = ": not a substitution";
+
+const LIMIT_BYTES: &str = "limit: bytes of ";
+
+const LIMIT_SPECS: &str = "limit: specifications";
+
+const RECORDS_REFUSED: &str = "records refused";
+
+const READ_FAILED: &str = "read failed";
+
+const WRITE_FAILED: &str = "write failed";
+
+const OUT_OF_MEMORY: &str = "out of memory";
+
+const UNKNOWN_TOOL: &str = "unknown tool";
+
+const NOT_YET: &str = "not yet";
+
+const MISSING_CONTEXT: &str = "missing context";
+
+const BAD_TYPE: &str = "bad type";
+
+const BAD_CONTEXT: &str = "bad context";
+
+const PATTERN_SYNTAX: &str = "pattern: syntax at ";
+
+const PATTERN_UNSUPPORTED: &str = "pattern: unsupported at ";
+
+const PATTERN_TOO_DEEP: &str = "pattern: too deep at ";
+
+const PATTERN_TOO_MANY_POSITIONS: &str = "pattern: too many positions";
 
 /// The exit status.
 pub fn status(cause: &Cause) -> u8
@@ -51,47 +67,10 @@ pub fn status(cause: &Cause) -> u8
     }
 }
 
-#[tactic(auto, unfolding(crate::specs::Faults::words_text))]
-fn text_of(words: Words) -> &'static [u8]
-    ensures { result.now ≡ words_text words }
+fn add(words: &str, text: &mut Bytes) -> Result<(), OutOfMemory>
+    ensures { OnOk result (text.new ≡ text.old ++ words.now) }
 {
-    match words {
-        Words::Program => b"relabel: ",
-        Words::UsageWord => b"usage: word ",
-        Words::Line => b": line ",
-        Words::Colon => b": ",
-        Words::NotFound => b": not found",
-        Words::NotASubstitution => b": not a substitution",
-        Words::LimitBytes => b"limit: bytes of ",
-        Words::LimitSpecs => b"limit: specifications",
-        Words::RecordsRefused => b"records refused",
-        Words::ReadFailed => b"read failed",
-        Words::WriteFailed => b"write failed",
-        Words::OutOfMemory => b"out of memory",
-        Words::UnknownTool => b"unknown tool",
-        Words::NotYet => b"not yet",
-        Words::MissingContext => b"missing context",
-        Words::BadType => b"bad type",
-        Words::BadContext => b"bad context",
-        Words::PatternSyntax => b"pattern: syntax at ",
-        Words::PatternUnsupported => b"pattern: unsupported at ",
-        Words::PatternTooDeep => b"pattern: too deep at ",
-        Words::PatternTooManyPositions => b"pattern: too many positions",
-    }
-}
-
-/// The line that tells want of memory. It takes none.
-#[tactic(auto, unfolding(crate::specs::Faults::words_text))]
-pub fn out_of_memory_line() -> &'static [u8]
-    ensures { (base : List ℕ) → result.now ≡ fault_line base out_of_memory }
-{
-    b"relabel: out of memory\n"
-}
-
-fn add_words(words: Words, text: &mut Bytes) -> Result<(), OutOfMemory>
-    ensures { OnOk result (text.new ≡ text.old ++ words_text words) }
-{
-    text.push(text_of(words))
+    text.push(words.as_bytes())
 }
 
 fn add_number(alloc: Global, number: u32, text: &mut Bytes) -> Result<(), OutOfMemory>
@@ -100,125 +79,119 @@ fn add_number(alloc: Global, number: u32, text: &mut Bytes) -> Result<(), OutOfM
     text.push(format!(in alloc; "{number}")?.as_bytes())
 }
 
-fn add_name(alloc: Global, base: &str, part: Part, text: &mut Bytes) -> Result<(), OutOfMemory>
-    ensures { OnOk result (text.new ≡ text.old ++ escaped (part_name base.now part)) }
+fn add_name(alloc: Global, name: &str, text: &mut Bytes) -> Result<(), OutOfMemory>
+    ensures { OnOk result (text.new ≡ text.old ++ escaped name.now) }
 {
-    write_escaped(alloc, name_of(alloc, base, part)?.as_str().as_bytes(), text)
+    write_escaped(alloc, name.as_bytes(), text)
+}
+
+// Adds a line's place in a file.
+fn add_place(alloc: Global, name: &str, line: u32, text: &mut Bytes) -> Result<(), OutOfMemory>
+    ensures { OnOk result (text.new ≡ text.old ++ place_text name.now line) }
+{
+    add_name(alloc, name, text)?;
+    add(LINE, text)?;
+    add_number(alloc, line, text)
 }
 
 fn add_pattern(alloc: Global, why: PatternWhy, text: &mut Bytes) -> Result<(), OutOfMemory>
     ensures { OnOk result (text.new ≡ text.old ++ pattern_text why) }
 {
-    match why {
-        PatternWhy::Syntax { at } => {
-            add_words(Words::PatternSyntax, text)?;
-            add_number(alloc, at, text)?;
-            Ok(())
-        }
-        PatternWhy::UnsupportedPattern { at } => {
-            add_words(Words::PatternUnsupported, text)?;
-            add_number(alloc, at, text)?;
-            Ok(())
-        }
-        PatternWhy::TooDeep { at } => {
-            add_words(Words::PatternTooDeep, text)?;
-            add_number(alloc, at, text)?;
-            Ok(())
-        }
-        PatternWhy::TooManyPositions => add_words(Words::PatternTooManyPositions, text),
-    }
+    let (words, place) = match why {
+        PatternWhy::Syntax { at } => (PATTERN_SYNTAX, at),
+        PatternWhy::UnsupportedPattern { at } => (PATTERN_UNSUPPORTED, at),
+        PatternWhy::TooDeep { at } => (PATTERN_TOO_DEEP, at),
+        PatternWhy::TooManyPositions => return add(PATTERN_TOO_MANY_POSITIONS, text),
+    };
+    add(words, text)?;
+    add_number(alloc, place, text)
 }
 
 fn add_why(alloc: Global, why: SpecWhy, text: &mut Bytes) -> Result<(), OutOfMemory>
     ensures { OnOk result (text.new ≡ text.old ++ spec_text why) }
 {
     match why {
-        SpecWhy::MissingContext => add_words(Words::MissingContext, text),
-        SpecWhy::BadKind => add_words(Words::BadType, text),
-        SpecWhy::BadContext => add_words(Words::BadContext, text),
+        SpecWhy::MissingContext => add(MISSING_CONTEXT, text),
+        SpecWhy::BadKind => add(BAD_TYPE, text),
+        SpecWhy::BadContext => add(BAD_CONTEXT, text),
         SpecWhy::BadPattern(why) => add_pattern(alloc, why, text),
     }
 }
 
-fn usage_text(why: UsageWhy) -> Words
-    ensures { result ≡ usage_words why }
+fn usage_words(why: UsageWhy) -> &'static str
+    ensures { result.now ≡ usage_text why }
 {
     match why {
-        UsageWhy::UnknownTool => Words::UnknownTool,
-        UsageWhy::NotYet => Words::NotYet,
+        UsageWhy::UnknownTool => UNKNOWN_TOOL,
+        UsageWhy::NotYet => NOT_YET,
     }
+}
+
+fn add_file_limit(alloc: Global, name: &str, text: &mut Bytes) -> Result<(), OutOfMemory>
+    ensures { OnOk result (text.new ≡ text.old ++ (LIMIT_BYTES.now ++ escaped name.now)) }
+{
+    add(LIMIT_BYTES, text)?;
+    add_name(alloc, name, text)
 }
 
 fn add_limit(
     alloc: Global,
-    base: &str,
+    names: &FileNames,
     which: LimitKind,
     text: &mut Bytes,
 ) -> Result<(), OutOfMemory>
-    ensures { OnOk result (text.new ≡ text.old ++ limit_text base.now which) }
+    ensures { OnOk result (text.new ≡ text.old ++ limit_text names.now which) }
 {
     match which {
-        LimitKind::File(part) => {
-            add_words(Words::LimitBytes, text)?;
-            add_name(alloc, base, part, text)?;
-            Ok(())
-        }
-        LimitKind::Specs => add_words(Words::LimitSpecs, text),
+        LimitKind::File(part) => add_file_limit(alloc, names.name_of(part), text),
+        LimitKind::Specs => add(LIMIT_SPECS, text),
     }
 }
 
 fn add_refusal(
     alloc: Global,
-    base: &str,
+    names: &FileNames,
     cause: &Cause,
     text: &mut Bytes,
 ) -> Result<(), OutOfMemory>
-    ensures { OnOk result (text.new ≡ text.old ++ refusal_text base.now cause.now) }
+    ensures { OnOk result (text.new ≡ text.old ++ refusal_text names.now cause.now) }
 {
     match cause {
         Cause::Done => Ok(()),
         Cause::Usage { index, why } => {
-            add_words(Words::UsageWord, text)?;
+            add(USAGE_WORD, text)?;
             add_number(alloc, *index, text)?;
-            add_words(Words::Colon, text)?;
-            add_words(usage_text(*why), text)?;
-            Ok(())
+            add(COLON, text)?;
+            add(usage_words(*why), text)
         }
         Cause::Missing { name } => {
-            write_escaped(alloc, name.as_str().as_bytes(), text)?;
-            add_words(Words::NotFound, text)?;
-            Ok(())
+            add_name(alloc, name.as_str(), text)?;
+            add(NOT_FOUND, text)
         }
         Cause::SpecRefused { part, line, why } => {
-            add_name(alloc, base, *part, text)?;
-            add_words(Words::Line, text)?;
-            add_number(alloc, *line, text)?;
-            add_words(Words::Colon, text)?;
-            add_why(alloc, *why, text)?;
-            Ok(())
+            add_place(alloc, names.name_of(*part), *line, text)?;
+            add(COLON, text)?;
+            add_why(alloc, *why, text)
         }
         Cause::SubRefused { part, line } => {
-            add_name(alloc, base, *part, text)?;
-            add_words(Words::Line, text)?;
-            add_number(alloc, *line, text)?;
-            add_words(Words::NotASubstitution, text)?;
-            Ok(())
+            add_place(alloc, names.name_of(*part), *line, text)?;
+            add(NOT_A_SUBSTITUTION, text)
         }
-        Cause::Limit { which } => add_limit(alloc, base, *which, text),
-        Cause::InputRefused => add_words(Words::RecordsRefused, text),
-        Cause::ReadFault => add_words(Words::ReadFailed, text),
-        Cause::WriteFault => add_words(Words::WriteFailed, text),
-        Cause::OutOfMemory => add_words(Words::OutOfMemory, text),
+        Cause::Limit { which } => add_limit(alloc, names, *which, text),
+        Cause::InputRefused => add(RECORDS_REFUSED, text),
+        Cause::ReadFault => add(READ_FAILED, text),
+        Cause::WriteFault => add(WRITE_FAILED, text),
+        Cause::OutOfMemory => add(OUT_OF_MEMORY, text),
     }
 }
 
-/// The line that tells a refusal. `base` is the name of the file of specifications.
-pub fn refusal_line(alloc: Global, base: &str, cause: &Cause) -> Result<Bytes, OutOfMemory>
-    ensures { IfOk result (λ line. line ≡ fault_line base.now cause.now) }
+/// The line that tells a refusal.
+pub fn refusal_line(alloc: Global, names: &FileNames, cause: &Cause) -> Result<Bytes, OutOfMemory>
+    ensures { IfOk result (λ line. line ≡ fault_line names.now cause.now) }
 {
     let mut text = Bytes::new(alloc);
-    add_words(Words::Program, &mut text)?;
-    add_refusal(alloc, base, cause, &mut text)?;
-    text.push(b"\n")?;
+    add(PROGRAM, &mut text)?;
+    add_refusal(alloc, names, cause, &mut text)?;
+    add(LINE_FEED, &mut text)?;
     Ok(text)
 }

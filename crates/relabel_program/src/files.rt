@@ -1,9 +1,10 @@
-ghost use Rattle.std.specs.Prelude.{◌≡◌, ℕ, ◌≤◌, ◌-◌, ◌++◌, IfOk, IfErr, IfSome, OnOk, length};
+ghost use Rattle.std.specs.Prelude.{◌≡◌, ℕ, ◌≤◌, ◌-◌, IfOk, IfErr, IfSome, OnOk, length};
 ghost use Rattle.relabel_program.specs.Causes.{Counts, Gives, IsFileCause};
-ghost use Rattle.relabel_program.specs.Files.{absent, list_of, most_bytes, most_specs, part_bytes, part_name, part_specs, part_subs, rules_of, suffix};
+ghost use Rattle.relabel_program.specs.Files.{absent, list_of, most_bytes, part_bytes, part_specs, part_subs, rules_of};
 
 use crate::cause::{Cause, LimitKind};
-use label_base::{Bytes, FileFault, Name, OutOfMemory, Part, Row, Store};
+use crate::names::FileNames;
+use label_base::{Bytes, FileFault, Name, Part, Row, Store};
 use path_subs::{Sub, SubFault, Subs, read_subs};
 use relabel_core::Rules;
 use spec_match::RuleSet;
@@ -11,64 +12,56 @@ use spec_order::ordered;
 use spec_reader::{Spec, SpecFault, read_specs};
 use std::alloc::Global;
 
-#[tactic(auto, unfolding(crate::specs::Files::suffix))]
-fn suffix_of(part: Part) -> &'static str
-    ensures { result.now ≡ suffix part }
-{
-    match part {
-        Part::Base | Part::Customizable | Part::Kept => "",
-        Part::Homedirs => ".homedirs",
-        Part::Local => ".local",
-        Part::Subs => ".subs",
-        Part::SubsDist => ".subs_dist",
-    }
-}
-
-/// The name of a file beside the base file.
-pub fn name_of(alloc: Global, base: &str, part: Part) -> Result<Name, OutOfMemory>
-    ensures { IfOk result (λ name. name ≡ part_name base.now part) }
-{
-    let mut name = Name::copy_of(alloc, base)?;
-    name.push(suffix_of(part))?;
-    Ok(name)
-}
+/// The greatest number of bytes of a file of specifications.
+const MOST_SPEC_BYTES: usize = 67_108_864;
+/// The greatest number of bytes of a file of stored digests.
+const MOST_KEPT_BYTES: usize = 268_435_456;
+/// The greatest number of bytes of any other file.
+const MOST_BYTES: usize = 1_048_576;
+/// The greatest number of specifications of all files together.
+const MOST_SPECS: u32 = 65_536;
 
 fn most_of(part: Part) -> usize
     ensures { result ≡ most_bytes part }
 {
     match part {
-        Part::Base | Part::Homedirs | Part::Local => 67_108_864,
-        Part::Subs | Part::SubsDist | Part::Customizable => 1_048_576,
-        Part::Kept => 268_435_456,
+        Part::Base | Part::Homedirs | Part::Local => MOST_SPEC_BYTES,
+        Part::Subs | Part::SubsDist | Part::Customizable => MOST_BYTES,
+        Part::Kept => MOST_KEPT_BYTES,
     }
 }
 
-fn without_file(alloc: Global, base: &str, part: Part) -> Result<Bytes, Cause>
-    ensures answer { Gives (absent base.now part) result }
+fn without_file(alloc: Global, names: &FileNames, part: Part) -> Result<Bytes, Cause>
+    ensures answer { Gives (absent names.now part) result }
     ensures kinds { IfErr result IsFileCause }
     ensures counts { (count : ℕ) → Counts count count result }
     ensures within { IfOk result (λ bytes. length bytes ≤ most_bytes part) }
 {
     match part {
         Part::Base => Err(Cause::Missing {
-            name: Name::copy_of(alloc, base)?,
+            name: Name::copy_of(alloc, names.name_of(part))?,
         }),
         _ => Ok(Bytes::new(alloc)),
     }
 }
 
 #[tactic(auto, unfolding(crate::specs::Files::part_bytes))]
-fn read_part<S: Store>(alloc: Global, base: &str, part: Part, store: &mut S) -> Result<Bytes, Cause>
+fn read_part<S: Store>(
+    alloc: Global,
+    names: &FileNames,
+    part: Part,
+    store: &mut S,
+) -> Result<Bytes, Cause>
     ensures files { S.files store.new ≡ S.files store.old }
+    ensures writes { S.write_faults store.new ≡ S.write_faults store.old }
     ensures within { IfOk result (λ bytes. length bytes ≤ most_bytes part) }
-    ensures answer { IfSome (S.files store.old) (λ files. Gives (part_bytes base.now part files) result) }
+    ensures answer { IfSome (S.files store.old) (λ files. Gives (part_bytes names.now part files) result) }
     ensures counts { Counts (S.read_faults store.old) (S.read_faults store.new) result }
     ensures kinds { IfErr result IsFileCause }
 {
-    let name = name_of(alloc, base, part)?;
-    match store.read_file(alloc, name.as_str(), most_of(part)) {
+    match store.read_file(alloc, names.name_of(part), most_of(part)) {
         Ok(bytes) => Ok(bytes),
-        Err(FileFault::NotThere) => without_file(alloc, base, part),
+        Err(FileFault::NotThere) => without_file(alloc, names, part),
         Err(FileFault::Failed) => Err(Cause::ReadFault),
         Err(FileFault::TooLong) => Err(Cause::Limit {
             which: LimitKind::File(part),
@@ -80,18 +73,19 @@ fn read_part<S: Store>(alloc: Global, base: &str, part: Part, store: &mut S) -> 
 #[tactic(auto, unfolding(crate::specs::Files::part_specs))]
 fn read_specs_part<S: Store>(
     alloc: Global,
-    base: &str,
+    names: &FileNames,
     part: Part,
     room: u32,
     store: &mut S,
 ) -> Result<Row<Spec>, Cause>
     ensures files { S.files store.new ≡ S.files store.old }
+    ensures writes { S.write_faults store.new ≡ S.write_faults store.old }
     ensures within { IfOk result (λ specs. length specs ≤ room) }
-    ensures answer { IfSome (S.files store.old) (λ files. Gives (part_specs base.now part room files) result) }
+    ensures answer { IfSome (S.files store.old) (λ files. Gives (part_specs names.now part room files) result) }
     ensures counts { Counts (S.read_faults store.old) (S.read_faults store.new) result }
     ensures kinds { IfErr result IsFileCause }
 {
-    let bytes = read_part(alloc, base, part, store)?;
+    let bytes = read_part(alloc, names, part, store)?;
     match read_specs(alloc, bytes.as_slice(), part, room) {
         Ok(specs) => Ok(specs),
         Err(SpecFault::Refused { line, why }) => Err(Cause::SpecRefused { part, line, why }),
@@ -105,16 +99,17 @@ fn read_specs_part<S: Store>(
 #[tactic(auto, unfolding(crate::specs::Files::part_subs))]
 fn read_subs_part<S: Store>(
     alloc: Global,
-    base: &str,
+    names: &FileNames,
     part: Part,
     store: &mut S,
 ) -> Result<Row<Sub>, Cause>
     ensures files { S.files store.new ≡ S.files store.old }
-    ensures answer { IfSome (S.files store.old) (λ files. Gives (part_subs base.now part files) result) }
+    ensures writes { S.write_faults store.new ≡ S.write_faults store.old }
+    ensures answer { IfSome (S.files store.old) (λ files. Gives (part_subs names.now part files) result) }
     ensures counts { Counts (S.read_faults store.old) (S.read_faults store.new) result }
     ensures kinds { IfErr result IsFileCause }
 {
-    let bytes = read_part(alloc, base, part, store)?;
+    let bytes = read_part(alloc, names, part, store)?;
     match read_subs(alloc, bytes.as_slice()) {
         Ok(subs) => Ok(subs),
         Err(SubFault::Refused { line }) => Err(Cause::SubRefused { part, line }),
@@ -123,34 +118,35 @@ fn read_subs_part<S: Store>(
 }
 
 #[tactic(auto, unfolding(crate::specs::Files::list_of))]
-fn read_list<S: Store>(alloc: Global, base: &str, store: &mut S) -> Result<Row<Spec>, Cause>
+fn read_list<S: Store>(alloc: Global, names: &FileNames, store: &mut S) -> Result<Row<Spec>, Cause>
     ensures files { S.files store.new ≡ S.files store.old }
-    ensures within { IfOk result (λ list. length list ≤ most_specs) }
-    ensures answer { IfSome (S.files store.old) (λ files. Gives (list_of base.now files) result) }
+    ensures writes { S.write_faults store.new ≡ S.write_faults store.old }
+    ensures within { IfOk result (λ list. length list ≤ MOST_SPECS) }
+    ensures answer { IfSome (S.files store.old) (λ files. Gives (list_of names.now files) result) }
     ensures counts { Counts (S.read_faults store.old) (S.read_faults store.new) result }
     ensures kinds { IfErr result IsFileCause }
 {
-    let room = 65_536u32;
-    let first = read_specs_part(alloc, base, Part::Base, room, store)?;
-    let room = room - first.len() as u32;
-    let home = read_specs_part(alloc, base, Part::Homedirs, room, store)?;
+    let first = read_specs_part(alloc, names, Part::Base, MOST_SPECS, store)?;
+    let room = MOST_SPECS - first.len() as u32;
+    let home = read_specs_part(alloc, names, Part::Homedirs, room, store)?;
     let room = room - home.len() as u32;
-    let local = read_specs_part(alloc, base, Part::Local, room, store)?;
+    let local = read_specs_part(alloc, names, Part::Local, room, store)?;
     Ok(ordered(alloc, first, home, local)?)
 }
 
 /// Reads the files of a policy: the base file, then `.homedirs`, `.local`, `.subs` and `.subs_dist` beside it, each of
 /// which may be absent.
 #[tactic(auto, unfolding(crate::specs::Files::rules_of))]
-pub fn read_rules<S: Store>(alloc: Global, base: &str, store: &mut S) -> Result<Rules, Cause>
+pub fn read_rules<S: Store>(alloc: Global, names: &FileNames, store: &mut S) -> Result<Rules, Cause>
     ensures files { S.files store.new ≡ S.files store.old }
-    ensures answer { IfSome (S.files store.old) (λ files. Gives (rules_of base.now files) result) }
+    ensures writes { S.write_faults store.new ≡ S.write_faults store.old }
+    ensures answer { IfSome (S.files store.old) (λ files. Gives (rules_of names.now files) result) }
     ensures counts { Counts (S.read_faults store.old) (S.read_faults store.new) result }
     ensures kinds { IfErr result IsFileCause }
 {
-    let list = read_list(alloc, base, store)?;
-    let first = read_subs_part(alloc, base, Part::Subs, store)?;
-    let second = read_subs_part(alloc, base, Part::SubsDist, store)?;
+    let list = read_list(alloc, names, store)?;
+    let first = read_subs_part(alloc, names, Part::Subs, store)?;
+    let second = read_subs_part(alloc, names, Part::SubsDist, store)?;
     Ok(Rules {
         rules: RuleSet::new(alloc, list)?,
         subs: Subs { first, second },

@@ -9,6 +9,11 @@ use label_base::{Row, Source};
 use std::alloc::Global;
 use tree_model::{Tree, TreeFault};
 
+/// The greatest number of records.
+const MOST_RECORDS: u32 = 2_097_152;
+/// The greatest number of bytes of all records together.
+const MOST_RECORD_BYTES: u64 = 536_870_912;
+
 fn checked(alloc: Global, tree: Tree) -> Result<Tree, Cause>
     ensures answer { Gives (checked_entries tree) result }
     ensures counts { (count : ℕ) → Counts count count result }
@@ -42,8 +47,8 @@ pub fn read_tree<I: Source>(alloc: Global, input: &mut I) -> Result<Tree, Cause>
     ensures kinds { IfErr result IsInputCause }
 {
     let limits = RecordLimits {
-        records: 2_097_152,
-        bytes: 536_870_912,
+        records: MOST_RECORDS,
+        bytes: MOST_RECORD_BYTES,
     };
     match read_records(alloc, input, limits) {
         Ok(records) => tree_from(alloc, records),

@@ -6,8 +6,8 @@ mod ending;
 mod fault;
 mod files;
 mod input;
+mod names;
 mod policy;
-mod report;
 mod runs;
 #[cfg(test)]
 mod tests;

@@ -1,12 +1,18 @@
-use Rattle.std.proofs.Common.{refl, inl, inr}
+use Rattle.std.proofs.Common.{◌≡◌, subst, sym, inr}
+use Rattle.relabel_program.specs.Faults.{fault_line}
+use Rattle.relabel_program.specs.Run.{LineOrFront}
+use Rattle.relabel_program.specs.declared.cause.Cause.{Cause}
 use Rattle.relabel_program.proofs.ending.refuse.Goals as goal
 
 pub returns-in-OutOfMemory-clause-told : goal.returns-in-OutOfMemory-clause-told
 returns-in-OutOfMemory-clause-told g c =
-    let line = rw (c.out_of_memory_line.ensures c.args.base.now) at c.line_told.ensures.line in
-    (inl refl, rw c.in-OutOfMemory.is line, c.line_told.ensures.later)
+    subst (λ (k : Cause). LineOrFront g.O.Sink.written g.O.Sink.faults c.args.out.now c.give_up.new.out (fault_line c.args.names.now k)) (sym c.give_up.ensures.cause) (c.give_up.ensures.told c.args.names.now)
 
-pub returns-in-Err-clause-told : goal.returns-in-Err-clause-told
-returns-in-Err-clause-told g c =
-    let line = rw (c.out_of_memory_line-in-Err.ensures c.args.base.now) at c.line_told-in-Err.ensures.line in
-    (inr refl, line, c.line_told-in-Err.ensures.later)
+pub returns-in-Err : goal.returns-in-Err
+returns-in-Err g c =
+    record {
+      cause = inr c.give_up-in-Err.ensures.cause;
+      status = c.give_up-in-Err.ensures.status;
+      told = subst (λ (k : Cause). LineOrFront g.O.Sink.written g.O.Sink.faults c.args.out.now c.give_up-in-Err.new.out (fault_line c.args.names.now k)) (sym c.give_up-in-Err.ensures.cause) (c.give_up-in-Err.ensures.told c.args.names.now);
+      later = c.give_up-in-Err.ensures.later;
+    }

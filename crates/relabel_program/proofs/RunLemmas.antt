@@ -1,0 +1,297 @@
+-- What the end of a run says, from what its parts say.
+use Rattle.std.proofs.Common.{◌≡◌, ◌∙◌, ap, sym, subst, refl, ℕ, ◌≤◌, arith, ◌⊎◌, inl, inr, List, []}
+use Rattle.std.specs.Prelude.{Option, Some, None, Result, Ok, Err, IsOk, is_ok, IfSome, IfErr, IfOk}
+use Rattle.std.specs.Io.KnownBytes.{Appends}
+use Rattle.label_base.specs.Sink.{AppendsFront}
+use Rattle.label_base.specs.Source.{Rose}
+use Rattle.label_base.specs.Store.{Files}
+use Rattle.find_records.specs.declared.record.Record.{Record}
+use Rattle.report_text.specs.Texts.{report_of}
+use Rattle.relabel_core.specs.Walk.{messages}
+use Rattle.relabel_core.specs.declared.rules.Rules.{Rules}
+use Rattle.relabel_program.specs.Answer.{answer, names_in, policy}
+use Rattle.relabel_program.specs.Causes.{and_then, CauseCounts, Counts, Explained, Gives, IsInputCause, IsPolicyCause, IsReadingCause}
+use Rattle.relabel_program.specs.Faults.{fault_line}
+use Rattle.relabel_program.specs.Input.{entries_of}
+use Rattle.relabel_program.specs.Run.{Ends, IsLaterCause, LineOrFront, PolicyDecides, ReadCounts, Reports, ReportsFront, Run, TellsFault}
+use Rattle.relabel_program.specs.Words.{usage}
+use Rattle.relabel_program.specs.declared.cause.Cause.{Cause}
+use Rattle.relabel_program.specs.declared.cause.Cause.TheVariants.{Done, Usage, Missing, SpecRefused, SubRefused, Limit, InputRefused, ReadFault, WriteFault, OutOfMemory}
+use Rattle.relabel_program.specs.declared.cause.UsageWhy.{UsageWhy}
+use Rattle.relabel_program.specs.declared.names.FileNames.{FileNames}
+
+-- ---- options and results
+
+if_some : {A : Type 0} {P Q : A → Type 0} (found : Option A) → ((x : A) → P x → Q x) → IfSome found P → IfSome found Q
+if_some None next held = held
+if_some (Some x) next held = next x held
+
+all_some : {A : Type 0} {Q : A → Type 0} (found : Option A) → ((x : A) → Q x) → IfSome found Q
+all_some None each = tt
+all_some (Some x) each = each x
+
+-- ---- causes
+
+-- a refusal of the policy, or of none of it
+decides_refusal : (meant : Result Rules Cause) (cause : Cause) (untouched : Type 0) → Explained meant cause → IsPolicyCause cause → untouched
+    → PolicyDecides meant cause untouched
+decides_refusal (Err refusal) ReadFault untouched told kind still = record { told = inr tt; of_policy = tt; no_input_read = still }
+decides_refusal (Err refusal) OutOfMemory untouched told kind still = record { told = inr tt; of_policy = tt; no_input_read = still }
+decides_refusal (Err refusal) cause untouched told kind still = record { told = inl (cc); of_policy = kind; no_input_read = still }
+decides_refusal (Ok rules) ReadFault untouched told kind still = tt
+decides_refusal (Ok rules) OutOfMemory untouched told kind still = tt
+decides_refusal (Ok rules) cause untouched told kind still = absurd (cc)
+
+decides_memory : (meant : Result Rules Cause) (untouched : Type 0) → untouched → PolicyDecides meant OutOfMemory untouched
+decides_memory (Err refusal) untouched still = record { told = inr tt; of_policy = tt; no_input_read = still }
+decides_memory (Ok rules) untouched still = tt
+
+decides_later : (meant : Result Rules Cause) (rules : Rules) (cause : Cause) (untouched : Type 0) → meant ≡ Ok rules → IsLaterCause cause
+    → PolicyDecides meant cause untouched
+decides_later (Err refusal) rules cause untouched accepted kind = absurd (cc)
+decides_later (Ok found) rules cause untouched accepted kind = kind
+
+is_later : (cause : Cause) → IsInputCause cause → IsLaterCause cause
+is_later Done kind = absurd kind
+is_later WriteFault kind = absurd kind
+is_later cause kind = kind
+
+-- an explained cause goes through what follows
+explained_next : {A B : Type 0} (meant : Result A Cause) (next : A → Result B Cause) (cause : Cause) → Explained meant cause → Explained (and_then meant next) cause
+explained_next meant next ReadFault told = tt
+explained_next meant next OutOfMemory told = tt
+explained_next meant next cause told = ap (λ r. and_then r next) told
+
+ends_explained : {O : Type 0} (written : O → Option (List ℕ)) (old new : O) (meant : Result (List ℕ) Cause) (cause : Cause)
+    → (cause ≡ Done → ⊥) → (cause ≡ WriteFault → ⊥) → Explained meant cause → Ends written old new meant cause
+ends_explained written old new meant Done done failed told = absurd (done refl)
+ends_explained written old new meant WriteFault done failed told = absurd (failed refl)
+ends_explained written old new meant cause done failed told = told
+
+pub tells_line : {O : Type 0} (written : O → Option (List ℕ)) (faults : O → ℕ) (old new : O) (names : FileNames) (cause : Cause)
+    → LineOrFront written faults old new (fault_line names cause) → TellsFault written faults old new names cause
+tells_line written faults old new names Done line = tt
+tells_line written faults old new names WriteFault line = tt
+tells_line written faults old new names cause line = line
+
+counts_of_store : (before now input : ℕ) (cause : Cause) → CauseCounts before now cause → ReadCounts before now input input cause
+counts_of_store before now input ReadFault counts = (counts.0, omega arith)
+counts_of_store before now input OutOfMemory counts = (omega (arith, counts), omega arith)
+counts_of_store before now input cause counts = (counts, refl)
+
+counts_of_input : (store store_now before now : ℕ) (cause : Cause) → store_now ≡ store → CauseCounts before now cause → ReadCounts store store_now before now cause
+counts_of_input store store_now before now ReadFault same counts = (omega (arith, same), counts.0)
+counts_of_input store store_now before now OutOfMemory same counts = (omega (arith, same), omega (arith, counts))
+counts_of_input store store_now before now cause same counts = (same, counts)
+
+-- ---- answers
+
+policy_ends : {O : Type 0} (written : O → Option (List ℕ)) (old new : O) (words : List (List ℕ)) (told : Files) (bytes : List ℕ) (cause : Cause)
+    → IsPolicyCause cause → Explained (policy words told) cause → Ends written old new (answer words told bytes) cause
+unfolding answer
+policy_ends written old new words told bytes cause kind explained =
+    ends_explained written old new (answer words told bytes) cause (λ is. subst IsPolicyCause is kind) (λ is. subst IsPolicyCause is kind)
+    (explained_next (policy words told) (λ rules. and_then (entries_of bytes) (λ entries. Ok (report_of (messages rules entries)))) cause explained)
+
+answer_next : (words : List (List ℕ)) (told : Files) (bytes : List ℕ) (rules : Rules) → policy words told ≡ Ok rules
+    → answer words told bytes ≡ and_then (entries_of bytes) (λ entries. Ok (report_of (messages rules entries)))
+unfolding answer
+answer_next words told bytes rules is =
+    ap (λ found. and_then found (λ rules. and_then (entries_of bytes) (λ entries. Ok (report_of (messages rules entries))))) is
+
+input_ends : {O : Type 0} (written : O → Option (List ℕ)) (old new : O) (words : List (List ℕ)) (told : Files) (bytes : List ℕ) (rules : Rules) (cause : Cause)
+    → IsInputCause cause → policy words told ≡ Ok rules → Explained (entries_of bytes) cause → Ends written old new (answer words told bytes) cause
+input_ends written old new words told bytes rules cause kind is explained =
+    ends_explained written old new (answer words told bytes) cause (λ is. subst IsInputCause is kind) (λ is. subst IsInputCause is kind)
+    (subst (λ meant. Explained meant cause) (sym (answer_next words told bytes rules is))
+    (explained_next (entries_of bytes) (λ entries. Ok (report_of (messages rules entries))) cause explained))
+
+answer_report : (words : List (List ℕ)) (told : Files) (bytes : List ℕ) (rules : Rules) (entries : List Record) (report : List ℕ)
+    → policy words told ≡ Ok rules → entries_of bytes ≡ Ok entries → report ≡ report_of (messages rules entries) → answer words told bytes ≡ Ok report
+answer_report words told bytes rules entries report is read made =
+    answer_next words told bytes rules is ∙ ap (λ found. and_then found (λ entries. Ok (report_of (messages rules entries)))) read ∙ ap Ok (sym made)
+
+-- ---- runs
+
+-- the first part of a run left the sink alone, and this is what it says of the words
+pub record WordsRead {S : Type 0} (words : List (List ℕ)) (store store_now : S) (result : Result Rules Cause) : Type 0 where
+  pub wrong : IfSome (usage words) (λ wrong. (result ≡ Err (Usage wrong.0 wrong.1)) × (store_now ≡ store))
+  pub only_wrong : IfErr result (λ cause. (index : ℕ) (why : UsageWhy) → cause ≡ Usage index why → usage words ≡ Some (index, why))
+
+module _ {S I O : Type 0} (files : S → Option Files) (read_faults write_faults : S → ℕ)
+    (left : I → Option (List ℕ)) (input_faults : I → ℕ) (written : O → Option (List ℕ)) (out_faults : O → ℕ)
+    (words : List (List ℕ)) (store store_now : S) (input input_now : I) (out out_now : O) where
+  abbrev Ran : Cause → Type 0
+  Ran = Run files read_faults write_faults left input_faults written out_faults words store store_now input input_now out out_now
+
+  -- want of memory
+  pub gave_up : files store_now ≡ files store → write_faults store_now ≡ write_faults store
+      → IfSome (usage words) (λ _. (store_now ≡ store) × (input_now ≡ input))
+      → IfSome (files store) (λ told. PolicyDecides (policy words told) OutOfMemory (input_now ≡ input))
+      → LineOrFront written out_faults out out_now (fault_line (names_in words) OutOfMemory)
+      → read_faults store ≤ read_faults store_now → input_faults input ≤ input_faults input_now → Ran OutOfMemory
+  gave_up same none wrong decides line later input_later =
+      record {
+        same_files = same;
+        none_written = none;
+        wrong_words = if_some (usage words) (λ _ still. record { told = inr refl; no_file_read = still.0; no_input_read = still.1 }) wrong;
+        only_wrong_words = λ index why is. absurd (cc);
+        files_decide = decides;
+        is_meant = all_some (files store) (λ told. all_some (left input) (λ bytes. tt));
+        fault_told = line;
+        all_read = λ is. absurd (cc);
+        read_failed = λ is. absurd (cc);
+        write_failed = λ is. absurd (cc);
+        counts = (later, input_later);
+      }
+
+  -- a refusal of the words or of a file
+  refused_policy : (cause : Cause) → (input_now ≡ input) → files store_now ≡ files store → write_faults store_now ≡ write_faults store
+      → WordsRead words store store_now (Err cause)
+      → IfSome (files store) (λ told. Explained (policy words told) cause) → IsPolicyCause cause
+      → CauseCounts (read_faults store) (read_faults store_now) cause
+      → LineOrFront written out_faults out out_now (fault_line (names_in words) cause) → Ran cause
+  refused_policy cause still same none read explains kind counts line =
+      record {
+        same_files = same;
+        none_written = none;
+        wrong_words = if_some (usage words) (λ wrong both. record { told = inl (cc); no_file_read = both.1; no_input_read = still }) read.wrong;
+        only_wrong_words = read.only_wrong;
+        files_decide = if_some (files store) (λ told explained. decides_refusal (policy words told) cause (input_now ≡ input) explained kind still) explains;
+        is_meant = if_some (files store) (λ told explained. all_some (left input) (λ bytes. policy_ends written out out_now words told bytes cause kind explained)) explains;
+        fault_told = tells_line written out_faults out out_now (names_in words) cause line;
+        all_read = λ is. absurd (subst IsPolicyCause is kind);
+        read_failed = λ is. inl ((subst (CauseCounts (read_faults store) (read_faults store_now)) is counts).1, still);
+        write_failed = λ is. absurd (subst IsPolicyCause is kind);
+        counts = subst (λ now. ReadCounts (read_faults store) (read_faults store_now) (input_faults input) now cause) (sym (ap input_faults still)) (counts_of_store (read_faults store) (read_faults store_now) (input_faults input) cause counts);
+      }
+
+  -- a refusal of the input
+  refused_input : (cause : Cause) (rules : Rules) → files store_now ≡ files store → write_faults store_now ≡ write_faults store
+      → WordsRead words store store_now (Ok rules)
+      → IfSome (files store) (λ told. policy words told ≡ Ok rules) → read_faults store_now ≡ read_faults store
+      → IfSome (left input) (λ bytes. Explained (entries_of bytes) cause) → IsInputCause cause
+      → CauseCounts (input_faults input) (input_faults input_now) cause
+      → LineOrFront written out_faults out out_now (fault_line (names_in words) cause) → Ran cause
+  refused_input cause rules same none read accepted no_file_failed explains kind counts line =
+      record {
+        same_files = same;
+        none_written = none;
+        wrong_words = if_some (usage words) (λ wrong is. absurd (cc)) read.wrong;
+        only_wrong_words = λ index why is. absurd (subst IsInputCause is kind);
+        files_decide = if_some (files store) (λ told is. decides_later (policy words told) rules cause (input_now ≡ input) is (is_later cause kind)) accepted;
+        is_meant = if_some (files store) (λ told is. if_some (left input) (λ bytes explained. input_ends written out out_now words told bytes rules cause kind is explained) explains) accepted;
+        fault_told = tells_line written out_faults out out_now (names_in words) cause line;
+        all_read = λ is. absurd (subst IsInputCause is kind);
+        read_failed = λ is. inr (record {
+          rose = (subst (CauseCounts (input_faults input) (input_faults input_now)) is counts).1;
+          no_file_failed = no_file_failed;
+          accepted = if_some (files store) (λ told is. ap is_ok is) accepted;
+        });
+        write_failed = λ is. absurd (subst IsInputCause is kind);
+        counts = counts_of_input (read_faults store) (read_faults store_now) (input_faults input) (input_faults input_now) cause no_file_failed counts;
+      }
+
+  -- the report, written or not
+  pub finished : (cause : Cause) (rules : Rules) (entries : List Record) (report : List ℕ)
+      → files store_now ≡ files store → write_faults store_now ≡ write_faults store
+      → WordsRead words store store_now (Ok rules)
+      → IfSome (files store) (λ told. policy words told ≡ Ok rules) → read_faults store_now ≡ read_faults store
+      → IfSome (left input) (λ bytes. entries_of bytes ≡ Ok entries) → input_faults input_now ≡ input_faults input
+      → IfSome (left input) (λ bytes. left input_now ≡ Some [])
+      → report ≡ report_of (messages rules entries)
+      → (cause ≡ Done) × Appends (written out) (written out_now) report
+      ⊎ (cause ≡ WriteFault) × AppendsFront (written out) (written out_now) report × Rose (out_faults out) (out_faults out_now)
+      → Ran cause
+  finished cause rules entries report same none read accepted no_file_failed entered no_input_failed ended made (inl done) =
+      subst Ran (sym done.0) (record {
+        same_files = same;
+        none_written = none;
+        wrong_words = if_some (usage words) (λ wrong is. absurd (cc)) read.wrong;
+        only_wrong_words = λ index why is. absurd (cc);
+        files_decide = if_some (files store) (λ told is. decides_later (policy words told) rules Done (input_now ≡ input) is tt) accepted;
+        is_meant = if_some (files store) (λ told is. if_some (left input) (λ bytes entered. (report, answer_report words told bytes rules entries report is entered made, done.1)) entered) accepted;
+        fault_told = tt;
+        all_read = λ _. ended;
+        read_failed = λ is. absurd (cc);
+        write_failed = λ is. absurd (cc);
+        counts = (no_file_failed, no_input_failed);
+      })
+  finished cause rules entries report same none read accepted no_file_failed entered no_input_failed ended made (inr failed) =
+      subst Ran (sym failed.0) (record {
+        same_files = same;
+        none_written = none;
+        wrong_words = if_some (usage words) (λ wrong is. absurd (cc)) read.wrong;
+        only_wrong_words = λ index why is. absurd (cc);
+        files_decide = if_some (files store) (λ told is. decides_later (policy words told) rules WriteFault (input_now ≡ input) is tt) accepted;
+        is_meant = if_some (files store) (λ told is. if_some (left input) (λ bytes entered. (report, answer_report words told bytes rules entries report is entered made, failed.1)) entered) accepted;
+        fault_told = tt;
+        all_read = λ is. absurd (cc);
+        read_failed = λ is. absurd (cc);
+        write_failed = λ _. failed.2;
+        counts = (no_file_failed, no_input_failed);
+      })
+
+  line_for : (names : FileNames) (a b : Cause) → names ≡ names_in words → a ≡ b → LineOrFront written out_faults out out_now (fault_line names a)
+      → LineOrFront written out_faults out out_now (fault_line (names_in words) b)
+  line_for names a b named same line =
+      subst (λ (k : Cause). LineOrFront written out_faults out out_now (fault_line (names_in words) k)) same (subst (λ (n : FileNames). LineOrFront written out_faults out out_now (fault_line n a)) named line)
+
+  store_later : (before now : ℕ) (cause : Cause) → CauseCounts before now cause → before ≤ now
+  store_later before now ReadFault counts = counts.0
+  store_later before now cause counts = omega (arith, counts)
+
+  -- a refusal of the words or of a file was told, or want of memory in its place
+  pub told_policy : (cause told : Cause) (names : FileNames) → (told ≡ cause) ⊎ (told ≡ OutOfMemory) → names ≡ names_in words
+      → input_now ≡ input → files store_now ≡ files store → write_faults store_now ≡ write_faults store
+      → WordsRead words store store_now (Err cause)
+      → IfSome (files store) (λ told. Explained (policy words told) cause) → IsPolicyCause cause
+      → CauseCounts (read_faults store) (read_faults store_now) cause
+      → LineOrFront written out_faults out out_now (fault_line names told) → Ran told
+  told_policy cause told names (inl is) named still same none read explains kind counts line =
+      subst Ran (sym is) (refused_policy cause still same none read explains kind counts (line_for names told cause named is line))
+  told_policy cause told names (inr is) named still same none read explains kind counts line =
+      subst Ran (sym is) (gave_up same none
+      (if_some (usage words) (λ wrong both. (both.1, still)) read.wrong)
+      (if_some (files store) (λ told explained. decides_memory (policy words told) (input_now ≡ input) still) explains)
+      (line_for names told OutOfMemory named is line)
+      (store_later _ _ cause counts) (omega (arith, ap input_faults still)))
+
+  -- a refusal of the input was told, or want of memory in its place
+  pub told_input : (cause told : Cause) (names : FileNames) (rules : Rules) → (told ≡ cause) ⊎ (told ≡ OutOfMemory) → names ≡ names_in words
+      → files store_now ≡ files store → write_faults store_now ≡ write_faults store
+      → WordsRead words store store_now (Ok rules)
+      → IfSome (files store) (λ told. policy words told ≡ Ok rules) → read_faults store_now ≡ read_faults store
+      → IfSome (left input) (λ bytes. Explained (entries_of bytes) cause) → IsInputCause cause
+      → CauseCounts (input_faults input) (input_faults input_now) cause
+      → LineOrFront written out_faults out out_now (fault_line names told) → Ran told
+  told_input cause told names rules (inl is) named same none read accepted no_file_failed explains kind counts line =
+      subst Ran (sym is) (refused_input cause rules same none read accepted no_file_failed explains kind counts (line_for names told cause named is line))
+  told_input cause told names rules (inr is) named same none read accepted no_file_failed explains kind counts line =
+      subst Ran (sym is) (gave_up same none
+      (if_some (usage words) (λ wrong is. absurd (cc)) read.wrong)
+      (if_some (files store) (λ told accepted. decides_later (policy words told) rules OutOfMemory (input_now ≡ input) accepted tt) accepted)
+      (line_for names told OutOfMemory named is line)
+      (omega (arith, no_file_failed)) (store_later _ _ cause counts))
+
+  -- no memory for the report
+  pub told_late : (told : Cause) (rules : Rules) → told ≡ OutOfMemory
+      → files store_now ≡ files store → write_faults store_now ≡ write_faults store
+      → WordsRead words store store_now (Ok rules)
+      → IfSome (files store) (λ told. policy words told ≡ Ok rules) → read_faults store_now ≡ read_faults store
+      → input_faults input_now ≡ input_faults input
+      → LineOrFront written out_faults out out_now (fault_line (names_in words) OutOfMemory) → Ran told
+  told_late told rules is same none read accepted no_file_failed no_input_failed line =
+      subst Ran (sym is) (gave_up same none
+      (if_some (usage words) (λ wrong is. absurd (cc)) read.wrong)
+      (if_some (files store) (λ told accepted. decides_later (policy words told) rules OutOfMemory (input_now ≡ input) accepted tt) accepted)
+      line (omega (arith, no_file_failed)) (omega (arith, no_input_failed)))
+
+  -- no memory for the names of the files
+  pub told_early : (told : Cause) → told ≡ OutOfMemory → store_now ≡ store → input_now ≡ input
+      → LineOrFront written out_faults out out_now (fault_line (names_in words) OutOfMemory) → Ran told
+  told_early told is still unread line =
+      subst Ran (sym is) (gave_up (ap files still) (ap write_faults still)
+      (all_some (usage words) (λ _. (still, unread)))
+      (all_some (files store) (λ told. decides_memory (policy words told) (input_now ≡ input) unread))
+      line (omega (arith, ap read_faults still)) (omega (arith, ap input_faults unread)))
