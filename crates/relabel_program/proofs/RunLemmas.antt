@@ -13,7 +13,7 @@ use Rattle.relabel_program.specs.Answer.{answer, names_in, policy}
 use Rattle.relabel_program.specs.Causes.{and_then, CauseCounts, Counts, Explained, Gives, IsInputCause, IsPolicyCause, IsReadingCause}
 use Rattle.relabel_program.specs.Faults.{fault_line}
 use Rattle.relabel_program.specs.Input.{entries_of}
-use Rattle.relabel_program.specs.Run.{Ends, IsLaterCause, LineOrFront, PolicyDecides, ReadCounts, Reports, ReportsFront, Run, TellsFault}
+use Rattle.relabel_program.specs.Run.{Ends, FileFailed, InputFailed, IsLaterCause, LineOrFront, PolicyDecides, ReadCounts, Reports, ReportsFront, Run, TellsFault}
 use Rattle.relabel_program.specs.Words.{usage}
 use Rattle.relabel_program.specs.declared.cause.Cause.{Cause}
 use Rattle.relabel_program.specs.declared.cause.Cause.TheVariants.{Done, Usage, Missing, SpecRefused, SubRefused, Limit, InputRefused, ReadFault, WriteFault, OutOfMemory}
@@ -110,6 +110,43 @@ answer_report : (words : List (List ℕ)) (told : Files) (bytes : List ℕ) (rul
     → policy words told ≡ Ok rules → entries_of bytes ≡ Ok entries → report ≡ report_of (messages rules entries) → answer words told bytes ≡ Ok report
 answer_report words told bytes rules entries report is read made =
     answer_next words told bytes rules is ∙ ap (λ found. and_then found (λ entries. Ok (report_of (messages rules entries)))) read ∙ ap Ok (sym made)
+
+-- ---- completeness
+
+-- the cause of an answer, and its text
+abbrev pub cause_of : Result (List ℕ) Cause → Cause
+cause_of (Ok report) = Done
+cause_of (Err cause) = cause
+
+abbrev pub text_of : FileNames → Result (List ℕ) Cause → List ℕ
+text_of names (Ok report) = report
+text_of names (Err cause) = fault_line names cause
+
+-- the answer's cause came with the answer's text
+pub record Completes {O : Type 0} (written : O → Option (List ℕ)) (old new : O) (names : FileNames) (meant : Result (List ℕ) Cause) (cause : Cause) : Type 0 where
+  pub cause_is : cause ≡ cause_of meant
+  pub text_is : Appends (written old) (written new) (text_of names meant)
+
+whole_line : {O : Type 0} (written : O → Option (List ℕ)) (faults : O → ℕ) (old new : O) (line : List ℕ) → (Rose (faults old) (faults new) → ⊥)
+    → LineOrFront written faults old new line → Appends (written old) (written new) line
+whole_line written faults old new line calm (inl whole) = whole
+whole_line written faults old new line calm (inr front) = absurd (calm front.1)
+
+refused : {O : Type 0} (written : O → Option (List ℕ)) (old new : O) (names : FileNames) (meant : Result (List ℕ) Cause) (cause : Cause)
+    → meant ≡ Err cause → Appends (written old) (written new) (fault_line names cause) → Completes written old new names meant cause
+refused written old new names meant cause is line =
+    record { cause_is = sym (ap cause_of is); text_is = subst (λ (text : List ℕ). Appends (written old) (written new) text) (sym (ap (text_of names) is)) line }
+
+completes : {O : Type 0} (written : O → Option (List ℕ)) (faults : O → ℕ) (old new : O) (names : FileNames) (meant : Result (List ℕ) Cause) (cause : Cause)
+    → (Rose (faults old) (faults new) → ⊥) → Ends written old new meant cause → TellsFault written faults old new names cause
+    → (cause ≡ ReadFault → ⊥) → (cause ≡ WriteFault → ⊥) → Completes written old new names meant cause ⊎ (cause ≡ OutOfMemory)
+completes written faults old new names meant Done calm ends told no_read no_write =
+    inl (record { cause_is = sym (ap cause_of ends.1); text_is = subst (λ (text : List ℕ). Appends (written old) (written new) text) (sym (ap (text_of names) ends.1)) ends.2 })
+completes written faults old new names meant WriteFault calm ends told no_read no_write = absurd (no_write refl)
+completes written faults old new names meant ReadFault calm ends told no_read no_write = absurd (no_read refl)
+completes written faults old new names meant OutOfMemory calm ends told no_read no_write = inr refl
+completes written faults old new names meant cause calm ends told no_read no_write =
+    inl (refused written old new names meant _ ends (whole_line written faults old new _ calm told))
 
 -- ---- runs
 
@@ -295,3 +332,20 @@ module _ {S I O : Type 0} (files : S → Option Files) (read_faults write_faults
       (all_some (usage words) (λ _. (still, unread)))
       (all_some (files store) (λ told. decides_memory (policy words told) (input_now ≡ input) unread))
       line (omega (arith, ap read_faults still)) (omega (arith, ap input_faults unread)))
+
+  -- no count rose: the cause and the text are the answer's, or memory was wanting
+  pub complete : (cause : Cause) (told : Files) (bytes : List ℕ) → Ran cause → files store ≡ Some told → left input ≡ Some bytes
+      → (Rose (read_faults store) (read_faults store_now) → ⊥) → (Rose (input_faults input) (input_faults input_now) → ⊥) → (Rose (out_faults out) (out_faults out_now) → ⊥)
+      → Completes written out out_now (names_in words) (answer words told bytes) cause ⊎ (cause ≡ OutOfMemory)
+  complete cause told bytes ran tells_files tells_input no_file no_input no_write =
+      completes written out_faults out out_now (names_in words) (answer words told bytes) cause no_write ends ran.fault_told no_read (λ is. no_write (ran.write_failed is))
+    where
+      ends : Ends written out out_now (answer words told bytes) cause
+      ends = subst (λ (found : Option (List ℕ)). IfSome found (λ bytes. Ends written out out_now (answer words told bytes) cause)) tells_input
+          (subst (λ (found : Option Files). IfSome found (λ told. IfSome (left input) (λ bytes. Ends written out out_now (answer words told bytes) cause))) tells_files ran.is_meant)
+      failed : FileFailed (read_faults store) (read_faults store_now) (input_now ≡ input)
+          ⊎ InputFailed words (files store) (read_faults store) (read_faults store_now) (input_faults input) (input_faults input_now) → ⊥
+      failed (inl file) = no_file file.0
+      failed (inr input) = no_input input.rose
+      no_read : cause ≡ ReadFault → ⊥
+      no_read is = failed (ran.read_failed is)
