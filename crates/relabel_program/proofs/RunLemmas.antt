@@ -343,9 +343,11 @@ module _ {S I O : Type 0} (files : S → Option Files) (read_faults write_faults
       ends : Ends written out out_now (answer words told bytes) cause
       ends = subst (λ (found : Option (List ℕ)). IfSome found (λ bytes. Ends written out out_now (answer words told bytes) cause)) tells_input
           (subst (λ (found : Option Files). IfSome found (λ told. IfSome (left input) (λ bytes. Ends written out out_now (answer words told bytes) cause))) tells_files ran.is_meant)
+
       failed : FileFailed (read_faults store) (read_faults store_now) (input_now ≡ input)
           ⊎ InputFailed words (files store) (read_faults store) (read_faults store_now) (input_faults input) (input_faults input_now) → ⊥
       failed (inl file) = no_file file.0
       failed (inr input) = no_input input.rose
+
       no_read : cause ≡ ReadFault → ⊥
       no_read is = failed (ran.read_failed is)

@@ -58,7 +58,7 @@ pub fn plain<S: Store, I: Source, O: Sink>(
     };
     let rules = match read_policy(alloc, words, &names, store) {
         Ok(rules) => rules,
-        Err(cause) => return refuse(alloc, &names, cause, out),
+        Err(refusal) => return refuse(alloc, &names, refusal, out),
     };
     let tree = match read_tree(alloc, input) {
         Ok(tree) => tree,

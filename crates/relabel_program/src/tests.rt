@@ -1,8 +1,10 @@
 use crate::cause::Outcome;
-use crate::runs::plain;
+use crate::runs::{plain, top};
 use label_base::{Bytes, MemSink, MemSource, MemStore, OutOfMemory, Row};
 use std::alloc::Global;
 use std::test::Fail;
+
+const WORDS: &[&str] = &["setfiles", "-n", "-v", "-F", "fc", "/"];
 
 const SPECS: &[u8] =
     b"/ -d system_u:object_r:root_t:s0\n/etc/passwd system_u:object_r:passwd_file_t:s0\n";
@@ -27,6 +29,20 @@ const NONE_FAILS: Failing = Failing {
     out: 0,
 };
 
+/// What a run ended with, what it wrote, and whether it left the input as it was.
+#[derive(Drop)]
+struct Ran {
+    outcome: Outcome,
+    out: MemSink,
+    is_unread: bool,
+}
+
+impl Ran {
+    fn ended(&self, status: u8, text: &[u8]) -> bool {
+        self.outcome.status == status && self.out.written() == text
+    }
+}
+
 fn failing_at(alloc: Global, number: u64) -> Result<Row<u64>, OutOfMemory> {
     let mut numbers = Row::new(alloc);
     if number > 0 {
@@ -45,10 +61,11 @@ fn words_of(alloc: Global, words: &[&str]) -> Result<Vec<String>, OutOfMemory> {
 
 fn run(
     alloc: Global,
+    words: &[&str],
     files: &[(&str, &[u8])],
     records: &[u8],
     failing: &Failing,
-) -> Result<(Outcome, MemSink), OutOfMemory> {
+) -> Result<Ran, OutOfMemory> {
     let mut store = MemStore::new(alloc, failing_at(alloc, failing.store)?);
     for file in files {
         store.put(alloc, file.0, file.1)?;
@@ -59,114 +76,115 @@ fn run(
         failing_at(alloc, failing.input)?,
     );
     let mut out = MemSink::new(alloc, 10, failing_at(alloc, failing.out)?);
-    let words = words_of(alloc, &["setfiles", "-n", "-v", "-F", "fc", "/"])?;
+    let words = words_of(alloc, words)?;
     let outcome = plain(alloc, words.as_slice(), &mut store, &mut input, &mut out);
-    Ok((outcome, out))
-}
-
-fn answers(
-    alloc: Global,
-    files: &[(&str, &[u8])],
-    records: &[u8],
-    failing: &Failing,
-    status: u8,
-    text: &[u8],
-) -> Result<bool, OutOfMemory> {
-    let (outcome, out) = run(alloc, files, records, failing)?;
-    Ok(outcome.status == status && out.written() == text)
+    let is_unread = input.left() == records;
+    Ok(Ran {
+        outcome,
+        out,
+        is_unread,
+    })
 }
 
 #[test]
-fn the_whole_report_in_pieces(rt: HostRuntime) -> Result<(), Fail> {
-    assert!(rt;
-        answers(
-            rt.alloc(),
-            &[("fc", SPECS)],
-            RECORDS,
-            &NONE_FAILS,
-            0,
-            REPORT
-        )?
-    );
+fn a_failing_call_is_told(rt: HostRuntime) -> Result<(), Fail> {
+    let files: &[(&str, &[u8])] = &[("fc", SPECS)];
+    let line = b"relabel: read failed\n".as_slice();
+    let local = run(
+        rt.alloc(),
+        WORDS,
+        files,
+        RECORDS,
+        &Failing {
+            store: 3,
+            ..NONE_FAILS
+        },
+    )?;
+    assert!(rt; local.ended(253, line) && local.is_unread);
+    let input = run(
+        rt.alloc(),
+        WORDS,
+        files,
+        RECORDS,
+        &Failing {
+            input: 1,
+            ..NONE_FAILS
+        },
+    )?;
+    assert!(rt; input.ended(253, line));
+    let out = run(
+        rt.alloc(),
+        WORDS,
+        files,
+        RECORDS,
+        &Failing {
+            out: 2,
+            ..NONE_FAILS
+        },
+    )?;
+    assert!(rt; out.ended(252, b"Would rela"));
+    Ok(())
+}
+
+/// Base files that are refused, and what stands behind their name in the line.
+const REFUSED: &[(&[u8], &[u8])] = &[
+    (b"[ u:r:a_t", b"relabel: fc: line 1: pattern: syntax at 0\n"),
+    (
+        b"# first\na{2,1} u:r:a_t",
+        b"relabel: fc: line 2: pattern: syntax at 1\n",
+    ),
+    (
+        b"# first\n# second\n(?=x) u:r:a_t",
+        b"relabel: fc: line 3: pattern: unsupported at 0\n",
+    ),
+    (
+        b"/a <<none>>\n/((((((((((((((((((((((((((((((((((((((((((((((((((( <<none>>",
+        b"relabel: fc: line 2: pattern: too deep at 51\n",
+    ),
+    (
+        b".{2001} <<none>>",
+        b"relabel: fc: line 1: pattern: too many positions\n",
+    ),
+    (b"/a", b"relabel: fc: line 1: missing context\n"),
+    (b"/a -x u:r:a_t", b"relabel: fc: line 1: bad type\n"),
+    (b"/a u:r", b"relabel: fc: line 1: bad context\n"),
+];
+
+#[test]
+fn each_refused_base_file_is_told_before_the_input(rt: HostRuntime) -> Result<(), Fail> {
+    for (specs, line) in REFUSED {
+        let ran = run(rt.alloc(), WORDS, &[("fc", *specs)], RECORDS, &NONE_FAILS)?;
+        assert!(rt; ran.ended(255, *line) && ran.is_unread, "at {line:?}");
+    }
     Ok(())
 }
 
 #[test]
-fn the_second_write_fails(rt: HostRuntime) -> Result<(), Fail> {
-    let failing = Failing {
-        store: 0,
-        input: 0,
-        out: 2,
-    };
-    assert!(rt;
-        answers(
-            rt.alloc(),
-            &[("fc", SPECS)],
-            RECORDS,
-            &failing,
-            252,
-            b"Would rela"
-        )?
-    );
-    Ok(())
-}
-
-#[test]
-fn the_first_read_of_the_input_fails(rt: HostRuntime) -> Result<(), Fail> {
-    let failing = Failing {
-        store: 0,
-        input: 1,
-        out: 0,
-    };
-    assert!(rt;
-        answers(
-            rt.alloc(),
-            &[("fc", SPECS)],
-            RECORDS,
-            &failing,
-            253,
-            b"relabel: read failed\n"
-        )?
-    );
-    Ok(())
-}
-
-#[test]
-fn the_read_of_the_local_file_fails(rt: HostRuntime) -> Result<(), Fail> {
-    let failing = Failing {
-        store: 3,
-        input: 0,
-        out: 0,
-    };
-    assert!(rt;
-        answers(
-            rt.alloc(),
-            &[("fc", SPECS)],
-            RECORDS,
-            &failing,
-            253,
-            b"relabel: read failed\n"
-        )?
-    );
+fn other_refusals_are_told_before_the_input(rt: HostRuntime) -> Result<(), Fail> {
+    let alloc = rt.alloc();
+    let subs: &[(&str, &[u8])] = &[("fc", SPECS), ("fc.subs_dist", b"/a /b\n/ /c\n")];
+    let ran = run(alloc, WORDS, subs, RECORDS, &NONE_FAILS)?;
+    let line = b"relabel: fc.subs_dist: line 2: not a substitution\n".as_slice();
+    assert!(rt; ran.ended(255, line) && ran.is_unread);
+    let ran = run(alloc, WORDS, &[], RECORDS, &NONE_FAILS)?;
+    assert!(rt; ran.ended(255, b"relabel: fc: not found\n") && ran.is_unread);
+    let ran = run(alloc, &["setfile"], &[], RECORDS, &NONE_FAILS)?;
+    let line = b"relabel: usage: word 0: unknown tool\n".as_slice();
+    assert!(rt; ran.ended(255, line) && ran.is_unread);
+    let ran = run(alloc, &["setfiles", "-n"], &[], RECORDS, &NONE_FAILS)?;
+    let line = b"relabel: usage: word 2: not yet\n".as_slice();
+    assert!(rt; ran.ended(255, line) && ran.is_unread);
     Ok(())
 }
 
 #[test]
 fn hard_links_and_doubled_records_are_refused(rt: HostRuntime) -> Result<(), Fail> {
-    let line = b"relabel: records refused\n";
+    let files: &[(&str, &[u8])] = &[("fc", SPECS)];
+    let line = b"relabel: records refused\n".as_slice();
     let linked = b"d 1 2 ? /\0f 1 3 ? /a\0f 1 3 ? /b\0";
-    assert!(rt; answers(rt.alloc(), &[("fc", SPECS)], linked, &NONE_FAILS, 255, line)?);
+    assert!(rt; run(rt.alloc(), WORDS, files, linked, &NONE_FAILS)?.ended(255, line));
     let doubled = b"d 1 2 ? /\0f 1 3 ? /a\0f 1 4 ? /a\0";
-    assert!(rt;
-        answers(
-            rt.alloc(),
-            &[("fc", SPECS)],
-            doubled,
-            &NONE_FAILS,
-            255,
-            line
-        )?
-    );
+    assert!(rt; run(rt.alloc(), WORDS, files, doubled, &NONE_FAILS)?.ended(255, line));
     Ok(())
 }
 
@@ -178,35 +196,47 @@ fn repeated(alloc: Global, line: &[u8], count: u32) -> Result<Bytes, OutOfMemory
     Ok(text)
 }
 
+// A run over so many specifications in the base file, and one of the local file.
+fn with_specs(alloc: Global, count: u32) -> Result<Ran, OutOfMemory> {
+    let base = repeated(alloc, b"/.* system_u:object_r:root_t:s0\n", count)?;
+    let files: &[(&str, &[u8])] = &[
+        ("fc", base.as_slice()),
+        ("fc.local", b"/etc/.* system_u:object_r:passwd_file_t:s0\n"),
+    ];
+    run(alloc, WORDS, files, RECORDS, &NONE_FAILS)
+}
+
 #[test]
 fn specifications_of_three_files_are_counted_together(rt: HostRuntime) -> Result<(), Fail> {
-    let line = b"/a system_u:object_r:a_t:s0\n";
-    let base = repeated(rt.alloc(), line, 65_535)?;
-    let two = repeated(rt.alloc(), line, 2)?;
-    let files = [("fc", base.as_slice()), ("fc.local", two.as_slice())];
-    assert!(rt;
-        answers(
-            rt.alloc(),
-            &files,
-            RECORDS,
-            &NONE_FAILS,
-            255,
-            b"relabel: limit: specifications\n"
-        )?
-    );
+    let ran = with_specs(rt.alloc(), 65_536)?;
+    assert!(rt; ran.ended(255, b"relabel: limit: specifications\n") && ran.is_unread);
+    assert!(rt; with_specs(rt.alloc(), 65_535)?.ended(0, REPORT));
     Ok(())
 }
 
-fn with_feeds(alloc: Global, count: u32, status: u8, text: &[u8]) -> Result<bool, OutOfMemory> {
+fn with_feeds(alloc: Global, count: u32) -> Result<Ran, OutOfMemory> {
     let feeds = repeated(alloc, b"\n", count)?;
-    let files = [("fc", SPECS), ("fc.subs", feeds.as_slice())];
-    answers(alloc, &files, RECORDS, &NONE_FAILS, status, text)
+    let files: &[(&str, &[u8])] = &[("fc", SPECS), ("fc.subs", feeds.as_slice())];
+    run(alloc, WORDS, files, RECORDS, &NONE_FAILS)
 }
 
 #[test]
 fn a_substitution_file_past_its_limit(rt: HostRuntime) -> Result<(), Fail> {
-    let line = b"relabel: limit: bytes of fc.subs\n";
-    assert!(rt; with_feeds(rt.alloc(), 1_048_577, 255, line)?);
-    assert!(rt; with_feeds(rt.alloc(), 1_048_576, 0, REPORT)?);
+    let ran = with_feeds(rt.alloc(), 1_048_577)?;
+    assert!(rt; ran.ended(255, b"relabel: limit: bytes of fc.subs\n") && ran.is_unread);
+    assert!(rt; with_feeds(rt.alloc(), 1_048_576)?.ended(0, REPORT));
+    Ok(())
+}
+
+#[test]
+fn the_top_call_answers_as_the_plain_one(rt: HostRuntime) -> Result<(), Fail> {
+    let alloc = rt.alloc();
+    let mut store = MemStore::new(alloc, Row::new(alloc));
+    store.put(alloc, "fc", SPECS)?;
+    let mut input = MemSource::new(Bytes::copy_of(alloc, RECORDS)?, 7, Row::new(alloc));
+    let mut out = MemSink::new(alloc, 7, Row::new(alloc));
+    let words = words_of(alloc, WORDS)?;
+    let outcome = top(alloc, words.as_slice(), 4, &mut store, &mut input, &mut out);
+    assert!(rt; outcome.status == 0 && out.written() == REPORT);
     Ok(())
 }

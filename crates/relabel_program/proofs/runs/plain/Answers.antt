@@ -14,7 +14,7 @@ returns-in-Err-clause-run g c =
 pub returns-in-Err-read_policy-clause-run : goal.returns-in-Err-read_policy-clause-run
 returns-in-Err-read_policy-clause-run g c =
     let read = c.in-Err-read_policy.ensures in
-    told_policy _ _ _ _ _ _ _ _ _ _ _ _ _ _ c.in-Err-read_policy.cause c.refuse.result.cause c.in-Ok.names c.refuse.ensures.cause
+    told_policy _ _ _ _ _ _ _ _ _ _ _ _ _ _ c.in-Err-read_policy.refusal c.refuse.result.cause c.in-Ok.names c.refuse.ensures.cause
     (c.in-Ok.ensures ∙ ap names_beside c.base_word.ensures) refl read.files read.writes
     (record { wrong = read.usage; only_wrong = read.only_usage })
     read.answer read.kinds read.counts c.refuse.ensures.told
