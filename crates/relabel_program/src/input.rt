@@ -26,7 +26,7 @@ fn checked(alloc: Global, tree: Tree) -> Result<Tree, Cause>
 }
 
 fn tree_from(alloc: Global, records: Row<Record>) -> Result<Tree, Cause>
-    requires { length records < 2 ^ 32 - 1 }
+    requires { length records < 2 ^ 32 }
     ensures answer { Gives (entries_from (tree_of records)) result }
     ensures counts { (count : ℕ) → Counts count count result }
     ensures kinds { IfErr result IsInputCause }

@@ -1,7 +1,7 @@
 ghost use Rattle.std.specs.Prelude.{◌≡◌, ◌++◌, OnOk, OnErr, IfOk};
 ghost use Rattle.label_base.specs.Escape.{escaped};
 ghost use Rattle.label_base.specs.Path.{path_text};
-ghost use Rattle.report_text.specs.Texts.{label_text, line_of, relabel_words, report_of, words_text};
+ghost use Rattle.report_text.specs.Texts.{label_text, line_of, relabel_words, report_of};
 ghost use Rattle.report_text.specs.declared.message.Message.TheVariants.{Relabel, NoDefault};
 
 use crate::message::Message;
@@ -19,43 +19,36 @@ fn add_label(alloc: Global, label: &Label, text: &mut Bytes) -> Result<(), OutOf
     ensures { OnOk result (text.new ≡ text.old ++ label_text label.now) }
 {
     match label {
-        Label::Absent => text.push(b"<no context>"),
+        Label::Absent => add(NO_CONTEXT, text),
         Label::Odd(bytes) => write_escaped(alloc, bytes.as_slice(), text),
         Label::Is(context) => context.write(alloc, text),
     }
 }
 
-/// The fixed words of the lines.
-#[derive(Clone, Copy, Debug, PartialEq, Eq)]
-enum Words {
-    WouldRelabel,
-    Relabeled,
-    From,
-    To,
-    NoDefaultLabel,
+const NO_CONTEXT: &str = "<no context>";
+
+const WOULD_RELABEL: &str = "Would relabel ";
+
+const RELABELED: &str = "Relabeled ";
+
+const FROM: &str = " from ";
+
+const TO: &str = " to ";
+
+const NO_DEFAULT: &str = "Warning no default label for ";
+
+const LINE_FEED: &str = "\n";
+
+fn add(words: &str, text: &mut Bytes) -> Result<(), OutOfMemory>
+    ensures { OnOk result (text.new ≡ text.old ++ words.now) }
+{
+    text.push(words.as_bytes())
 }
 
-#[tactic(auto, unfolding(crate::specs::Texts::words_text))]
-fn add_words(words: Words, text: &mut Bytes) -> Result<(), OutOfMemory>
-    ensures { OnOk result (text.new ≡ text.old ++ words_text words) }
+fn first_words(dry: bool) -> &'static str
+    ensures { result.now ≡ relabel_words dry }
 {
-    match words {
-        Words::WouldRelabel => text.push(b"Would relabel "),
-        Words::Relabeled => text.push(b"Relabeled "),
-        Words::From => text.push(b" from "),
-        Words::To => text.push(b" to "),
-        Words::NoDefaultLabel => text.push(b"Warning no default label for "),
-    }
-}
-
-fn first_words(dry: bool) -> Words
-    ensures { result ≡ relabel_words dry }
-{
-    if dry {
-        Words::WouldRelabel
-    } else {
-        Words::Relabeled
-    }
+    if dry { WOULD_RELABEL } else { RELABELED }
 }
 
 /// Adds the line of a changed label, without a message of its own. After a refusal the text has a front of the line.
@@ -69,13 +62,13 @@ pub fn add_relabel(
 ) -> Result<(), OutOfMemory>
     ensures { OnOk result (text.new ≡ text.old ++ line_of (Relabel path.now from.now to.now dry)) }
 {
-    add_words(first_words(dry), text)?;
+    add(first_words(dry), text)?;
     add_path(alloc, path, text)?;
-    add_words(Words::From, text)?;
+    add(FROM, text)?;
     add_label(alloc, from, text)?;
-    add_words(Words::To, text)?;
+    add(TO, text)?;
     to.write(alloc, text)?;
-    text.push(b"\n")?;
+    add(LINE_FEED, text)?;
     Ok(())
 }
 
@@ -84,9 +77,9 @@ pub fn add_relabel(
 pub fn add_no_default(alloc: Global, path: &NormPath, text: &mut Bytes) -> Result<(), OutOfMemory>
     ensures { OnOk result (text.new ≡ text.old ++ line_of (NoDefault path.now)) }
 {
-    add_words(Words::NoDefaultLabel, text)?;
+    add(NO_DEFAULT, text)?;
     add_path(alloc, path, text)?;
-    text.push(b"\n")?;
+    add(LINE_FEED, text)?;
     Ok(())
 }
 

@@ -26,7 +26,7 @@ struct Firsts {
 
 // The records with their numbers, from 1 on.
 fn number_all(alloc: Global, records: &[Record]) -> Result<Vec<Numbered<'_>>, OutOfMemory>
-    requires { length records.now < 2 ^ 32 - 1 }
+    requires { length records.now < 2 ^ 32 }
     ensures { IfOk result (λ all. all.items ≡ numbered_from 1 records.now) }
 {
     let mut all = Vec::with_capacity(alloc, records.len())?;
@@ -88,7 +88,7 @@ fn first_of_each(alloc: Global, sorted: &[Numbered<'_>]) -> Result<Firsts, OutOf
 // The records with their numbers, in order.
 #[tactic(auto, using(crate::proofs::SortedLemmas::doubled_is, crate::proofs::EntryLemmas::entries_are, crate::proofs::SortedLemmas::count_is, crate::proofs::PassLemmas::few_firsts, crate::proofs::PlaceLemmas::places_are, crate::proofs::PlaceLemmas::places_within))]
 fn sort_records(alloc: Global, records: &[Record]) -> Result<Vec<Numbered<'_>>, OutOfMemory>
-    requires { length records.now < 2 ^ 32 - 1 }
+    requires { length records.now < 2 ^ 32 }
     ensures doubled { IfOk result (λ sorted. doubled_in sorted.items ≡ doubled records.now) }
     ensures entries { IfOk result (λ sorted. doubled records.now ≡ None → map item_of (dedup same_place sorted.items) ≡ entries_of records.now) }
     ensures places { IfOk result (λ sorted. entries_in records.now (map place_of (dedup same_place sorted.items)) ≡ map item_of (dedup same_place sorted.items)) }
@@ -102,7 +102,7 @@ fn sort_records(alloc: Global, records: &[Record]) -> Result<Vec<Numbered<'_>>, 
 
 /// The places of a tree's entries among its records, in the order of their paths.
 pub fn order_of(alloc: Global, records: &[Record]) -> Result<Vec<u32>, TreeFault>
-    requires { length records.now < 2 ^ 32 - 1 }
+    requires { length records.now < 2 ^ 32 }
     ensures answer { Answers (λ order. entries_in records.now order.items) tree_cause result (tree_of records.now) }
     ensures within { IfOk result (λ order. AreWithin (length records.now) order.items) }
     ensures fewer { IfOk result (λ order. length order.items ≤ length records.now) }

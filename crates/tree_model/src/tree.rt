@@ -53,7 +53,7 @@ impl Tree {
     ///
     /// Two records of one path that differ make no tree.
     pub fn new(alloc: Global, records: Row<Record>) -> Result<Tree, TreeFault>
-        requires { length records < 2 ^ 32 - 1 }
+        requires { length records < 2 ^ 32 }
         ensures answer { Answers (λ tree. tree) tree_cause result (tree_of records) }
         ensures by_path { IfOk result (λ tree. ByPath tree) }
         ensures same { IfOk result (λ tree. (r : Record) → Contains tree r ↔ Contains records r) }
