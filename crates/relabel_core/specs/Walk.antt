@@ -5,6 +5,7 @@ use Rattle.label_base.specs.Path.{path_text}
 use Rattle.label_base.specs.declared.kind.Asked.TheVariants.{Of}
 use Rattle.context_syntax.specs.Context.{ContextValue}
 use Rattle.context_syntax.specs.Label.{same_label}
+use Rattle.context_syntax.specs.declared.label.Label.{Label}
 use Rattle.context_syntax.specs.declared.label.Label.TheVariants.{Is}
 use Rattle.spec_reader.specs.SpecValue.{SpecValue}
 use Rattle.spec_reader.specs.declared.spec.Decision.{Decision}
@@ -20,13 +21,18 @@ use Rattle.relabel_core.specs.declared.rules.Rules.{Rules}
 unfoldable pub decided : Rules → Record → Option SpecValue
 decided rules entry = last_match (Of entry.kind) (path_text (substituted rules.subs.first rules.subs.second entry.path)) rules.rules
 
--- the message of an entry whose label is looked at against the whole wanted context, when nothing is to change
-abbrev pub wanted_message : Record → ContextValue → Option Message
-wanted_message entry wanted = if same_label entry.label (Is wanted) then None else Some (Relabel entry.path entry.label wanted true)
+-- the context that a label is to give way to, where the whole context is wanted
+abbrev pub change : Label → ContextValue → Option ContextValue
+change current wanted = if same_label current (Is wanted) then None else Some wanted
+
+-- the message of an entry whose label is to change to this, when nothing is changed
+abbrev pub change_message : Record → Option ContextValue → Option Message
+change_message entry None = None
+change_message entry (Some context) = Some (Relabel entry.path entry.label context true)
 
 abbrev pub decision_message : Record → Decision → Option Message
 decision_message entry Leave = None
-decision_message entry (Give wanted) = wanted_message entry wanted
+decision_message entry (Give wanted) = change_message entry (change entry.label wanted)
 
 abbrev pub decided_message : Record → Option SpecValue → Option Message
 decided_message entry None = Some (NoDefault entry.path)

@@ -101,9 +101,28 @@ impl RuleSet {
     }
 
     /// The index of the last specification whose kind applies to what is asked and whose language holds the path's text,
-    /// or none where there is no such specification. It counts one step and takes no memory.
+    /// or none where there is no such specification. It takes no memory.
     ///
     /// A specification without a kind applies always, one with a kind to it and to [`Asked::Any`].
+    pub fn find_last(&self, scratch: &mut Scratch, path: &NormPath, asked: Asked) -> Option<u32>
+        requires { IsScratchOf self.now scratch.old }
+        ensures own { IsScratchOf self.now scratch.new }
+        ensures within { IfSome result (λ i. i < length self.now) }
+        ensures index { result ≡ last_index asked (path_text path.now) self.now }
+        ensures member { option_and_then (slice_get self.now) result ≡ last_match asked (path_text path.now) self.now }
+    {
+        match find_last(
+            self.rules.as_slice(),
+            &mut scratch.states,
+            path.as_text(),
+            asked,
+        ) {
+            Some(i) => Some(i as u32),
+            None => None,
+        }
+    }
+
+    /// Finds the last match, and counts one step.
     pub fn last_match<L: Ledger>(
         &self,
         scratch: &mut Scratch,
@@ -119,15 +138,7 @@ impl RuleSet {
         ensures count { steps.new ≡ steps.old + 1 }
     {
         steps.tick();
-        match find_last(
-            self.rules.as_slice(),
-            &mut scratch.states,
-            path.as_text(),
-            asked,
-        ) {
-            Some(i) => Some(i as u32),
-            None => None,
-        }
+        self.find_last(scratch, path, asked)
     }
 }
 
