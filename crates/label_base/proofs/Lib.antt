@@ -9,3 +9,5 @@ pub mod EscapeLemmas
 pub mod Sending
 pub mod PathMoves
 pub mod PathFronts
+pub mod LineLengths
+pub mod LineLimits

@@ -5,7 +5,11 @@ use Rattle.std.proofs.lemmas.Bool.{ltb-false, ltb-true}
 use Rattle.std.specs.Prelude.{Option, Some, None, fold, nat_lt, ◌&&◌}
 use Rattle.std.specs.List.{list_all}
 use Rattle.std.proofs.Common.{length, ◌==◌, get_or, drop, drop-cons, suc}
-use Rattle.label_base.specs.Number.{next_value, with_digit, digit_of, is_digit, decimal, number_of}
+use Rattle.label_base.specs.Number.{with_digit, digit_of, is_digit, decimal, number_of}
+
+abbrev pub next_value : Option ℕ → ℕ → Option ℕ
+next_value None b = None
+next_value (Some value) b = with_digit value (digit_of b)
 
 abbrev whole : Bool → ℕ → Option ℕ
 whole all value = cond (all && nat_lt value (2 ^ 64)) (Some value) None

@@ -8,7 +8,7 @@ use Rattle.std.specs.declared.cmp.Ordering.{Ordering}
 use Rattle.std.specs.declared.cmp.Ordering.TheVariants.{Less, Equal, Greater}
 use Rattle.label_base.specs.PathFront.{digit, front, IsKey}
 use Rattle.label_base.specs.Path.{path_cmp, path_names}
-use Rattle.label_base.proofs.PathTexts.{cmp_normal}
+use Rattle.label_base.proofs.PathTexts.{cmp_more, cmp_normal, cmp_zero_left, cmp_zero_right}
 use Rattle.label_base.specs.PathText.{byte_rank, text_cmp}
 
 abbrev pub AreBytes : List ℕ → Type 0
@@ -36,20 +36,11 @@ digit_small : (text : List ℕ) → AreBytes text → digit text < 512
 digit_small [] h = omega arith
 digit_small (b ∷ bs) h = let r = rank_small b (h 0) in omega (arith, r)
 
-cmp_more : (a b : ℕ) → nat_cmp (a + 1) (b + 1) ≡ nat_cmp a b
-cmp_more a b = grind (arith, nat_tests)
-
-cmp_none_left : (n : ℕ) → nat_cmp 0 (n + 1) ≡ Less
-cmp_none_left n = grind (arith, nat_tests)
-
-cmp_none_right : (n : ℕ) → nat_cmp (n + 1) 0 ≡ Greater
-cmp_none_right n = grind (arith, nat_tests)
-
 -- the first byte's digit, and then what stands behind it
 by_digit : (xs ys : List ℕ) → text_cmp xs ys ≡ ordering_then (nat_cmp (digit xs) (digit ys)) (text_cmp (drop 1 xs) (drop 1 ys))
 by_digit [] [] = refl
-by_digit [] (y ∷ ys) = rw (cmp_none_left (byte_rank y)) refl
-by_digit (x ∷ xs) [] = rw (cmp_none_right (byte_rank x)) refl
+by_digit [] (y ∷ ys) = rw (cmp_zero_left (byte_rank y)) refl
+by_digit (x ∷ xs) [] = rw (cmp_zero_right (byte_rank x)) refl
 by_digit (x ∷ xs) (y ∷ ys) = rw (cmp_more (byte_rank x) (byte_rank y)) refl
 
 -- numbers of two digits are compared by the first and then by the second

@@ -71,13 +71,13 @@ same_texts (n ∷ ns) (m ∷ ms) h g =
 rank_other : (b : ℕ) → is_name_byte b ≡ true → byte_rank b ≡ b + 1
 rank_other b h = rw (not_slash b h) refl
 
-cmp_more : (a b : ℕ) → nat_cmp (a + 1) (b + 1) ≡ nat_cmp a b
+pub cmp_more : (a b : ℕ) → nat_cmp (a + 1) (b + 1) ≡ nat_cmp a b
 cmp_more a b = grind (arith, nat_tests)
 
-cmp_zero_left : (b : ℕ) → nat_cmp 0 (b + 1) ≡ Less
+pub cmp_zero_left : (b : ℕ) → nat_cmp 0 (b + 1) ≡ Less
 cmp_zero_left b = grind (arith, nat_tests)
 
-cmp_zero_right : (a : ℕ) → nat_cmp (a + 1) 0 ≡ Greater
+pub cmp_zero_right : (a : ℕ) → nat_cmp (a + 1) 0 ≡ Greater
 cmp_zero_right a = grind (arith, nat_tests)
 
 then_after : (o p q u : Ordering) → u ≡ ordering_then p q → ordering_then o u ≡ ordering_then (ordering_then o p) q

@@ -5,7 +5,6 @@ pub mod Kind
 pub mod Lines
 pub mod Number
 pub mod Path
-pub mod PathCause
 pub mod PathFront
 pub mod PathText
 pub mod Pieces

@@ -22,7 +22,3 @@ digit_of b = if is_digit b then Some (b - 48) else None
 abbrev pub with_digit : ℕ → Option ℕ → Option ℕ
 with_digit value None = None
 with_digit value (Some digit) = if nat_lt (value * 10 + digit) (2 ^ 64) then Some (value * 10 + digit) else None
-
-abbrev pub next_value : Option ℕ → ℕ → Option ℕ
-next_value None b = None
-next_value (Some value) b = with_digit value (digit_of b)

@@ -1,6 +1,7 @@
 -- Paths: lists of nonempty names without a slash and NUL.
 use Rattle.std.specs.Prelude.{ℕ, Bool, true, false, ◌&&◌, ◌||◌, ◌==◌, List, [], ◌∷◌, length, not, if◌then◌else◌, nat_lt, filter, slice_index, Result, Ok, Err}
 use Rattle.std.specs.List.{flat_map, list_any, list_all, starts_with, slice_split}
+use Rattle.label_base.specs.declared.path.TheConstants.{MOST_BYTES}
 use Rattle.label_base.specs.declared.path_fault.PathWhy.{PathWhy}
 use Rattle.label_base.specs.declared.path_fault.PathWhy.TheVariants.{Empty, PathTooLong, HasNul, NotAbsolute, DotPart}
 use Rattle.std.specs.Str.{bytes_eq}
@@ -62,7 +63,7 @@ is_dot_part name = same_bytes name (46 ∷ []) || same_bytes name (46 ∷ 46 ∷
 abbrev pub path_read : List ℕ → Result Path PathWhy
 path_read bytes =
     if length bytes == 0 then Err Empty
-    else if nat_lt 4095 (length bytes) then Err PathTooLong
+    else if nat_lt MOST_BYTES (length bytes) then Err PathTooLong
     else if list_any (λ b. b == 0) bytes then Err HasNul
     else if not (slice_index bytes 0 == 47) then Err NotAbsolute
     else if list_any is_dot_part (path_names bytes) then Err DotPart

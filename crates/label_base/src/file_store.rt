@@ -1,4 +1,4 @@
-ghost use Rattle.std.specs.Prelude.{◌≡◌, ◌≤◌, ◌+◌, ◌-◌, ◌^◌, ◌<◌, ◌↔◌, ◌≢◌, IfOk, None, length, min};
+ghost use Rattle.std.specs.Prelude.{◌≡◌, ◌⊎◌, ◌≤◌, ◌+◌, ◌-◌, ◌^◌, ◌<◌, ◌↔◌, ◌≢◌, IfOk, None, length, min};
 
 use crate::bytes::Bytes;
 use crate::reading::{AllFault, read_all};
@@ -14,7 +14,7 @@ use std::marker::Model;
 /// The files of the system. It tells no content, and counts each call that fails.
 ///
 /// A name is a path as open(2) takes it. `NotThere` is the system's "no such file or directory"
-/// (ENOENT) alone. A read takes at most one byte more than its limit. A write makes the file anew,
+/// (ENOENT) and "file name too long" (ENAMETOOLONG), since no such file can exist. A read takes at most one byte more than its limit. A write makes the file anew,
 /// or shortens it to nothing first, so a write that fails may leave a part of the bytes.
 #[derive(Drop)]
 pub struct FileStore<'r, R> {
@@ -65,13 +65,14 @@ fn content_of<R: Files>(
     }
 }
 
-// Only "no such file or directory" says that there is no file.
+// Only "no such file or directory" and "file name too long" say that there is no file.
 fn fault_of(kind: ErrorKind) -> FileFault
-    ensures absent { (result ≡ FileFault.NotThere) ↔ (kind ≡ ErrorKind.NotFound) }
+    ensures absent { (result ≡ FileFault.NotThere)
+        ↔ (kind ≡ ErrorKind.NotFound ⊎ kind ≡ ErrorKind.InvalidFilename) }
     ensures opened { result ≢ FileFault.TooLong }
 {
     match kind {
-        ErrorKind::NotFound => FileFault::NotThere,
+        ErrorKind::NotFound | ErrorKind::InvalidFilename => FileFault::NotThere,
         ErrorKind::OutOfMemory => FileFault::OutOfMemory,
         _ => FileFault::Failed,
     }
@@ -137,6 +138,15 @@ mod tests {
         assert_eq!(rt; long, Some(FileFault::TooLong));
         let below_none = store.read_file(rt.alloc(), "/dev/null/a", 9).err();
         assert_eq!(rt; below_none, Some(FileFault::Failed));
+        Ok(())
+    }
+
+    #[test]
+    fn no_file_has_so_long_a_name(rt: HostRuntime) -> Result<(), Fail> {
+        let name = "a".repeat(rt.alloc(), 5000)?;
+        let mut store = FileStore::new(&rt);
+        let absent = store.read_file(rt.alloc(), name.as_str(), 9).err();
+        assert_eq!(rt; absent, Some(FileFault::NotThere));
         Ok(())
     }
 }

@@ -9,16 +9,20 @@ ghost use Rattle.std.specs.Prelude.{◌≡◌, ◌++◌, ◌∷◌, ◌<◌, ◌
 ghost use Rattle.std.specs.List.{list_any, slice_split, count_by};
 ghost use Rattle.label_base.specs.Path.{path_names, path_read, path_text, is_dot_part, is_name, is_nonempty, at_or_below, with_slashes, is_slash};
 ghost use Rattle.label_base.specs.PathText.{text_at_or_below, ends_name, byte_rank, text_cmp, IsNormal, begins_plainly, is_plain};
-ghost use Rattle.label_base.specs.Answers.{Answers};
+ghost use Rattle.label_base.specs.Answers.{Answers, cause_of};
 
 use crate::bytes::Bytes;
 use crate::cut::cut_at;
+use crate::fault::Fault;
 use crate::memory::OutOfMemory;
-use crate::path_fault::PathFault;
+use crate::path_fault::{PathFault, PathWhy};
 use crate::path_key::PathKey;
 use std::alloc::Global;
 use std::cmp::Ordering;
 use std::marker::Model;
+
+/// The most bytes that spell a path: `PATH_MAX` of limits.h(0p), less its NUL.
+pub const MOST_BYTES: usize = 4095;
 
 /// An absolute path, seen as its names: what stands between the slashes, as path_resolution(7) says.
 ///
@@ -224,8 +228,6 @@ fn cmp_bytes(text: &[u8], other: &[u8]) -> Ordering
 }
 
 impl NormPath {
-    ghost use Rattle.label_base.specs.PathCause.{path_cause};
-
     /// The path `/`.
     pub fn root(alloc: Global) -> NormPath
         ensures { result ≡ [] }
@@ -237,22 +239,22 @@ impl NormPath {
 
     /// Reads an absolute path. Runs of slashes count as one, and slashes at the end as none.
     ///
-    /// The first fault in the order of [`PathFault`] is told: no bytes, more than 4,095 of them (`PATH_MAX`
-    /// of limits.h(0p), less its NUL), a NUL, another first byte than a slash, a component `.` or `..`.
+    /// The first fault in the order of [`PathWhy`] is told: no bytes, more than 4,095 of them, a NUL,
+    /// another first byte than a slash, a component `.` or `..`.
     pub fn read(alloc: Global, bytes: &[u8]) -> Result<NormPath, PathFault>
-        ensures { Answers (λ path. path) path_cause result (path_read bytes.now) }
+        ensures { Answers (λ path. path) cause_of result (path_read bytes.now) }
     {
         if bytes.is_empty() {
-            return Err(PathFault::Empty);
+            return Err(Fault::Why(PathWhy::Empty));
         }
-        if bytes.len() > 4095 {
-            return Err(PathFault::PathTooLong);
+        if bytes.len() > MOST_BYTES {
+            return Err(Fault::Why(PathWhy::PathTooLong));
         }
         if bytes.contains(&0) {
-            return Err(PathFault::HasNul);
+            return Err(Fault::Why(PathWhy::HasNul));
         }
         if bytes[0] != b'/' {
-            return Err(PathFault::NotAbsolute);
+            return Err(Fault::Why(PathWhy::NotAbsolute));
         }
         if is_plain(bytes) {
             return Ok(NormPath {
@@ -260,7 +262,7 @@ impl NormPath {
             });
         }
         if has_dots(bytes) {
-            return Err(PathFault::DotPart);
+            return Err(Fault::Why(PathWhy::DotPart));
         }
         Ok(NormPath {
             text: normal_text(alloc, bytes)?,
@@ -336,7 +338,7 @@ impl NormPath {
     /// [`NormPath::read`] reads it back as this path, unless it is too long or a name is `.` or `..`.
     pub fn as_text(&self) -> &[u8]
         ensures value { result.now ≡ path_text self.now }
-        ensures read_back { length result.now ≤ 4095 → list_any is_dot_part self.now ≡ false
+        ensures read_back { length result.now ≤ MOST_BYTES → list_any is_dot_part self.now ≡ false
             → path_read result.now ≡ Ok self.now }
     {
         text_or_slash(self.text.as_slice())
@@ -427,12 +429,21 @@ mod tests {
     #[test]
     fn faults_of_a_path(rt: HostRuntime) {
         let alloc = rt.alloc();
-        assert_eq!(rt; fault(alloc, b""), Some(PathFault::Empty));
-        assert_eq!(rt; fault(alloc, &[b'/'; 4096]), Some(PathFault::PathTooLong));
-        assert_eq!(rt; fault(alloc, b"a\0"), Some(PathFault::HasNul));
-        assert_eq!(rt; fault(alloc, b"a/.."), Some(PathFault::NotAbsolute));
-        assert_eq!(rt; fault(alloc, b"/a/../b"), Some(PathFault::DotPart));
-        assert_eq!(rt; fault(alloc, b"/a/."), Some(PathFault::DotPart));
+        assert_eq!(rt; fault(alloc, b""), Some(Fault::Why(PathWhy::Empty)));
+        assert_eq!(rt;
+            fault(alloc, &[b'/'; 4096]),
+            Some(Fault::Why(PathWhy::PathTooLong))
+        );
+        assert_eq!(rt; fault(alloc, b"a\0"), Some(Fault::Why(PathWhy::HasNul)));
+        assert_eq!(rt;
+            fault(alloc, b"a/.."),
+            Some(Fault::Why(PathWhy::NotAbsolute))
+        );
+        assert_eq!(rt;
+            fault(alloc, b"/a/../b"),
+            Some(Fault::Why(PathWhy::DotPart))
+        );
+        assert_eq!(rt; fault(alloc, b"/a/."), Some(Fault::Why(PathWhy::DotPart)));
     }
 
     #[test]

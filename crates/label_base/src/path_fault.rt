@@ -1,7 +1,4 @@
-ghost use Rattle.std.specs.Prelude.{◌≡◌};
-ghost use Rattle.label_base.specs.declared.path_fault.PathFault.TheVariants.{OutOfMemory};
-
-use crate::memory;
+use crate::fault::Fault;
 
 /// What is wrong with bytes that are no path.
 #[derive(Clone, Copy, Debug, PartialEq, Eq)]
@@ -19,20 +16,4 @@ pub enum PathWhy {
 }
 
 /// Why bytes gave no path.
-#[derive(Clone, Copy, Debug, PartialEq, Eq)]
-pub enum PathFault {
-    Empty,
-    PathTooLong,
-    HasNul,
-    NotAbsolute,
-    DotPart,
-    OutOfMemory,
-}
-
-impl From<memory::OutOfMemory> for PathFault {
-    ghost from_gives = { λ _ e. e ≡ OutOfMemory };
-
-    fn from(_refused: memory::OutOfMemory) -> PathFault {
-        PathFault::OutOfMemory
-    }
-}
+pub type PathFault = Fault<PathWhy>;

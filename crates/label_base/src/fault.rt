@@ -1,0 +1,34 @@
+ghost use Rattle.std.specs.Prelude.{◌≡◌};
+ghost use Rattle.label_base.specs.Answers.{cause_of};
+ghost use Rattle.label_base.specs.declared.fault.Fault.TheVariants as faults;
+
+use crate::memory;
+
+/// Why a call gave nothing: a reason, or want of memory.
+#[derive(Clone, Copy, Debug, PartialEq, Eq)]
+pub enum Fault<W> {
+    /// What was given is refused for this reason.
+    Why(W),
+    /// There was not enough memory.
+    OutOfMemory,
+}
+
+impl<W> From<memory::OutOfMemory> for Fault<W> {
+    ghost from_gives = { λ _ e. e ≡ faults.OutOfMemory };
+
+    fn from(_refused: memory::OutOfMemory) -> Fault<W> {
+        Fault::OutOfMemory
+    }
+}
+
+impl<W: Copy> Fault<W> {
+    /// The reason, or none where memory was wanting.
+    pub fn why(&self) -> Option<W>
+        ensures { result ≡ cause_of self.now }
+    {
+        match self {
+            Fault::Why(why) => Some(*why),
+            Fault::OutOfMemory => None,
+        }
+    }
+}
