@@ -1,52 +1,86 @@
 #!/usr/bin/env python3
-"""Compares the program with sort(1) on the same records, in one run.
+"""Measures the program beside sort(1) on the same records, in one run.
 
-    run.py [N]        1,000,000 records unless N says otherwise
+    run.py [N]                1,000,000 records in no order, 20 exact specifications
+    run.py --realistic [N]    200,000 records in the order of find(1), 5,600 specifications as distributions have them
 
-Prints the seconds of `LC_ALL=C sort -z --parallel=1`, the program's seconds with 20 exact specifications, the ratio, and the
-program's greatest memory for each byte of input. Seconds are the least of three runs, taken in turn.
+Prints the CPU seconds of `LC_ALL=C sort -z --parallel=1` and of the program, the ratio, and the program's greatest memory, in
+the realistic mode also what it takes to read the policy and decide one path. Figures are the least of three runs, taken in turn.
 """
 
+import argparse
 import os
-import resource
 import subprocess
 import sys
 import tempfile
-import time
 from pathlib import Path
 
 HERE = Path(__file__).resolve().parent
+PROGRAM = HERE.parent / "crates" / "relabel_program" / "out" / "relabel_program"
 SPECS = "".join(f"/usr/share/exact-{i}.conf\t--\tsystem_u:object_r:exact_{i}_t:s0\n" for i in range(19)) + \
     "/\t-d\tsystem_u:object_r:root_t:s0\n"
+USAGE = 255
+
+
+def build():
+    """The wrapper builds the program where it is stale; without words the program answers that its words are wrong."""
+    status = subprocess.run([HERE.parent / "relabel"], stdout=subprocess.DEVNULL, stdin=subprocess.DEVNULL).returncode
+    if status != USAGE:
+        sys.exit(f"the program could not be built (status {status})")
 
 
 def timed(words, records, room, **more):
     with open(records, "rb") as given, open(room / "out", "wb") as out:
-        before = time.monotonic()
         child = subprocess.Popen(words, stdin=given, stdout=out, cwd=room, **more)
         _, status, usage = os.wait4(child.pid, 0)
-        return time.monotonic() - before, os.waitstatus_to_exitcode(status), usage.ru_maxrss * 1024
+    status = os.waitstatus_to_exitcode(status)
+    if status != 0:
+        sys.exit(f"{words[0]} ended with status {status}")
+    return usage.ru_utime + usage.ru_stime, usage.ru_maxrss * 1024
 
 
-def main(count):
+def measure(records, room):
+    relabel = [PROGRAM, "setfiles", "-n", "-v", "-F", "fc", "/"]
+    sorting = ["sort", "-z", "--parallel=1"]
+    sorts, wholes = [], []
+    for _ in range(3):
+        sorts.append(timed(sorting, records, room, env={**os.environ, "LC_ALL": "C"}))
+        wholes.append(timed(relabel, records, room))
+    return min(sorts)[0], min(wholes)
+
+
+def make(count, is_realistic, room):
+    if is_realistic:
+        subprocess.run([sys.executable, HERE / "realistic.py", room, str(count)], check=True)
+        return
+    with open(room / "records", "wb") as out:
+        subprocess.run([sys.executable, HERE / "generate.py", str(count)], stdout=out, check=True)
+    (room / "fc").write_text(SPECS)
+
+
+def main():
+    parser = argparse.ArgumentParser(description=__doc__.splitlines()[0])
+    parser.add_argument("--realistic", action="store_true")
+    parser.add_argument("count", nargs="?", type=int)
+    given = parser.parse_args()
+    count = given.count or (200_000 if given.realistic else 1_000_000)
+    build()
     with tempfile.TemporaryDirectory() as room:
         room = Path(room)
+        make(count, given.realistic, room)
         records = room / "records"
-        with open(records, "wb") as out:
-            subprocess.run([sys.executable, HERE / "generate.py", str(count)], stdout=out, check=True)
-        (room / "fc").write_text(SPECS)
         size = records.stat().st_size
-        subprocess.run([HERE.parent / "relabel"], stdout=subprocess.DEVNULL, stderr=subprocess.DEVNULL, stdin=subprocess.DEVNULL)
         print(f"{count} records, {size} bytes, {size / count:.0f} a record")
-        program = HERE.parent / "crates" / "relabel_program" / "out" / "relabel_program"
-        sorts, wholes = [], []
-        for _ in range(3):
-            sorts.append(timed(["sort", "-z", "--parallel=1"], records, room, env={**os.environ, "LC_ALL": "C"}))
-            wholes.append(timed([program, "setfiles", "-n", "-v", "-F", "fc", "/"], records, room))
-        sort, (whole, status, memory) = min(sorts)[0], min(wholes)
+        sort, (whole, memory) = measure(records, room)
         print(f"sort     {sort:.2f} s")
-        print(f"relabel  {whole:.2f} s, status {status}, {memory / size:.2f} bytes of memory a byte of input")
+        print(f"relabel  {whole:.2f} s, {memory / size:.2f} bytes of memory a byte of input")
         print(f"ratio    {whole / sort:.2f}")
+        if given.realistic:
+            one = room / "one"
+            one.write_bytes(b"d 1 2 system_u:object_r:root_t:s0 /\0")
+            _, (least, memory) = measure(one, room)
+            print(f"policy   {least * 1000:.0f} ms, {memory / 1e6:.1f} MB, one path decided")
+            print(f"look-up  {(whole - least) / count * 1e9:.0f} ns an entry, all else included")
 
 
-main(int(sys.argv[1]) if len(sys.argv) > 1 else 1_000_000)
+main()
