@@ -1,4 +1,3 @@
 pub mod PlainPaths
 pub mod Covering
-pub mod LineReading
 pub mod NamesAt

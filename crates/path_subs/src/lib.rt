@@ -12,7 +12,7 @@ mod subs;
 
 pub use reading::read_subs;
 pub use sub::Sub;
-pub use sub_fault::SubFault;
+pub use sub_fault::{NoSub, SubFault};
 pub use subs::Subs;
 
 #[cfg(test)]

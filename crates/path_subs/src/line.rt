@@ -1,56 +1,53 @@
-ghost use Rattle.std.specs.Prelude.{◌≡◌, Some};
-ghost use Rattle.label_base.specs.Answers.{Answers, Finds};
-ghost use Rattle.label_base.specs.Lines.{fields_of, fields_left};
-ghost use Rattle.path_subs.specs.Causes.{line_cause, is_want_of_memory};
-ghost use Rattle.path_subs.specs.SubLines.{is_comment, line_meaning, path_in, with_paths};
+ghost use Rattle.std.specs.Prelude.{◌≡◌, Ok};
+ghost use Rattle.label_base.specs.Answers.{Answers, cause_of};
+ghost use Rattle.path_subs.specs.SubLines.{path_in, sub_in, with_paths};
 
 use crate::sub::Sub;
-use crate::sub_fault::LineFault;
-use label_base::{NormPath, PathFault, next_field};
+use crate::sub_fault::NoSub;
+use label_base::{Fault, LineReader, NormPath, next_field};
 use std::alloc::Global;
 
-fn begins_comment(field: &[u8]) -> bool
-    ensures { result ≡ is_comment field.now }
-{
-    match field {
-        [first, ..] => *first == b'#',
-        [] => false,
-    }
-}
-
-fn read_path(alloc: Global, field: &[u8]) -> Result<NormPath, LineFault>
-    ensures { Finds (λ path. path) is_want_of_memory result (path_in field.now) }
+fn read_path(alloc: Global, field: &[u8]) -> Result<NormPath, Fault<NoSub>>
+    ensures { Answers (λ path. path) cause_of result (path_in field.now) }
 {
     match NormPath::read(alloc, field) {
         Ok(path) => Ok(path),
-        Err(PathFault::OutOfMemory) => Err(LineFault::OutOfMemory),
-        Err(_) => Err(LineFault::Refused),
+        Err(Fault::Why(_)) => Err(Fault::Why(NoSub)),
+        Err(Fault::OutOfMemory) => Err(Fault::OutOfMemory),
     }
 }
 
-fn make_sub(source: NormPath, target: NormPath) -> Result<Option<Sub>, LineFault>
-    ensures { Answers (λ sub. sub) line_cause result (with_paths (Some source) (Some target)) }
+fn make_sub(source: NormPath, target: NormPath) -> Result<Sub, Fault<NoSub>>
+    ensures { Answers (λ sub. sub) cause_of result (with_paths (Ok source) (Ok target)) }
 {
     if source.names() == 0 {
-        return Err(LineFault::Refused);
+        return Err(Fault::Why(NoSub));
     }
-    Ok(Some(Sub { source, target }))
+    Ok(Sub { source, target })
 }
 
-/// What a line says: a substitution, or nothing where it is blank or a comment.
-pub fn read_line(alloc: Global, text: &[u8]) -> Result<Option<Sub>, LineFault>
-    ensures { Answers (λ sub. sub) line_cause result (line_meaning text.now) }
-{
-    let Some((first, more)) = next_field(Some(text)) else {
-        return Ok(None);
-    };
-    if begins_comment(first) {
-        return Ok(None);
+/// Reads the lines of a substitution file.
+pub struct SubReader;
+
+impl LineReader for SubReader {
+    type Value = Sub;
+
+    type Why = NoSub;
+
+    ghost meaning = { λ _ _ fields. sub_in fields };
+
+    fn read_line(
+        &self,
+        alloc: Global,
+        _number: u32,
+        first: &[u8],
+        more: Option<&[u8]>,
+    ) -> Result<Sub, Fault<NoSub>> {
+        let Some((second, _)) = next_field(more) else {
+            return Err(Fault::Why(NoSub));
+        };
+        let source = read_path(alloc, first)?;
+        let target = read_path(alloc, second)?;
+        make_sub(source, target)
     }
-    let Some((second, _)) = next_field(more) else {
-        return Err(LineFault::Refused);
-    };
-    let source = read_path(alloc, first)?;
-    let target = read_path(alloc, second)?;
-    make_sub(source, target)
 }

@@ -1,9 +1,9 @@
 ghost use Rattle.std.specs.Prelude.{◌<◌, ◌^◌, length};
 
 use crate::reading::read_subs;
-use crate::sub_fault::SubFault;
+use crate::sub_fault::{NoSub, SubFault};
 use crate::subs::Subs;
-use label_base::NormPath;
+use label_base::{Fault, NormPath, RefusedLine};
 use std::test::Fail;
 
 fn subs_of(rt: &HostRuntime, first: &[u8], second: &[u8]) -> Result<Subs, SubFault>
@@ -26,14 +26,18 @@ fn reads_lines(rt: HostRuntime) -> Result<(), Fail> {
     Ok(())
 }
 
+fn refused(number: u32) -> Option<SubFault> {
+    Some(Fault::Why(RefusedLine { number, why: NoSub }))
+}
+
 #[test]
 fn refuses_lines(rt: HostRuntime) {
     for text in ["/a", "/ /b", "a /b", "/a b"] {
         let fault = read_subs(rt.alloc(), text.as_bytes()).err();
-        assert_eq!(rt; fault, Some(SubFault::Refused { line: 1 }), "at {text}");
+        assert_eq!(rt; fault, refused(1), "at {text}");
     }
     let fault = read_subs(rt.alloc(), b"/a /b\n\n/c".as_slice()).err();
-    assert_eq!(rt; fault, Some(SubFault::Refused { line: 3 }));
+    assert_eq!(rt; fault, refused(3));
 }
 
 #[test]
