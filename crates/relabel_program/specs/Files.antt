@@ -2,12 +2,14 @@
 use Rattle.std.specs.Prelude.{ℕ, ◌-◌, ◌+◌, Bool, nat_lt, List, [], ◌++◌, length, Option, Some, None, Result, Ok, Err, if◌then◌else◌}
 use Rattle.label_base.specs.Store.{Files, content}
 use Rattle.label_base.specs.declared.kind.Part.{Part}
+use Rattle.label_base.specs.declared.lines.RefusedLine.{RefusedLine}
 use Rattle.label_base.specs.declared.kind.Part.TheVariants.{Base, Homedirs, Local, Subs, SubsDist, Kept}
 use Rattle.spec_reader.specs.SpecFile.{FileWhy, RefusedLine, TooMany, specs_of}
 use Rattle.spec_reader.specs.SpecValue.{SpecValue}
 use Rattle.spec_order.specs.Order.{in_order}
 use Rattle.path_subs.specs.Subs.{SubValue}
 use Rattle.path_subs.specs.SubLines.{subs_of}
+use Rattle.path_subs.specs.declared.sub_fault.NoSub.{NoSub}
 use Rattle.relabel_core.specs.declared.rules.Rules.{Rules}
 use Rattle.relabel_program.specs.Causes.{and_then}
 use Rattle.relabel_program.specs.Names.{name_of}
@@ -50,9 +52,9 @@ specs_from part (Err why) = Err (spec_refusal part why)
 unfoldable pub part_specs : FileNames → Part → ℕ → Files → Result (List SpecValue) Cause
 part_specs names part room files = and_then (part_bytes names part files) (λ bytes. specs_from part (specs_of part room bytes))
 
-abbrev pub subs_from : Part → Result (List SubValue) ℕ → Result (List SubValue) Cause
+abbrev pub subs_from : Part → Result (List SubValue) (RefusedLine NoSub) → Result (List SubValue) Cause
 subs_from part (Ok subs) = Ok subs
-subs_from part (Err line) = Err (SubRefused part line)
+subs_from part (Err line) = Err (SubRefused part line.number)
 
 -- the substitutions of a file
 unfoldable pub part_subs : FileNames → Part → Files → Result (List SubValue) Cause

@@ -4,8 +4,8 @@ ghost use Rattle.relabel_program.specs.Files.{absent, list_of, most_bytes, part_
 
 use crate::cause::{Cause, LimitKind};
 use crate::names::FileNames;
-use label_base::{Bytes, FileFault, Name, Part, Row, Store};
-use path_subs::{Sub, SubFault, Subs, read_subs};
+use label_base::{Bytes, Fault, FileFault, Name, Part, Row, Store};
+use path_subs::{Sub, Subs, read_subs};
 use relabel_core::Rules;
 use spec_match::RuleSet;
 use spec_order::ordered;
@@ -112,8 +112,11 @@ fn read_subs_part<S: Store>(
     let bytes = read_part(alloc, names, part, store)?;
     match read_subs(alloc, bytes.as_slice()) {
         Ok(subs) => Ok(subs),
-        Err(SubFault::Refused { line }) => Err(Cause::SubRefused { part, line }),
-        Err(SubFault::OutOfMemory) => Err(Cause::OutOfMemory),
+        Err(Fault::Why(line)) => Err(Cause::SubRefused {
+            part,
+            line: line.number,
+        }),
+        Err(Fault::OutOfMemory) => Err(Cause::OutOfMemory),
     }
 }
 

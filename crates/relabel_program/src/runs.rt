@@ -1,6 +1,4 @@
-ghost use Rattle.std.specs.Prelude.{◌≡◌, IfOk, ◌<◌};
-ghost use Rattle.report_text.specs.Texts.{report_of};
-ghost use Rattle.relabel_core.specs.Walk.{messages};
+ghost use Rattle.std.specs.Prelude.{◌≡◌};
 ghost use Rattle.relabel_program.specs.Faults.{status_of};
 ghost use Rattle.relabel_program.specs.Run.{Run};
 ghost use Rattle.relabel_program.specs.Words.{word_texts};
@@ -11,34 +9,9 @@ use crate::input::read_tree;
 use crate::names::FileNames;
 use crate::policy::read_policy;
 use crate::words::base_word;
-use label_base::{Bytes, OutOfMemory, Sink, Source, Steps, Store};
-use relabel_core::{Rules, walk};
+use label_base::{Sink, Source, Store};
+use relabel_core::walk_uncounted;
 use std::alloc::Global;
-use std::marker::Brand;
-use std::sync::ledger::{Blank, Ledger};
-use tree_model::Tree;
-
-fn report_counted<L: Ledger>(
-    alloc: Global,
-    tree: &Tree,
-    rules: &Rules,
-    blank: Blank,
-) -> Result<Bytes, OutOfMemory>
-    requires name { blank.name ≡ L.name }
-    requires parts { blank.parts ≡ L.parts }
-    requires some { 0 < blank.parts }
-    ensures { IfOk result (λ report. report ≡ report_of (messages rules.now tree.now)) }
-{
-    let mut steps = Steps::<L>::open(blank);
-    Ok(walk(alloc, tree, rules, &mut steps)?.report)
-}
-
-/// The report of a walk; nobody looks at its steps.
-fn report_of_walk(alloc: Global, tree: &Tree, rules: &Rules) -> Result<Bytes, OutOfMemory>
-    ensures { IfOk result (λ report. report ≡ report_of (messages rules.now tree.now)) }
-{
-    report_counted::<Brand>(alloc, tree, rules, Blank::new(1))
-}
 
 /// Runs the command with one worker, whatever number its words ask for.
 pub fn plain<S: Store, I: Source, O: Sink>(
@@ -64,8 +37,8 @@ pub fn plain<S: Store, I: Source, O: Sink>(
         Ok(tree) => tree,
         Err(cause) => return refuse(alloc, &names, cause, out),
     };
-    match report_of_walk(alloc, &tree, &rules) {
-        Ok(report) => finish(report, out),
+    match walk_uncounted(alloc, &tree, &rules) {
+        Ok(walked) => finish(walked.report, out),
         Err(_) => give_up(out),
     }
 }

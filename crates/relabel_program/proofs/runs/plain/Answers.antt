@@ -28,17 +28,17 @@ returns-in-Err-read_tree-clause-run g c =
     (record { wrong = read.usage; only_wrong = read.only_usage })
     read.answer read.counts tree.answer tree.kinds tree.counts c.refuse-in-Err-read_tree.ensures.told
 
-pub returns-in-Ok-report_of_walk-clause-run : goal.returns-in-Ok-report_of_walk-clause-run
-returns-in-Ok-report_of_walk-clause-run g c =
+pub returns-in-Ok-walk_uncounted-clause-run : goal.returns-in-Ok-walk_uncounted-clause-run
+returns-in-Ok-walk_uncounted-clause-run g c =
     let read = c.in-Ok-read_policy.ensures in
     let tree = c.in-Ok-read_tree.ensures in
-    finished _ _ _ _ _ _ _ _ _ _ _ _ _ _ c.finish.result.cause c.in-Ok-read_policy.rules c.in-Ok-read_tree.tree c.in-Ok-report_of_walk.report
+    finished _ _ _ _ _ _ _ _ _ _ _ _ _ _ c.finish.result.cause c.in-Ok-read_policy.rules c.in-Ok-read_tree.tree c.in-Ok-walk_uncounted.walked.report
     read.files read.writes (record { wrong = read.usage; only_wrong = read.only_usage })
-    read.answer read.counts tree.answer tree.counts tree.ended c.in-Ok-report_of_walk.ensures c.finish.ensures.written
+    read.answer read.counts tree.answer tree.counts tree.ended c.in-Ok-walk_uncounted.ensures c.finish.ensures.written
 
 pub returns-clause-run : goal.returns-clause-run
 returns-clause-run g c =
     let read = c.in-Ok-read_policy.ensures in
-    told_late _ _ _ _ _ _ _ _ _ _ _ _ _ _ c.give_up-in-Err-report_of_walk.result.cause c.in-Ok-read_policy.rules c.give_up-in-Err-report_of_walk.ensures.cause
+    told_late _ _ _ _ _ _ _ _ _ _ _ _ _ _ c.give_up-in-Err-walk_uncounted.result.cause c.in-Ok-read_policy.rules c.give_up-in-Err-walk_uncounted.ensures.cause
     read.files read.writes (record { wrong = read.usage; only_wrong = read.only_usage })
-    read.answer read.counts c.in-Ok-read_tree.ensures.counts (c.give_up-in-Err-report_of_walk.ensures.told (names_in (word_texts c.args.words.now)))
+    read.answer read.counts c.in-Ok-read_tree.ensures.counts (c.give_up-in-Err-walk_uncounted.ensures.told (names_in (word_texts c.args.words.now)))
