@@ -1,15 +1,17 @@
 -- The escapes of a dump: the backslash, control bytes and DEL in three octal digits, as setfattr(1) reads them.
 use Rattle.std.specs.Prelude.{ℕ, ◌+◌, ◌-◌, ◌*◌, ◌/◌, ◌%◌, Bool, true, false, ◌==◌, ◌&&◌, nat_lt, nat_le, List, [], ◌∷◌, ◌++◌, Option, Some, None, if◌then◌else◌}
 use Rattle.std.specs.List.{flat_map}
+use Rattle.label_base.specs.declared.cut.TheConstants.{BLANK}
+use Rattle.label_base.specs.declared.escape.TheConstants.{BACKSLASH, DEL}
 use Rattle.label_base.specs.declared.escape.EscapeFault.{EscapeFault}
 use Rattle.label_base.specs.declared.escape.EscapeFault.TheVariants.{BadEscape, OutOfMemory}
 
 -- a byte that stands for itself
 abbrev pub is_plain : ℕ → Bool
-is_plain b = if b == 92 then false else if nat_lt b 32 then false else if b == 127 then false else true
+is_plain b = if b == BACKSLASH then false else if nat_lt b BLANK then false else if b == DEL then false else true
 
 abbrev pub escaped_byte : ℕ → List ℕ
-escaped_byte b = if is_plain b then b ∷ [] else 92 ∷ (48 + b / 64) ∷ (48 + b / 8 % 8) ∷ (48 + b % 8) ∷ []
+escaped_byte b = if is_plain b then b ∷ [] else BACKSLASH ∷ (48 + b / 64) ∷ (48 + b / 8 % 8) ∷ (48 + b % 8) ∷ []
 
 -- the bytes with each escaped
 abbrev pub escaped : List ℕ → List ℕ
@@ -39,8 +41,8 @@ led_by (Some b) rest = in_front (b ∷ []) rest
 unfoldable pub unescaped : List ℕ → Option (List ℕ)
 unescaped [] = Some []
 unescaped (b ∷ x ∷ y ∷ z ∷ rest) =
-    if b == 92 then led_by (octal_byte x y z) (unescaped rest) else led_by (Some b) (unescaped (x ∷ y ∷ z ∷ rest))
-unescaped (b ∷ rest) = if b == 92 then None else led_by (Some b) (unescaped rest)
+    if b == BACKSLASH then led_by (octal_byte x y z) (unescaped rest) else led_by (Some b) (unescaped (x ∷ y ∷ z ∷ rest))
+unescaped (b ∷ rest) = if b == BACKSLASH then None else led_by (Some b) (unescaped rest)
 
 -- a fault that says nothing of the text
 abbrev pub is_free : EscapeFault → Bool

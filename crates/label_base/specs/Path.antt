@@ -1,7 +1,7 @@
 -- Paths: lists of nonempty names without a slash and NUL.
 use Rattle.std.specs.Prelude.{ℕ, Bool, true, false, ◌&&◌, ◌||◌, ◌==◌, List, [], ◌∷◌, length, not, if◌then◌else◌, nat_lt, filter, slice_index, Result, Ok, Err}
 use Rattle.std.specs.List.{flat_map, list_any, list_all, starts_with, slice_split}
-use Rattle.label_base.specs.declared.path.TheConstants.{MOST_BYTES}
+use Rattle.label_base.specs.declared.path.TheConstants.{DOT, MOST_PATH_BYTES, SLASH}
 use Rattle.label_base.specs.declared.path_fault.PathWhy.{PathWhy}
 use Rattle.label_base.specs.declared.path_fault.PathWhy.TheVariants.{Empty, PathTooLong, HasNul, NotAbsolute, DotPart}
 use Rattle.std.specs.Str.{bytes_eq}
@@ -11,7 +11,7 @@ use Rattle.std.specs.declared.cmp.Ordering.{Ordering}
 
 -- a byte that may stand in a name
 abbrev pub is_name_byte : ℕ → Bool
-is_name_byte b = not (b == 47) && not (b == 0)
+is_name_byte b = not (b == SLASH) && not (b == 0)
 
 -- nonempty, without a slash and NUL
 abbrev pub is_name : List ℕ → Bool
@@ -25,7 +25,7 @@ abbrev pub Path : Type 0
 Path = List (List ℕ)
 
 abbrev pub is_slash : ℕ → Bool
-is_slash b = b == 47
+is_slash b = b == SLASH
 
 abbrev pub is_nonempty : List ℕ → Bool
 is_nonempty [] = false
@@ -37,11 +37,11 @@ same_bytes = bytes_eq
 
 -- a slash before each name
 abbrev pub with_slashes : Path → List ℕ
-with_slashes path = flat_map (λ name. 47 ∷ name) path
+with_slashes path = flat_map (λ name. SLASH ∷ name) path
 
 -- the text of a path
 abbrev pub path_text : Path → List ℕ
-path_text [] = 47 ∷ []
+path_text [] = SLASH ∷ []
 path_text (name ∷ names) = with_slashes (name ∷ names)
 
 -- the path is at or below the top
@@ -57,14 +57,14 @@ abbrev pub path_names : List ℕ → Path
 path_names bytes = filter is_nonempty (slice_split is_slash bytes)
 
 abbrev pub is_dot_part : List ℕ → Bool
-is_dot_part name = same_bytes name (46 ∷ []) || same_bytes name (46 ∷ 46 ∷ [])
+is_dot_part name = same_bytes name (DOT ∷ []) || same_bytes name (DOT ∷ DOT ∷ [])
 
 -- the path that the bytes spell, or the first fault in the order of the faults
 abbrev pub path_read : List ℕ → Result Path PathWhy
 path_read bytes =
     if length bytes == 0 then Err Empty
-    else if nat_lt MOST_BYTES (length bytes) then Err PathTooLong
+    else if nat_lt MOST_PATH_BYTES (length bytes) then Err PathTooLong
     else if list_any (λ b. b == 0) bytes then Err HasNul
-    else if not (slice_index bytes 0 == 47) then Err NotAbsolute
+    else if not (slice_index bytes 0 == SLASH) then Err NotAbsolute
     else if list_any is_dot_part (path_names bytes) then Err DotPart
     else Ok (path_names bytes)

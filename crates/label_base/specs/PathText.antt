@@ -4,6 +4,7 @@ use Rattle.std.specs.List.{starts_with}
 use Rattle.std.specs.Ordering.{nat_cmp}
 use Rattle.std.specs.Cmp.Lexicographic.{slice_cmp}
 use Rattle.std.specs.declared.cmp.Ordering.{Ordering}
+use Rattle.label_base.specs.declared.path.TheConstants.{DOT, SLASH}
 use Rattle.label_base.specs.Path.{path_names, with_slashes, are_names}
 
 -- a text is normal: a slash before each of its names, and nothing else
@@ -13,17 +14,17 @@ IsNormal text = (with_slashes (path_names text) ≡ text) × (are_names (path_na
 -- a name begins at the front of what is left of a text, and not with a dot
 abbrev pub begins_plainly : List ℕ → Bool
 begins_plainly [] = false
-begins_plainly (b ∷ bs) = not (b == 47) && not (b == 46)
+begins_plainly (b ∷ bs) = not (b == SLASH) && not (b == DOT)
 
 -- behind each slash a name begins, and not with a dot
 abbrev pub is_plain : List ℕ → Bool
 is_plain [] = true
-is_plain (b ∷ bs) = (not (b == 47) || begins_plainly bs) && is_plain bs
+is_plain (b ∷ bs) = (not (b == SLASH) || begins_plainly bs) && is_plain bs
 
 -- no name goes on at the front of what is left of a text
 abbrev pub ends_name : List ℕ → Bool
 ends_name [] = true
-ends_name (b ∷ bs) = b == 47
+ends_name (b ∷ bs) = b == SLASH
 
 -- the text begins with the top's, and goes on with another name, if at all
 abbrev pub text_at_or_below : List ℕ → List ℕ → Bool
@@ -31,7 +32,7 @@ text_at_or_below text top = starts_with nat_eq text top && ends_name (drop (leng
 
 -- the place of a byte in the order of paths' texts: a slash below each other
 abbrev pub byte_rank : ℕ → ℕ
-byte_rank b = if b == 47 then 0 else b + 1
+byte_rank b = if b == SLASH then 0 else b + 1
 
 -- the order of paths' texts
 abbrev pub text_cmp : List ℕ → List ℕ → Ordering

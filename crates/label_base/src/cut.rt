@@ -7,6 +7,14 @@ ghost use Rattle.label_base.specs.Lines.{is_blank, fields_of, fields_left, lines
 
 use memchr::{memchr, memchr2};
 
+/// What ends a line.
+pub const LINE_FEED: u8 = b'\n';
+
+/// The blanks between the fields of a line.
+pub const BLANK: u8 = b' ';
+
+pub const TAB: u8 = b'\t';
+
 /// What stands before the first such byte, and what stands behind it, if there is one.
 pub fn cut_at(byte: u8, text: &[u8]) -> (&[u8], Option<&[u8]>)
     ensures front { result.0.now ≡ front (λ b. b == byte) text.now }
@@ -26,10 +34,11 @@ pub fn cut_at(byte: u8, text: &[u8]) -> (&[u8], Option<&[u8]>)
 pub fn cut_at_blank(text: &[u8]) -> (&[u8], Option<&[u8]>)
     ensures front { result.0.now ≡ front is_blank text.now }
     ensures behind { option_copied result.1 ≡ behind is_blank text.now }
-    ensures pieces { slice_split is_blank text.now ≡ result.0.now ∷ pieces_left is_blank (option_copied result.1) }
+    ensures pieces { slice_split is_blank text.now
+        ≡ result.0.now ∷ pieces_left is_blank (option_copied result.1) }
     ensures shorter { turns_left (option_copied result.1) ≤ length text.now }
 {
-    match memchr2(b' ', b'\t', text) {
+    match memchr2(BLANK, TAB, text) {
         None => (text, None),
         Some(at) => (&text[..at], Some(&text[at + 1..])),
     }
@@ -61,7 +70,7 @@ pub fn next_line(text: &[u8]) -> Option<(&[u8], &[u8])>
     if text.is_empty() {
         return None;
     }
-    let (line, rest) = cut_at(b'\n', text);
+    let (line, rest) = cut_at(LINE_FEED, text);
     match rest {
         Some(rest) => Some((line, rest)),
         None => Some((line, &[])),

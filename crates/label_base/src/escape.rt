@@ -7,9 +7,15 @@ ghost use Rattle.label_base.specs.Pieces.{turns_left};
 ghost use Rattle.label_base.specs.declared.escape.EscapeFault.TheVariants as fault;
 
 use crate::bytes::Bytes;
-use crate::cut::cut_at;
+use crate::cut::{BLANK, cut_at};
 use crate::memory;
 use std::alloc::Global;
+
+/// What begins an escape.
+pub const BACKSLASH: u8 = b'\\';
+
+/// The control byte above the others, which are below the blank.
+pub const DEL: u8 = 127;
 
 /// Why an escaped text wasn't read.
 #[derive(Clone, Copy, Debug, PartialEq, Eq)]
@@ -31,7 +37,7 @@ impl From<memory::OutOfMemory> for EscapeFault {
 fn stays(b: u8) -> bool
     ensures { result ≡ is_plain b }
 {
-    b != b'\\' && b >= 32 && b != 127
+    b != BACKSLASH && b >= BLANK && b != DEL
 }
 
 fn push_escaped(b: u8, text: &mut Bytes) -> Result<(), memory::OutOfMemory>
@@ -40,7 +46,7 @@ fn push_escaped(b: u8, text: &mut Bytes) -> Result<(), memory::OutOfMemory>
     if stays(b) {
         text.push(&[b])
     } else {
-        text.push(&[b'\\', b'0' + b / 64, b'0' + b / 8 % 8, b'0' + b % 8])
+        text.push(&[BACKSLASH, b'0' + b / 64, b'0' + b / 8 % 8, b'0' + b % 8])
     }
 }
 
@@ -113,7 +119,7 @@ fn read_piece<'a>(text: &'a [u8], read: &mut Bytes) -> Result<Option<&'a [u8]>, 
     let Some(b) = byte_of(*x, *y, *z) else {
         return Err(EscapeFault::BadEscape);
     };
-    let (plain, left) = cut_at(b'\\', rest);
+    let (plain, left) = cut_at(BACKSLASH, rest);
     read.push_byte(b)?;
     read.push(plain)?;
     Ok(left)
@@ -126,7 +132,7 @@ pub fn read_escaped(alloc: Global, bytes: &[u8]) -> Result<Bytes, EscapeFault>
     ensures { Finds (λ read. read) is_free result (unescaped bytes.now) }
 {
     let mut read = Bytes::new(alloc);
-    let (plain, mut left) = cut_at(b'\\', bytes);
+    let (plain, mut left) = cut_at(BACKSLASH, bytes);
     read.push(plain)?;
     'pieces: while let Some(text) = left {
         left = read_piece(text, &mut read)?;

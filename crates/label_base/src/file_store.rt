@@ -13,9 +13,10 @@ use std::marker::Model;
 
 /// The files of the system. It tells no content, and counts each call that fails.
 ///
-/// A name is a path as open(2) takes it. `NotThere` is the system's "no such file or directory"
-/// (ENOENT) and "file name too long" (ENAMETOOLONG), since no such file can exist. A read takes at most one byte more than its limit. A write makes the file anew,
-/// or shortens it to nothing first, so a write that fails may leave a part of the bytes.
+/// A name is a path as open(2) takes it. `NotThere` is the system's "no such file or directory" (ENOENT)
+/// and "file name too long" (ENAMETOOLONG), since no such file can exist. A read takes at most one byte
+/// more than its limit. A write makes the file anew, or shortens it to nothing first, so a write that
+/// fails may leave a part of the bytes.
 #[derive(Drop)]
 pub struct FileStore<'r, R> {
     system: &'r R,

@@ -26,7 +26,7 @@ mod steps;
 mod store;
 
 pub use bytes::Bytes;
-pub use cut::{cut_at, cut_at_blank, next_field, next_line};
+pub use cut::{BLANK, LINE_FEED, TAB, cut_at, cut_at_blank, next_field, next_line};
 pub use escape::{EscapeFault, read_escaped, write_escaped};
 pub use fault::Fault;
 pub use file_store::FileStore;
@@ -38,7 +38,7 @@ pub use mem_store::{MemStore, SureStore};
 pub use memory::OutOfMemory;
 pub use name::Name;
 pub use number::read_number;
-pub use path::NormPath;
+pub use path::{MOST_PATH_BYTES, NormPath, SLASH};
 pub use path_fault::{PathFault, PathWhy};
 pub use path_key::PathKey;
 pub use reading::{AllFault, read_all};

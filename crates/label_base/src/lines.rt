@@ -72,7 +72,8 @@ fn add_line<R: LineReader>(
 ) -> Result<(), Fault<LinesWhy<R::Why>>>
     requires size { length line.now < 2 ^ 32 }
     requires room { length values.old ≤ room }
-    ensures ok { OnOk result (Adds (line_said (R.meaning reader.now) number line.now) values.old values.new) }
+    ensures ok { OnOk result
+        (Adds (line_said (R.meaning reader.now) number line.now) values.old values.new) }
     ensures within { OnOk result (length values.new ≤ room) }
     ensures err { IfErr result (λ fault. Stops number room (length values.old) (cause_of fault)
         (line_said (R.meaning reader.now) number line.now)) }
@@ -95,8 +96,9 @@ fn add_line<R: LineReader>(
     }
 }
 
-/// Reads the lines of a file in order, as [`read_lines`] does, into at most `room` values. The first
-/// line that would give one more answers [`LinesWhy::TooMany`]; where it is refused, it is refused.
+/// Reads the lines of a file in order, as [`read_lines`] does, into at most `room` values.
+///
+/// The first line that would give one more answers [`LinesWhy::TooMany`], unless it is refused itself.
 pub fn read_lines_within<R: LineReader>(
     alloc: Global,
     reader: &R,

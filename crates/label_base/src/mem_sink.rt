@@ -24,7 +24,13 @@ impl Model for MemSink {
 
     ghost Value = { MemSinkValue };
 
-    ghost view = { λ s. record { written = s.bytes; piece = s.piece; failing = s.failing; calls = s.calls; faults = s.faults } };
+    ghost view = { λ s. record {
+      written = s.bytes;
+      piece = s.piece;
+      failing = s.failing;
+      calls = s.calls;
+      faults = s.faults;
+    } };
 
     ghost invariant = { λ s. 0 < s.piece };
 }
@@ -34,7 +40,8 @@ impl MemSink {
     /// calls whose numbers, from 1 on, are among `failing` fail.
     pub fn new(alloc: Global, piece: usize, failing: Row<u64>) -> MemSink
         requires { 0 < piece }
-        ensures { result ≡ record { written = []; piece = piece; failing = failing; calls = 0; faults = 0 } }
+        ensures { result
+            ≡ record { written = []; piece = piece; failing = failing; calls = 0; faults = 0 } }
     {
         MemSink {
             bytes: Bytes::new(alloc),

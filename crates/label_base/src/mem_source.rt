@@ -94,7 +94,13 @@ impl Model for MemSource {
 
     ghost Value = { MemSourceValue };
 
-    ghost view = { λ s. record { left = s.inner.left; piece = s.inner.piece; failing = s.failing; calls = s.calls; faults = s.faults } };
+    ghost view = { λ s. record {
+      left = s.inner.left;
+      piece = s.inner.piece;
+      failing = s.failing;
+      calls = s.calls;
+      faults = s.faults;
+    } };
 }
 
 impl MemSource {
@@ -102,7 +108,8 @@ impl MemSource {
     /// and the calls whose numbers, from 1 on, are among `failing` fail.
     pub fn new(left: Bytes, piece: usize, failing: Row<u64>) -> MemSource
         requires { 0 < piece }
-        ensures { result ≡ record { left = left; piece = piece; failing = failing; calls = 0; faults = 0 } }
+        ensures { result
+            ≡ record { left = left; piece = piece; failing = failing; calls = 0; faults = 0 } }
     {
         MemSource {
             inner: SureSource::new(left, piece),

@@ -54,7 +54,8 @@ fn put_file(
     name: &str,
     bytes: &[u8],
 ) -> Result<(), OutOfMemory>
-    ensures ok { OnOk result (files_of files.new.items ≡ map.insert (files_of files.old.items) name.now bytes.now) }
+    ensures ok { OnOk result
+        (files_of files.new.items ≡ map.insert (files_of files.old.items) name.now bytes.now) }
     ensures err { OnErr result (files.new.items ≡ files.old.items) }
 {
     let file = MemFile {
@@ -173,13 +174,25 @@ impl Model for MemStore {
 
     ghost coded = { mem_store_code };
 
-    ghost view = { λ s. record { files = s.inner; failing = s.failing; calls = s.calls; read_faults = s.read_faults; write_faults = s.write_faults } };
+    ghost view = { λ s. record {
+      files = s.inner;
+      failing = s.failing;
+      calls = s.calls;
+      read_faults = s.read_faults;
+      write_faults = s.write_faults;
+    } };
 }
 
 impl MemStore {
     /// No files. The calls whose numbers, from 1 on, are among `failing` fail.
     pub fn new(alloc: Global, failing: Row<u64>) -> MemStore
-        ensures { result ≡ record { files = map.empty; failing = failing; calls = 0; read_faults = 0; write_faults = 0 } }
+        ensures { result ≡ record {
+          files = map.empty;
+          failing = failing;
+          calls = 0;
+          read_faults = 0;
+          write_faults = 0;
+        } }
     {
         MemStore {
             inner: SureStore::new(alloc),
@@ -192,7 +205,8 @@ impl MemStore {
 
     /// Makes a file hold these bytes, and is no call that is counted. After a refusal all files stay.
     pub fn put(&mut self, alloc: Global, name: &str, bytes: &[u8]) -> Result<(), OutOfMemory>
-        ensures ok { OnOk result (self.new ≡ record self.old { files = map.insert self.old.files name.now bytes.now }) }
+        ensures ok { OnOk result
+            (self.new ≡ record self.old { files = map.insert self.old.files name.now bytes.now }) }
         ensures err { OnErr result (self.new ≡ self.old) }
     {
         self.inner.put(alloc, name, bytes)
@@ -238,7 +252,8 @@ impl Store for MemStore {
     }
 
     fn write_file(&mut self, alloc: Global, name: &str, bytes: &[u8]) -> Result<(), SaveFault>
-        ensures files { SaveTold (Some self.old.files) (Some self.new.files) name.now bytes.now result }
+        ensures files { SaveTold (Some self.old.files) (Some self.new.files)
+            name.now bytes.now result }
         ensures counts { SaveCounts self.old.write_faults self.new.write_faults result }
         ensures reads { self.new.read_faults ≡ self.old.read_faults }
         ensures planned { write_failed result ≡ is_planned self.old }

@@ -21,8 +21,14 @@ use std::alloc::Global;
 use std::cmp::Ordering;
 use std::marker::Model;
 
+/// What stands before each name of a path.
+pub const SLASH: u8 = b'/';
+
+/// What the components `.` and `..` are made of.
+pub const DOT: u8 = b'.';
+
 /// The most bytes that spell a path: `PATH_MAX` of limits.h(0p), less its NUL.
-pub const MOST_BYTES: usize = 4095;
+pub const MOST_PATH_BYTES: usize = 4095;
 
 /// An absolute path, seen as its names: what stands between the slashes, as path_resolution(7) says.
 ///
@@ -57,7 +63,7 @@ fn has_dots(bytes: &[u8]) -> bool
 {
     let mut left = Some(bytes);
     while let Some(text) = left {
-        let (name, after) = cut_at(b'/', text);
+        let (name, after) = cut_at(SLASH, text);
         if is_dots(name) {
             return true;
         }
@@ -71,7 +77,7 @@ fn is_plain(bytes: &[u8]) -> bool
     ensures { result ≡ is_plain bytes.now }
 {
     for i in 0..bytes.len() {
-        if bytes[i] == b'/' && !begins_plainly(bytes, i + 1) {
+        if bytes[i] == SLASH && !begins_plainly(bytes, i + 1) {
             return false;
         }
     }
@@ -82,7 +88,7 @@ fn begins_plainly(bytes: &[u8], at: usize) -> bool
     requires { at ≤ length bytes.now }
     ensures { result ≡ begins_plainly (drop at bytes.now) }
 {
-    at < bytes.len() && bytes[at] != b'/' && bytes[at] != b'.'
+    at < bytes.len() && bytes[at] != SLASH && bytes[at] != DOT
 }
 
 fn copy_of_text(alloc: Global, text: &[u8]) -> Result<Vec<u8>, OutOfMemory>
@@ -100,7 +106,7 @@ fn normal_text(alloc: Global, bytes: &[u8]) -> Result<Vec<u8>, OutOfMemory>
     let mut text = Vec::with_capacity(alloc, bytes.len())?;
     let mut left = Some(bytes);
     while let Some(rest) = left {
-        let (name, after) = cut_at(b'/', rest);
+        let (name, after) = cut_at(SLASH, rest);
         add_part(&mut text, name)?;
         left = after;
     }
@@ -109,10 +115,11 @@ fn normal_text(alloc: Global, bytes: &[u8]) -> Result<Vec<u8>, OutOfMemory>
 
 // Adds a component, if there is something in it.
 fn add_part(text: &mut Vec<u8>, name: &[u8]) -> Result<(), OutOfMemory>
-    ensures { OnOk result (text.new.items ≡ text.old.items ++ with_slashes (if is_nonempty name.now then name.now ∷ [] else [])) }
+    ensures { OnOk result (text.new.items ≡ text.old.items
+        ++ with_slashes (if is_nonempty name.now then name.now ∷ [] else [])) }
 {
     if !name.is_empty() {
-        text.push(b'/')?;
+        text.push(SLASH)?;
         text.extend_from_slice(name)?;
     }
     Ok(())
@@ -136,16 +143,16 @@ fn ends_name_at(text: &[u8], at: usize) -> bool
     requires { at ≤ length text.now }
     ensures { result ≡ ends_name (drop at text.now) }
 {
-    at == text.len() || text[at] == b'/'
+    at == text.len() || text[at] == SLASH
 }
 
 // Adds a last name, or nothing.
 fn push_part(text: &mut Vec<u8>, name: &[u8]) -> Result<(), OutOfMemory>
-    ensures ok { OnOk result (text.new.items ≡ text.old.items ++ 47 ∷ name.now) }
+    ensures ok { OnOk result (text.new.items ≡ text.old.items ++ SLASH ∷ name.now) }
     ensures err { OnErr result (text.new.items ≡ text.old.items) }
 {
     text.reserve(name.len() + 1)?;
-    text.push(b'/')?;
+    text.push(SLASH)?;
     text.extend_from_slice(name)?;
     Ok(())
 }
@@ -164,7 +171,7 @@ fn with_end(alloc: Global, front: &[u8], text: &[u8], from: usize) -> Result<Vec
 fn count_slashes(text: &[u8]) -> usize
     ensures { result ≡ count_by is_slash text.now }
 {
-    text.iter().filter(|byte| **byte == b'/').count()
+    text.iter().filter(|byte| **byte == SLASH).count()
 }
 
 // The piece at a place of those between the slashes.
@@ -174,22 +181,23 @@ fn piece_at(text: &[u8], i: usize) -> &[u8]
 {
     let mut rest = text;
     for passed in 0..i {
-        let (_, after) = cut_at(b'/', rest);
+        let (_, after) = cut_at(SLASH, rest);
         let Some(after) = after else { unreachable!() };
         rest = after;
     }
-    cut_at(b'/', rest).0
+    cut_at(SLASH, rest).0
 }
 
 pub(crate) fn rank(byte: u8) -> u16
     ensures { result ≡ byte_rank byte }
 {
-    if byte == b'/' { 0 } else { byte as u16 + 1 }
+    if byte == SLASH { 0 } else { byte as u16 + 1 }
 }
 
 // What stands behind the first 16 bytes of two texts, if these are the same.
 fn behind_same<'a>(text: &'a [u8], other: &'a [u8]) -> Option<(&'a [u8], &'a [u8])>
-    ensures same { IfSome result (λ behind. text_cmp text.now other.now ≡ text_cmp behind.0.now behind.1.now) }
+    ensures same { IfSome result (λ behind. text_cmp text.now other.now
+        ≡ text_cmp behind.0.now behind.1.now) }
     ensures shorter { IfSome result (λ behind. length behind.0.now < length text.now) }
     ensures none { IfNone result (take 16 text.now ≡ take 16 other.now → length text.now < 16) }
 {
@@ -247,13 +255,13 @@ impl NormPath {
         if bytes.is_empty() {
             return Err(Fault::Why(PathWhy::Empty));
         }
-        if bytes.len() > MOST_BYTES {
+        if bytes.len() > MOST_PATH_BYTES {
             return Err(Fault::Why(PathWhy::PathTooLong));
         }
         if bytes.contains(&0) {
             return Err(Fault::Why(PathWhy::HasNul));
         }
-        if bytes[0] != b'/' {
+        if bytes[0] != SLASH {
             return Err(Fault::Why(PathWhy::NotAbsolute));
         }
         if is_plain(bytes) {
@@ -338,7 +346,7 @@ impl NormPath {
     /// [`NormPath::read`] reads it back as this path, unless it is too long or a name is `.` or `..`.
     pub fn as_text(&self) -> &[u8]
         ensures value { result.now ≡ path_text self.now }
-        ensures read_back { length result.now ≤ MOST_BYTES → list_any is_dot_part self.now ≡ false
+        ensures read_back { length result.now ≤ MOST_PATH_BYTES → list_any is_dot_part self.now ≡ false
             → path_read result.now ≡ Ok self.now }
     {
         text_or_slash(self.text.as_slice())
