@@ -2,6 +2,7 @@
 use Rattle.std.specs.Prelude.{◌≡◌, ℕ, Bool, false, ◌||◌, ◌==◌, List, [], ◌∷◌, ◌++◌, length, Option, Some, None, Result, Ok, Err, is_ok, nat_lt, filter, take_while, if◌then◌else◌}
 use Rattle.std.specs.List.{slice_split, enumerate_from, filter_map}
 use Rattle.label_base.specs.Path.{is_nonempty}
+use Rattle.label_base.specs.declared.cut.TheConstants.{BLANK, LINE_FEED, TAB}
 use Rattle.label_base.specs.declared.lines.TheConstants.{COMMENT_MARK}
 use Rattle.label_base.specs.declared.lines.RefusedLine.{RefusedLine}
 use Rattle.label_base.specs.declared.lines.LinesWhy.{LinesWhy}
@@ -16,10 +17,10 @@ without_empty_last (piece ∷ next ∷ pieces) = piece ∷ without_empty_last (n
 
 -- the lines of a text; the last may lack its line feed
 abbrev pub lines_of : List ℕ → List (List ℕ)
-lines_of text = without_empty_last (slice_split (λ b. b == 10) text)
+lines_of text = without_empty_last (slice_split (λ b. b == LINE_FEED) text)
 
 abbrev pub is_blank : ℕ → Bool
-is_blank b = (b == 32) || (b == 9)
+is_blank b = (b == BLANK) || (b == TAB)
 
 -- the longest runs of bytes other than blanks
 abbrev pub fields_of : List ℕ → List (List ℕ)

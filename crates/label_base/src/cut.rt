@@ -1,11 +1,20 @@
-ghost use Rattle.std.specs.Prelude.{◌≡◌, ◌∷◌, ◌==◌, ◌<◌, ◌≤◌, [], length, IfSome, IfNone};
+ghost use Rattle.std.specs.Prelude.{◌≡◌, ◌↔◌, ◌∷◌, ◌==◌, ◌<◌, ◌≤◌, [], length, IfSome, IfNone};
 ghost use Rattle.std.specs.List.{slice_split};
 ghost use Rattle.std.specs.Option.{option_copied};
 ghost use Rattle.label_base.specs.Cut.{front, behind, pieces_left};
 ghost use Rattle.label_base.specs.Pieces.{turns_left};
+ghost use Rattle.label_base.specs.LineGrammar.{AreFields, AreLines};
 ghost use Rattle.label_base.specs.Lines.{is_blank, fields_of, fields_left, lines_of};
 
 use memchr::{memchr, memchr2};
+
+/// What ends a line.
+pub const LINE_FEED: u8 = b'\n';
+
+/// The blanks between the fields of a line.
+pub const BLANK: u8 = b' ';
+
+pub const TAB: u8 = b'\t';
 
 /// What stands before the first such byte, and what stands behind it, if there is one.
 pub fn cut_at(byte: u8, text: &[u8]) -> (&[u8], Option<&[u8]>)
@@ -26,10 +35,11 @@ pub fn cut_at(byte: u8, text: &[u8]) -> (&[u8], Option<&[u8]>)
 pub fn cut_at_blank(text: &[u8]) -> (&[u8], Option<&[u8]>)
     ensures front { result.0.now ≡ front is_blank text.now }
     ensures behind { option_copied result.1 ≡ behind is_blank text.now }
-    ensures pieces { slice_split is_blank text.now ≡ result.0.now ∷ pieces_left is_blank (option_copied result.1) }
+    ensures pieces { slice_split is_blank text.now
+        ≡ result.0.now ∷ pieces_left is_blank (option_copied result.1) }
     ensures shorter { turns_left (option_copied result.1) ≤ length text.now }
 {
-    match memchr2(b' ', b'\t', text) {
+    match memchr2(BLANK, TAB, text) {
         None => (text, None),
         Some(at) => (&text[..at], Some(&text[at + 1..])),
     }
@@ -61,12 +71,20 @@ pub fn next_line(text: &[u8]) -> Option<(&[u8], &[u8])>
     if text.is_empty() {
         return None;
     }
-    let (line, rest) = cut_at(b'\n', text);
+    let (line, rest) = cut_at(LINE_FEED, text);
     match rest {
         Some(rest) => Some((line, rest)),
         None => Some((line, &[])),
     }
 }
+
+/// A law on all bytes: the lines into which a text is cut, and the fields into which a line is, are those that
+/// their grammar gives. It does nothing.
+#[tactic(auto, using(crate::proofs::LineCuts::lines_are, crate::proofs::LineCuts::fields_are))]
+pub fn cuts_follow_grammar(_text: &[u8])
+    ensures lines { (lines : _) → (lines_of _text.now ≡ lines) ↔ AreLines _text.now lines }
+    ensures fields { (fields : _) → (fields_of _text.now ≡ fields) ↔ AreFields _text.now fields }
+{}
 
 #[cfg(test)]
 mod tests {
@@ -75,6 +93,7 @@ mod tests {
     #[test]
     fn a_text_is_cut_into_lines_and_fields(rt: HostRuntime) {
         let text = b"a \t b\n\nc".as_slice();
+        cuts_follow_grammar(text);
         let (line, rest) = next_line(text).expect(&rt, "a first line");
         assert_eq!(rt; rest, b"\nc".as_slice());
         let (first, left) = next_field(Some(line)).expect(&rt, "a first field");
