@@ -4,4 +4,5 @@ pub mod CustomCause
 pub mod Equal
 pub mod Label
 pub mod LabelEqual
+pub mod LabelGrammar
 pub mod TypeNames
