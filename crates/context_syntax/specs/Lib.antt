@@ -1,6 +1,5 @@
 pub mod Context
 pub mod ContextCause
-pub mod CustomCause
 pub mod Equal
 pub mod Label
 pub mod LabelEqual

@@ -1,5 +1,5 @@
 -- Type names as a set, and the file that lists the customizable ones.
-use Rattle.std.specs.Prelude.{◌≡◌, ℕ, Bool, true, false, ◌==◌, List, [], ◌∷◌, Option, Some, None, Result, Ok, Err, map, if◌then◌else◌}
+use Rattle.std.specs.Prelude.{◌≡◌, ℕ, Bool, true, List, [], ◌∷◌, Result, Ok, Err, map, if◌then◌else◌}
 use Rattle.std.specs.List.{list_all}
 use Rattle.std.specs.Coded.{Coded, coded_ℕ, coded_list}
 use Rattle.std.specs.Cmp.Lexicographic.{slice_cmp}
@@ -7,7 +7,9 @@ use Rattle.std.specs.FinMap.{from_entries, contains_key, keys}
 use Rattle.std.specs.FinSet.{FinSet, code}
 use Rattle.std.specs.List.Sorted.{IsStrictlySortedBy}
 use Rattle.std.specs.Ordering.{nat_cmp}
-use Rattle.label_base.specs.Lines.{fields_of, lines_of, read_from}
+use Rattle.label_base.specs.Lines.{lines_read}
+use Rattle.label_base.specs.declared.lines.RefusedLine.{RefusedLine}
+use Rattle.context_syntax.specs.declared.customizable.NoTypeName.{NoTypeName}
 use Rattle.context_syntax.specs.Context.{is_word}
 
 -- a finite set of names
@@ -36,31 +38,25 @@ pub record IsTypeRow (names : List (List ℕ)) : Type 0 where
   pub words : list_all is_word names ≡ true
   pub ordered : IsStrictlySortedBy (slice_cmp nat_cmp) names
 
-abbrev pub is_comment : List ℕ → Bool
-is_comment [] = false
-is_comment (b ∷ bs) = b == 35
+abbrev pub no_name : NoTypeName
+no_name = record {}
 
--- what a line says that begins with this field: one type name, or it is refused
-abbrev pub one_name : List ℕ → List (List ℕ) → Result (Option (List ℕ)) (Unit {0})
-one_name first [] = if is_word first then Ok (Some first) else Err tt
-one_name first (second ∷ more) = Err tt
+abbrev pub word_or_none : List ℕ → Result (List ℕ) NoTypeName
+word_or_none name = if is_word name then Ok name else Err no_name
 
--- blank lines and comments say nothing
-abbrev pub fields_meaning : List (List ℕ) → Result (Option (List ℕ)) (Unit {0})
-fields_meaning [] = Ok None
-fields_meaning (first ∷ more) = if is_comment first then Ok None else one_name first more
-
-abbrev pub type_line : ℕ → List ℕ → Result (Option (List ℕ)) (Unit {0})
-type_line number line = fields_meaning (fields_of line)
+-- the type name that the fields of a line are: one field, a type name
+abbrev pub name_in : List (List ℕ) → Result (List ℕ) NoTypeName
+name_in (name ∷ []) = word_or_none name
+name_in fields = Err no_name
 
 -- the names of all lines, or the first line that is refused
-abbrev pub names_read : List ℕ → Result (List (List ℕ)) (ℕ × Unit {0})
-names_read bytes = read_from type_line 1 (lines_of bytes)
+abbrev pub names_read : List ℕ → Result (List (List ℕ)) (RefusedLine NoTypeName)
+names_read bytes = lines_read (λ number. name_in) bytes
 
-abbrev pub set_or_line : Result (List (List ℕ)) (ℕ × Unit {0}) → Result NameSet ℕ
+abbrev pub set_or_line : Result (List (List ℕ)) (RefusedLine NoTypeName) → Result NameSet (RefusedLine NoTypeName)
 set_or_line (Ok names) = Ok (set_of names)
-set_or_line (Err refusal) = Err refusal.0
+set_or_line (Err refused) = Err refused
 
--- the set that a file lists, or the number of its first refused line
-abbrev pub types_read : List ℕ → Result NameSet ℕ
+-- the set that a file lists, or its first refused line
+abbrev pub types_read : List ℕ → Result NameSet (RefusedLine NoTypeName)
 types_read bytes = set_or_line (names_read bytes)

@@ -1,5 +1,5 @@
 use super::*;
-use label_base::{Bytes, OutOfMemory};
+use label_base::{Bytes, Fault, OutOfMemory, RefusedLine};
 use std::alloc::Global;
 use std::test::Fail;
 
@@ -63,5 +63,9 @@ fn customizable_types(rt: HostRuntime) -> Result<(), Fail> {
 #[test]
 fn a_line_of_two_fields(rt: HostRuntime) {
     let refused = read_customizable(rt.alloc(), b"boot_t\n#\nhome_t etc_t\n").err();
-    assert_eq!(rt; refused, Some(CustomFault::Refused { line: 3 }));
+    let third = RefusedLine {
+        number: 3,
+        why: NoTypeName,
+    };
+    assert_eq!(rt; refused, Some(Fault::Why(third)));
 }
