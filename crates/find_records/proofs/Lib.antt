@@ -1,1 +1,4 @@
+pub mod Cuts
+pub mod RecordGrammar
+pub mod RunGrammar
 pub mod RunLemmas

@@ -7,7 +7,7 @@ use Rattle.label_base.specs.Lines.{with_front}
 use Rattle.label_base.specs.Answers.{Explains}
 use Rattle.find_records.specs.declared.record.Record.{Record}
 use Rattle.find_records.specs.declared.fault.RecordsWhy.{RecordsWhy}
-use Rattle.find_records.specs.Records.{is_nul, with_ends, pieces_of, meaning, onto, all_from, records_from}
+use Rattle.find_records.specs.Grammar.{is_nul, with_ends, pieces_of, meaning, onto, all_from, records_from}
 
 onto_cons : (x : ℕ) (pieces : List (List ℕ)) → (y : List ℕ) × (ys : List (List ℕ)) × (onto_first x pieces ≡ y ∷ ys)
 onto_cons x [] = (x ∷ [], [], refl)

@@ -1,4 +1,3 @@
 pub mod Cause
+pub mod Grammar
 pub mod Reading
-pub mod Record
-pub mod Records

@@ -8,7 +8,7 @@ use Rattle.find_records.specs.declared.fault.RecordsWhy.{RecordsWhy}
 use Rattle.find_records.specs.declared.fault.RecordsWhy.TheVariants as why
 use Rattle.find_records.specs.declared.fault.RecordsFault.{RecordsFault}
 use Rattle.find_records.specs.declared.fault.RecordsFault.TheVariants as fault
-use Rattle.find_records.specs.Records.{records_of}
+use Rattle.find_records.specs.Grammar.{records_of}
 
 -- all bytes that were left are read, within the limit, and this is what they mean
 pub record ReadWhole (bytes : List ℕ) (new : Option (List ℕ)) (limits : RecordLimits) (meant : Result (List Record) RecordsWhy) : Type 0 where
@@ -37,10 +37,5 @@ RecordsTold (Some bytes) new limits result = RecordsRead bytes new limits result
 
 -- what an answer says of the count of faults
 abbrev pub RecordsCounts : ℕ → ℕ → Result (List Record) RecordsFault → Type 0
-RecordsCounts before now (Ok records) = now ≡ before
 RecordsCounts before now (Err fault.ReadFault) = (before ≤ now) × Rose before now
-RecordsCounts before now (Err fault.TooLong) = now ≡ before
-RecordsCounts before now (Err fault.TooMany) = now ≡ before
-RecordsCounts before now (Err (fault.Refused number reason)) = now ≡ before
-RecordsCounts before now (Err (fault.Unended number)) = now ≡ before
-RecordsCounts before now (Err fault.OutOfMemory) = now ≡ before
+RecordsCounts before now result = now ≡ before

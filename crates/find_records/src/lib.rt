@@ -7,7 +7,7 @@ mod record;
 
 pub use fault::{RecordWhy, RecordsFault, RecordsWhy};
 pub use label_base::PathWhy;
-pub use reading::{RecordLimits, read_records};
+pub use reading::{RecordLimits, read_records, records_follow_grammar};
 pub use record::Record;
 
 #[cfg(test)]

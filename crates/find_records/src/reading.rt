@@ -1,7 +1,7 @@
-ghost use Rattle.std.specs.Prelude.{◌≡◌, ◌<◌, ◌≤◌, ◌+◌, ◌-◌, ◌^◌, length, IfOk, IfErr, Ok};
+ghost use Rattle.std.specs.Prelude.{◌≡◌, ◌↔◌, ◌<◌, ◌≤◌, ◌+◌, ◌-◌, ◌^◌, List, Result, length, IfOk, IfErr, Ok};
 ghost use Rattle.label_base.specs.Answers.{Answers, Explains};
 ghost use Rattle.find_records.specs.Cause.{run_cause};
-ghost use Rattle.find_records.specs.Records.{meaning, records_from, onto};
+ghost use Rattle.find_records.specs.Grammar.{Means, meaning, onto, records_from, records_of};
 ghost use Rattle.find_records.specs.Reading.{RecordsTold, RecordsCounts};
 
 use crate::fault::{RecordFault, RecordsFault, RecordsWhy, RunFault};
@@ -18,8 +18,11 @@ pub struct RecordLimits {
     pub bytes: u64,
 }
 
+// Ends a record.
+const NUL: u8 = 0;
+
 // Reads one record, whose number is given.
-#[tactic(auto, unfolding(crate::specs::Records::meaning))]
+#[tactic(auto, unfolding(crate::specs::Grammar::meaning))]
 fn read_numbered(
     alloc: Global,
     number: u64,
@@ -57,7 +60,7 @@ fn next_record(
     ensures few { IfOk result (λ _. number ≤ most) }
     ensures bad { IfErr result (λ fault. Explains (run_cause fault) (records_from most number bytes.now)) }
 {
-    let (piece, rest) = cut_at(0, bytes);
+    let (piece, rest) = cut_at(NUL, bytes);
     match rest {
         Some(rest) => Ok((read_numbered(alloc, number, most, piece, true)?, rest)),
         None => Ok((read_numbered(alloc, number, most, piece, false)?, &[])),
@@ -111,3 +114,12 @@ pub fn read_records<I: Source>(
         Err(RunFault::OutOfMemory) => Err(RecordsFault::OutOfMemory),
     }
 }
+
+/// A law on all bytes: what [`read_records`] reads of them is what the grammar of find(1) says, each fault included.
+/// They give records exactly where they are such records, each ended by a NUL, and no more than the limit; a fault
+/// names the first record that is bad, behind good ones. It does nothing.
+#[tactic(auto, using(crate::proofs::RunGrammar::run_means))]
+pub fn records_follow_grammar(_limits: RecordLimits, _bytes: &[u8])
+    ensures { (meant : _)
+        → (records_of _limits _bytes.now ≡ meant) ↔ Means _limits.records _bytes.now meant }
+{}

@@ -1,12 +1,15 @@
-ghost use Rattle.std.specs.Prelude.{◌≡◌};
+ghost use Rattle.std.specs.Prelude.{◌≡◌, ◌∷◌, []};
 ghost use Rattle.label_base.specs.Answers.{Answers};
-ghost use Rattle.find_records.specs.Record.{kind_of, letter_kind, path_of, record_of, with_path};
+ghost use Rattle.find_records.specs.Grammar.{kind_of, path_of, record_of, with_path};
 ghost use Rattle.find_records.specs.Cause.{record_cause};
 
 use crate::fault::{RecordFault, RecordWhy};
 use context_syntax::Label;
 use label_base::{EntryKind, NormPath, PathFault, PathWhy, cut_at, read_number};
 use std::alloc::Global;
+
+// Parts the fields of a record.
+const SPACE: u8 = b' ';
 
 /// What one record says of an entry: the fields that find(1) prints for `%y %D %i %Z %p`.
 #[derive(Debug, Drop)]
@@ -21,7 +24,7 @@ pub struct Record {
 }
 
 fn kind_of_letter(letter: u8) -> Option<EntryKind>
-    ensures { result ≡ letter_kind letter }
+    ensures { result ≡ kind_of (letter ∷ []) }
 {
     match letter {
         b'f' => Some(EntryKind::Regular),
@@ -61,23 +64,23 @@ fn read_path(alloc: Global, field: &[u8]) -> Result<NormPath, RecordFault>
 }
 
 /// Reads one record, without its NUL.
-#[tactic(auto, unfolding(crate::specs::Record::record_of))]
+#[tactic(auto, unfolding(crate::specs::Grammar::record_of))]
 pub fn read_record(alloc: Global, bytes: &[u8]) -> Result<Record, RecordFault>
     ensures { Answers (λ found. found) record_cause result (record_of bytes.now) }
 {
-    let (kind, rest) = cut_at(b' ', bytes);
+    let (kind, rest) = cut_at(SPACE, bytes);
     let Some(rest) = rest else {
         return Err(RecordFault::Bad(RecordWhy::MissingField));
     };
-    let (device, rest) = cut_at(b' ', rest);
+    let (device, rest) = cut_at(SPACE, rest);
     let Some(rest) = rest else {
         return Err(RecordFault::Bad(RecordWhy::MissingField));
     };
-    let (inode, rest) = cut_at(b' ', rest);
+    let (inode, rest) = cut_at(SPACE, rest);
     let Some(rest) = rest else {
         return Err(RecordFault::Bad(RecordWhy::MissingField));
     };
-    let (label, path) = cut_at(b' ', rest);
+    let (label, path) = cut_at(SPACE, rest);
     let Some(path) = path else {
         return Err(RecordFault::Bad(RecordWhy::MissingField));
     };

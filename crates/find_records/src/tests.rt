@@ -1,4 +1,6 @@
-use crate::{PathWhy, Record, RecordLimits, RecordWhy, RecordsFault, read_records};
+use crate::{
+    PathWhy, Record, RecordLimits, RecordWhy, RecordsFault, read_records, records_follow_grammar,
+};
 use context_syntax::Label;
 use label_base::{Bytes, EntryKind, MemSource, Row};
 use std::alloc::Global;
@@ -37,6 +39,7 @@ fn refused(why: RecordWhy) -> Option<RecordsFault> {
 #[test]
 fn reads_records(rt: HostRuntime) -> Result<(), Fail> {
     let bytes = b"f 1 5 system_u:object_r:t:s0 /a b\0U 2 6 ? //c/\0";
+    records_follow_grammar(LIMITS, bytes);
     let records = read(rt.alloc(), bytes)?;
     assert_eq!(rt; records.len(), 2);
     let first = records.get(0);

@@ -1,6 +1,6 @@
 use Rattle.std.proofs.Common.{◌≡◌, ◌≤◌, ◌+◌, length}
 use Rattle.label_base.specs.Lines.{with_front}
-use Rattle.find_records.specs.Records.{records_from}
+use Rattle.find_records.specs.Grammar.{records_from}
 use Rattle.find_records.proofs.reading.read_all_records.Given as goal
 
 -- the records so far, and what the rest means, are what all bytes mean

@@ -1,0 +1,226 @@
+-- The grammar of records, as find(1) writes them by -printf '%y %D %i %Z %p\0', and below it how it is computed.
+use Rattle.std.specs.Prelude.{◌≡◌, ◌⊎◌, ℕ, ◌+◌, ◌<◌, ◌≤◌, Bool, true, false, ◌==◌, nat_lt, codes, List, [], ◌∷◌, ◌++◌, length, Contains, count_by, Option, Some, None, IsSome, Result, Ok, Err, if◌then◌else◌}
+use Rattle.std.specs.List.{slice_split}
+use Rattle.label_base.specs.Cut.{front, behind}
+use Rattle.label_base.specs.Number.{number_of}
+use Rattle.label_base.specs.Path.{Path, path_read, same_bytes}
+use Rattle.label_base.specs.declared.path_fault.PathWhy.{PathWhy}
+use Rattle.label_base.specs.declared.kind.EntryKind.{EntryKind}
+use Rattle.label_base.specs.declared.kind.EntryKind.TheVariants.{Regular, Directory, Link, Pipe, Socket, Block, Char, Other}
+use Rattle.context_syntax.specs.Label.{label_of}
+use Rattle.context_syntax.specs.declared.label.Label.{Label}
+use Rattle.find_records.specs.declared.record.Record.{Record}
+use Rattle.find_records.specs.declared.record.TheConstants.{SPACE}
+use Rattle.find_records.specs.declared.reading.TheConstants.{NUL}
+use Rattle.find_records.specs.declared.reading.RecordLimits.{RecordLimits}
+use Rattle.find_records.specs.declared.fault.RecordWhy.{RecordWhy}
+use Rattle.find_records.specs.declared.fault.RecordWhy.TheVariants.{MissingField, BadType, BadNumber, BadPath}
+use Rattle.find_records.specs.declared.fault.RecordsWhy.{RecordsWhy}
+use Rattle.find_records.specs.declared.fault.RecordsWhy.TheVariants.{TooMany, Refused, Unended}
+
+-- ---- one record
+
+-- the bytes of the five fields
+pub record Fields : Type 0 where
+  pub letter : List ℕ
+  pub device : List ℕ
+  pub inode : List ℕ
+  pub label : List ℕ
+  pub path : List ℕ
+
+-- the bytes are these fields with one space between two of them; a path may hold spaces
+pub record HasFields (bytes : List ℕ) (fields : Fields) : Type 0 where
+  pub text :
+      bytes ≡ fields.letter ++ SPACE ∷ fields.device ++ SPACE ∷ fields.inode
+      ++ SPACE ∷ fields.label ++ SPACE ∷ fields.path
+  pub letter : ¬ Contains fields.letter SPACE
+  pub device : ¬ Contains fields.device SPACE
+  pub inode : ¬ Contains fields.inode SPACE
+  pub label : ¬ Contains fields.label SPACE
+
+-- the kind that find(1) tells by a letter; a door (D) and an unknown entry (U) are of another kind
+abbrev pub kind_of : List ℕ → Option EntryKind
+kind_of field =
+    if same_bytes field (codes "f") then Some Regular
+    else if same_bytes field (codes "d") then Some Directory
+    else if same_bytes field (codes "l") then Some Link
+    else if same_bytes field (codes "p") then Some Pipe
+    else if same_bytes field (codes "s") then Some Socket
+    else if same_bytes field (codes "b") then Some Block
+    else if same_bytes field (codes "c") then Some Char
+    else if same_bytes field (codes "D") then Some Other
+    else if same_bytes field (codes "U") then Some Other
+    else None
+
+-- what the fields tell: a kind, two decimal numbers of at most 64 bits, a label, an absolute path
+pub record Tells (fields : Fields) (found : Record) : Type 0 where
+  pub kind : kind_of fields.letter ≡ Some found.kind
+  pub device : number_of fields.device ≡ Some found.device
+  pub inode : number_of fields.inode ≡ Some found.inode
+  pub label : label_of fields.label ≡ found.label
+  pub path : path_read fields.path ≡ Ok found.path
+
+-- the bytes spell this record
+pub record Spells (bytes : List ℕ) (found : Record) : Type 0 where
+  pub fields : Fields
+  pub cut : HasFields bytes fields
+  pub told : Tells fields found
+
+-- nothing is wrong with the fields before the path
+pub record AreGood (fields : Fields) : Type 0 where
+  pub kind : IsSome (kind_of fields.letter)
+  pub device : IsSome (number_of fields.device)
+  pub inode : IsSome (number_of fields.inode)
+
+-- what is wrong with the fields, where nothing before it is
+abbrev pub AreBad : Fields → RecordWhy → Type 0
+AreBad fields MissingField = ⊥
+AreBad fields BadType = kind_of fields.letter ≡ None
+AreBad fields BadNumber =
+    IsSome (kind_of fields.letter)
+    × ((number_of fields.device ≡ None) ⊎ (number_of fields.inode ≡ None))
+AreBad fields (BadPath why) = AreGood fields × (path_read fields.path ≡ Err why)
+
+abbrev pub is_space : ℕ → Bool
+is_space b = b == SPACE
+
+-- the bytes spell no record, and why
+abbrev pub IsBad : List ℕ → RecordWhy → Type 0
+IsBad bytes MissingField = count_by is_space bytes < 4
+IsBad bytes why = (fields : Fields) × HasFields bytes fields × AreBad fields why
+
+-- ---- a run of records
+
+-- the bytes are these records, each ended by a NUL
+pub data IsRun : List ℕ → List Record → Type 0 where
+  none : IsRun [] []
+  more : (bytes rest : List ℕ) (first : Record) (others : List Record)
+      → ¬ Contains bytes NUL
+      → Spells bytes first
+      → IsRun rest others
+      → IsRun (bytes ++ NUL ∷ rest) (first ∷ others)
+
+-- behind good records these bytes are left, for the record with this number
+pub record StandsAt (bytes : List ℕ) (number : ℕ) (left : List ℕ) : Type 0 where
+  pub front : List ℕ
+  pub records : List Record
+  pub text : bytes ≡ front ++ left
+  pub good : IsRun front records
+  pub count : length records + 1 ≡ number
+
+-- bytes are left behind as many good records as there may be
+pub record HasTooMany (most : ℕ) (bytes : List ℕ) : Type 0 where
+  pub left : List ℕ
+  pub place : StandsAt bytes (most + 1) left
+  pub some : 0 < length left
+
+-- behind good records, the one with this number is refused
+pub record IsRefusedAt (most : ℕ) (bytes : List ℕ) (number : ℕ) (why : RecordWhy) : Type 0 where
+  pub bad : List ℕ
+  pub rest : List ℕ
+  pub place : StandsAt bytes number (bad ++ NUL ∷ rest)
+  pub within : number ≤ most
+  pub ended : ¬ Contains bad NUL
+  pub is_bad : IsBad bad why
+
+-- behind good records, the last one has this number and no NUL
+pub record IsUnendedAt (most : ℕ) (bytes : List ℕ) (number : ℕ) : Type 0 where
+  pub left : List ℕ
+  pub place : StandsAt bytes number left
+  pub within : number ≤ most
+  pub some : 0 < length left
+  pub unended : ¬ Contains left NUL
+
+-- what the bytes mean, where there may be so many records
+abbrev pub Means : ℕ → List ℕ → Result (List Record) RecordsWhy → Type 0
+Means most bytes (Ok records) = IsRun bytes records × (length records ≤ most)
+Means most bytes (Err TooMany) = HasTooMany most bytes
+Means most bytes (Err (Refused number why)) = IsRefusedAt most bytes number why
+Means most bytes (Err (Unended number)) = IsUnendedAt most bytes number
+
+-- ---- how it is computed
+
+-- the path of a record
+abbrev pub path_from : Result Path PathWhy → Result Path RecordWhy
+path_from (Ok path) = Ok path
+path_from (Err why) = Err (BadPath why)
+
+abbrev pub path_of : List ℕ → Result Path RecordWhy
+path_of bytes = path_from (path_read bytes)
+
+-- the record of the fields' values, or the first of them that is bad
+abbrev pub record_from : Option EntryKind → Option ℕ → Option ℕ → Label → Result Path RecordWhy → Result Record RecordWhy
+record_from None device inode label path = Err BadType
+record_from (Some kind) None inode label path = Err BadNumber
+record_from (Some kind) (Some device) None label path = Err BadNumber
+record_from (Some kind) (Some device) (Some inode) label (Err why) = Err why
+record_from (Some kind) (Some device) (Some inode) label (Ok path) = Ok (record { kind = kind; device = device; inode = inode; label = label; path = path })
+
+-- the record of the fields
+abbrev pub with_path : List ℕ → List ℕ → List ℕ → List ℕ → List ℕ → Result Record RecordWhy
+with_path letter device inode label path = record_from (kind_of letter) (number_of device) (number_of inode) (label_of label) (path_of path)
+
+-- the fields so far, and what stands behind the last one's space, if it has one
+abbrev pub with_label : List ℕ → List ℕ → List ℕ → List ℕ → Option (List ℕ) → Result Record RecordWhy
+with_label letter device inode label None = Err MissingField
+with_label letter device inode label (Some path) = with_path letter device inode label path
+
+abbrev pub with_inode : List ℕ → List ℕ → List ℕ → Option (List ℕ) → Result Record RecordWhy
+with_inode letter device inode None = Err MissingField
+with_inode letter device inode (Some rest) = with_label letter device inode (front is_space rest) (behind is_space rest)
+
+abbrev pub with_device : List ℕ → List ℕ → Option (List ℕ) → Result Record RecordWhy
+with_device letter device None = Err MissingField
+with_device letter device (Some rest) = with_inode letter device (front is_space rest) (behind is_space rest)
+
+abbrev pub with_letter : List ℕ → Option (List ℕ) → Result Record RecordWhy
+with_letter letter None = Err MissingField
+with_letter letter (Some rest) = with_device letter (front is_space rest) (behind is_space rest)
+
+-- the record that the bytes before a NUL spell: cut at the first four spaces, the path is the rest
+unfoldable pub record_of : List ℕ → Result Record RecordWhy
+record_of bytes = with_letter (front is_space bytes) (behind is_space bytes)
+
+abbrev pub is_nul : ℕ → Bool
+is_nul b = b == NUL
+
+-- the pieces between the NULs, each with whether it has its NUL; an empty last one is none
+abbrev pub with_ends : List (List ℕ) → List (List ℕ × Bool)
+with_ends [] = []
+with_ends ([] ∷ []) = []
+with_ends ((b ∷ bs) ∷ []) = (b ∷ bs, false) ∷ []
+with_ends (piece ∷ next ∷ pieces) = (piece, true) ∷ with_ends (next ∷ pieces)
+
+abbrev pub pieces_of : List ℕ → List (List ℕ × Bool)
+pieces_of bytes = with_ends (slice_split is_nul bytes)
+
+-- a record outside its grammar is refused by its number
+abbrev pub numbered : ℕ → Result Record RecordWhy → Result Record RecordsWhy
+numbered number (Ok found) = Ok found
+numbered number (Err why) = Err (Refused number why)
+
+abbrev pub ended : ℕ → List ℕ → Bool → Result Record RecordsWhy
+ended number bytes false = Err (Unended number)
+ended number bytes true = numbered number (record_of bytes)
+
+-- what the piece with this number gives: too many first, then the end, then the grammar
+unfoldable pub meaning : ℕ → ℕ → List ℕ → Bool → Result Record RecordsWhy
+meaning most number bytes is_ended = if nat_lt most number then Err TooMany else ended number bytes is_ended
+
+-- a first record before others; the first refusal decides
+abbrev pub onto : Result Record RecordsWhy → Result (List Record) RecordsWhy → Result (List Record) RecordsWhy
+onto (Err why) rest = Err why
+onto (Ok first) (Err why) = Err why
+onto (Ok first) (Ok rest) = Ok (first ∷ rest)
+
+-- all records of the pieces, of which the first has this number, or the first refusal
+abbrev pub all_from : ℕ → ℕ → List (List ℕ × Bool) → Result (List Record) RecordsWhy
+all_from most number [] = Ok []
+all_from most number (piece ∷ pieces) = onto (meaning most number piece.0 piece.1) (all_from most (number + 1) pieces)
+
+unfoldable pub records_from : ℕ → ℕ → List ℕ → Result (List Record) RecordsWhy
+records_from most number bytes = all_from most number (pieces_of bytes)
+
+-- the records that the bytes spell, or what is wrong with the first bad one
+abbrev pub records_of : RecordLimits → List ℕ → Result (List Record) RecordsWhy
+records_of limits bytes = records_from limits.records 1 bytes
