@@ -1,6 +1,6 @@
 -- The tree that the input gives.
 use Rattle.std.specs.Prelude.{ℕ, Bool, ◌||◌, not, nat_lt, List, length, Result, Ok, Err, if◌then◌else◌}
-use Rattle.find_records.specs.Records.{records_of}
+use Rattle.find_records.specs.Grammar.{records_of}
 use Rattle.find_records.specs.declared.fault.RecordsWhy.{RecordsWhy}
 use Rattle.find_records.specs.declared.reading.RecordLimits.{RecordLimits}
 use Rattle.find_records.specs.declared.record.Record.{Record}
