@@ -1,3 +1,4 @@
+pub mod LabelSpelling
 pub mod NameSets
 pub mod Spelling
 pub mod TypeLines

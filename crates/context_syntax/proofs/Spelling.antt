@@ -4,6 +4,7 @@ use Rattle.std.specs.Prelude.{Option, Some, None, ◌&&◌, not}
 use Rattle.std.specs.List.{list_all}
 use Rattle.std.proofs.lemmas.Bool.Decides.{nat_tests}
 use Rattle.label_base.specs.Cut.{front, behind}
+use Rattle.context_syntax.specs.declared.context.TheConstants.{COLON}
 use Rattle.context_syntax.specs.Context.{ContextValue, IsContext, Spells, is_word, is_word_byte, is_range, is_colon, range_text, context_text, context_of, with_user, with_role, with_kind}
 
 and_first : (x y : Bool) → (x && y) ≡ true → x ≡ true
@@ -18,13 +19,13 @@ and_second false y h = cc
 no_colon : (b : ℕ) → is_word_byte b ≡ true → is_colon b ≡ false
 no_colon b h = grind (arith, nat_tests)
 
-front_word : (word rest : List ℕ) → list_all is_word_byte word ≡ true → front is_colon (word ++ 58 ∷ rest) ≡ word
+front_word : (word rest : List ℕ) → list_all is_word_byte word ≡ true → front is_colon (word ++ COLON ∷ rest) ≡ word
 front_word [] rest h = refl
 front_word (b ∷ bs) rest h =
     let here = no_colon b (and_first (is_word_byte b) (list_all is_word_byte bs) h) in
     rw here (ap (λ ys. b ∷ ys) (front_word bs rest (and_second (is_word_byte b) (list_all is_word_byte bs) h)))
 
-behind_word : (word rest : List ℕ) → list_all is_word_byte word ≡ true → behind is_colon (word ++ 58 ∷ rest) ≡ Some rest
+behind_word : (word rest : List ℕ) → list_all is_word_byte word ≡ true → behind is_colon (word ++ COLON ∷ rest) ≡ Some rest
 behind_word [] rest h = refl
 behind_word (b ∷ bs) rest h =
     let here = no_colon b (and_first (is_word_byte b) (list_all is_word_byte bs) h) in
@@ -59,14 +60,14 @@ with_kind_is c h = rw (h.user, h.role, h.kind, h.range) refl
 kind_read : (c : ContextValue) → IsContext c → with_role c.user c.role (Some (c.kind ++ range_text c.range)) ≡ Some c
 kind_read c h = rw (front_kind c.kind c.range (word_bytes c.kind h.kind), behind_kind c.kind c.range (word_bytes c.kind h.kind)) (with_kind_is c h)
 
-role_read : (c : ContextValue) → IsContext c → with_user c.user (Some (c.role ++ 58 ∷ (c.kind ++ range_text c.range))) ≡ Some c
+role_read : (c : ContextValue) → IsContext c → with_user c.user (Some (c.role ++ COLON ∷ (c.kind ++ range_text c.range))) ≡ Some c
 role_read c h = rw (front_word c.role (c.kind ++ range_text c.range) (word_bytes c.role h.role), behind_word c.role (c.kind ++ range_text c.range) (word_bytes c.role h.role)) (kind_read c h)
 
-user_read : (c : ContextValue) → IsContext c → context_of (c.user ++ 58 ∷ (c.role ++ 58 ∷ (c.kind ++ range_text c.range))) ≡ Some c
-user_read c h = rw (front_word c.user (c.role ++ 58 ∷ (c.kind ++ range_text c.range)) (word_bytes c.user h.user), behind_word c.user (c.role ++ 58 ∷ (c.kind ++ range_text c.range)) (word_bytes c.user h.user)) (role_read c h)
+user_read : (c : ContextValue) → IsContext c → context_of (c.user ++ COLON ∷ (c.role ++ COLON ∷ (c.kind ++ range_text c.range))) ≡ Some c
+user_read c h = rw (front_word c.user (c.role ++ COLON ∷ (c.kind ++ range_text c.range)) (word_bytes c.user h.user), behind_word c.user (c.role ++ COLON ∷ (c.kind ++ range_text c.range)) (word_bytes c.user h.user)) (role_read c h)
 
 -- the parts from left to right
-spread : (user role kind range : List ℕ) → user ++ 58 ∷ role ++ 58 ∷ kind ++ range ≡ user ++ 58 ∷ (role ++ 58 ∷ (kind ++ range))
+spread : (user role kind range : List ℕ) → user ++ COLON ∷ role ++ COLON ∷ kind ++ range ≡ user ++ COLON ∷ (role ++ COLON ∷ (kind ++ range))
 spread user role kind range = simp append_assoc
 
 -- the spelling of a context is read as that context
@@ -93,13 +94,13 @@ whole p (x ∷ xs) h =
       | false ↦ λ e. ap (λ ys. x ∷ ys) (whole p xs e)
     ] h
 
-colon_is : (x : ℕ) → is_colon x ≡ true → x ≡ 58
+colon_is : (x : ℕ) → is_colon x ≡ true → x ≡ COLON
 colon_is x h = grind (arith, nat_tests)
 
 -- the words of the last part, joined again
 range_joined : (rest : List ℕ) (range : Option (List ℕ)) → behind is_colon rest ≡ range → rest ≡ front is_colon rest ++ range_text range
 range_joined rest None h = whole is_colon rest h ∙ sym (append-nil (front is_colon rest))
-range_joined rest (Some r) h = joined is_colon rest 58 colon_is r h
+range_joined rest (Some r) h = joined is_colon rest COLON colon_is r h
 
 chosen : {A : Type 0} (v : Bool) (x c : A) → cond v (Some x) None ≡ Some c → (v ≡ true) × (x ≡ c)
 chosen true x c h = (refl, cc)
@@ -122,23 +123,23 @@ spells_made rest made c h text =
     let found = kind_sound made c h in
     subst (Spells rest) found.0 (record { parts = found.1; text = text })
 
-role_sound : (user role rest : List ℕ) (c : ContextValue) → with_role user role (Some rest) ≡ Some c → Spells (user ++ 58 ∷ role ++ 58 ∷ rest) c
+role_sound : (user role rest : List ℕ) (c : ContextValue) → with_role user role (Some rest) ≡ Some c → Spells (user ++ COLON ∷ role ++ COLON ∷ rest) c
 role_sound user role rest c h =
     let kind = front is_colon rest in
     let range = behind is_colon rest in
-    spells_made (user ++ 58 ∷ role ++ 58 ∷ rest) (record { user = user; role = role; kind = kind; range = range }) c h
-    (ap (λ t. user ++ 58 ∷ role ++ 58 ∷ t) (range_joined rest range refl) ∙ simp append_assoc)
+    spells_made (user ++ COLON ∷ role ++ COLON ∷ rest) (record { user = user; role = role; kind = kind; range = range }) c h
+    (ap (λ t. user ++ COLON ∷ role ++ COLON ∷ t) (range_joined rest range refl) ∙ simp append_assoc)
 
-user_sound : (user rest : List ℕ) (more : Option (List ℕ)) (c : ContextValue) → behind is_colon rest ≡ more → with_role user (front is_colon rest) more ≡ Some c → Spells (user ++ 58 ∷ rest) c
+user_sound : (user rest : List ℕ) (more : Option (List ℕ)) (c : ContextValue) → behind is_colon rest ≡ more → with_role user (front is_colon rest) more ≡ Some c → Spells (user ++ COLON ∷ rest) c
 user_sound user rest None c cut h = cc
 user_sound user rest (Some last) c cut h =
-    let text : user ++ 58 ∷ rest ≡ user ++ 58 ∷ front is_colon rest ++ 58 ∷ last = ap (λ t. user ++ 58 ∷ t) (joined is_colon rest 58 colon_is last cut) ∙ simp append_assoc in
+    let text : user ++ COLON ∷ rest ≡ user ++ COLON ∷ front is_colon rest ++ COLON ∷ last = ap (λ t. user ++ COLON ∷ t) (joined is_colon rest COLON colon_is last cut) ∙ simp append_assoc in
     subst (λ t. Spells t c) (sym text) (role_sound user (front is_colon rest) last c h)
 
 text_sound : (bytes : List ℕ) (more : Option (List ℕ)) (c : ContextValue) → behind is_colon bytes ≡ more → with_user (front is_colon bytes) more ≡ Some c → Spells bytes c
 text_sound bytes None c cut h = cc
 text_sound bytes (Some rest) c cut h =
-    subst (λ t. Spells t c) (sym (joined is_colon bytes 58 colon_is rest cut)) (user_sound (front is_colon bytes) rest (behind is_colon rest) c refl h)
+    subst (λ t. Spells t c) (sym (joined is_colon bytes COLON colon_is rest cut)) (user_sound (front is_colon bytes) rest (behind is_colon rest) c refl h)
 
 -- what is read is spelled by the bytes
 pub sound : (bytes : List ℕ) (c : ContextValue) → context_of bytes ≡ Some c → Spells bytes c

@@ -1,8 +1,10 @@
--- Security contexts: user:role:type, or user:role:type:range.
-use Rattle.std.specs.Prelude.{◌≡◌, ℕ, Bool, true, false, ◌&&◌, ◌||◌, ◌==◌, nat_le, List, [], ◌∷◌, ◌++◌, length, Option, Some, None, if◌then◌else◌, not}
-use Rattle.std.specs.List.{list_all}
+-- The grammar of security contexts, user:role:type or user:role:type:range, and below it how it is computed.
+use Rattle.std.specs.Prelude.{◌≡◌, ℕ, Bool, true, false, ◌&&◌, ◌||◌, ◌==◌, codes, List, [], ◌∷◌, ◌++◌, length, Option, Some, None, if◌then◌else◌, not}
+use Rattle.std.specs.Char.{is_ascii_alphanumeric, is_ascii_graphic}
+use Rattle.std.specs.List.{list_all, list_any}
 use Rattle.label_base.specs.Cut.{front, behind}
 use Rattle.label_base.specs.Path.{same_bytes}
+use Rattle.context_syntax.specs.declared.context.TheConstants.{COLON}
 
 pub record ContextValue : Type 0 where
   pub user : List ℕ
@@ -10,11 +12,13 @@ pub record ContextValue : Type 0 where
   pub kind : List ℕ
   pub range : Option (List ℕ)
 
+-- a byte of a user, role or type
 abbrev pub is_word_byte : ℕ → Bool
-is_word_byte b = (nat_le 97 b && nat_le b 122) || (nat_le 65 b && nat_le b 90) || (nat_le 48 b && nat_le b 57) || (b == 95) || (b == 46) || (b == 45)
+is_word_byte b = is_ascii_alphanumeric b || list_any (λ mark. b == mark) (codes "_.-")
 
+-- a byte of a range
 abbrev pub is_range_byte : ℕ → Bool
-is_range_byte b = nat_le 33 b && nat_le b 126 && (if b == 34 then false else if b == 92 then false else true)
+is_range_byte b = is_ascii_graphic b && not (list_any (λ mark. b == mark) (codes "\"\\"))
 
 abbrev pub is_word : List ℕ → Bool
 is_word bytes = not (length bytes == 0) && list_all is_word_byte bytes
@@ -32,32 +36,21 @@ pub record IsContext (c : ContextValue) : Type 0 where
 
 abbrev pub range_text : Option (List ℕ) → List ℕ
 range_text None = []
-range_text (Some r) = 58 ∷ r
+range_text (Some r) = COLON ∷ r
 
 -- the one spelling of a context
 abbrev pub context_text : ContextValue → List ℕ
-context_text c = c.user ++ 58 ∷ c.role ++ 58 ∷ c.kind ++ range_text c.range
+context_text c = c.user ++ COLON ∷ c.role ++ COLON ∷ c.kind ++ range_text c.range
 
 -- the bytes spell this context
 pub record Spells (bytes : List ℕ) (c : ContextValue) : Type 0 where
   pub parts : IsContext c
   pub text : bytes ≡ context_text c
 
-abbrev pub same_option : Option (List ℕ) → Option (List ℕ) → Bool
-same_option None None = true
-same_option None (Some y) = false
-same_option (Some x) None = false
-same_option (Some x) (Some y) = same_bytes x y
-
-abbrev pub same_context : ContextValue → ContextValue → Bool
-same_context a b = same_bytes a.user b.user && same_bytes a.role b.role && same_bytes a.kind b.kind && same_option a.range b.range
-
--- the same role, type and range
-abbrev pub same_but_user : ContextValue → ContextValue → Bool
-same_but_user a b = same_bytes a.role b.role && same_bytes a.kind b.kind && same_option a.range b.range
+-- ---- how it is computed
 
 abbrev pub is_colon : ℕ → Bool
-is_colon b = b == 58
+is_colon b = b == COLON
 
 abbrev pub with_kind : List ℕ → List ℕ → List ℕ → Option (List ℕ) → Option ContextValue
 with_kind user role kind range =
@@ -74,3 +67,18 @@ with_user user (Some rest) = with_role user (front is_colon rest) (behind is_col
 -- the context that the bytes spell
 abbrev pub context_of : List ℕ → Option ContextValue
 context_of bytes = with_user (front is_colon bytes) (behind is_colon bytes)
+
+-- ---- equality
+
+abbrev pub same_option : Option (List ℕ) → Option (List ℕ) → Bool
+same_option None None = true
+same_option None (Some y) = false
+same_option (Some x) None = false
+same_option (Some x) (Some y) = same_bytes x y
+
+abbrev pub same_context : ContextValue → ContextValue → Bool
+same_context a b = same_bytes a.user b.user && same_bytes a.role b.role && same_bytes a.kind b.kind && same_option a.range b.range
+
+-- the same role, type and range
+abbrev pub same_but_user : ContextValue → ContextValue → Bool
+same_but_user a b = same_bytes a.role b.role && same_bytes a.kind b.kind && same_option a.range b.range

@@ -2,6 +2,7 @@
 use Rattle.std.specs.Prelude.{ℕ, Bool, true, false, List, [], ◌∷◌, Option, Some, None, if◌then◌else◌}
 use Rattle.label_base.specs.Path.{same_bytes}
 use Rattle.context_syntax.specs.Context.{ContextValue, context_of, same_context}
+use Rattle.context_syntax.specs.declared.label.TheConstants.{NO_LABEL}
 use Rattle.context_syntax.specs.declared.label.Label.{Label}
 use Rattle.context_syntax.specs.declared.label.Label.TheVariants.{Absent, Odd, Is}
 
@@ -12,7 +13,7 @@ label_from bytes (Some c) = Is c
 -- no bytes and a question mark are no label; a context is read as one; all else is kept as it is
 abbrev pub label_of : List ℕ → Label
 label_of [] = Absent
-label_of (b ∷ bs) = if same_bytes (b ∷ bs) (63 ∷ []) then Absent else label_from (b ∷ bs) (context_of (b ∷ bs))
+label_of (b ∷ bs) = if same_bytes (b ∷ bs) NO_LABEL.now then Absent else label_from (b ∷ bs) (context_of (b ∷ bs))
 
 abbrev pub same_label : Label → Label → Bool
 same_label Absent Absent = true

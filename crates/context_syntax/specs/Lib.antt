@@ -3,4 +3,5 @@ pub mod ContextCause
 pub mod Equal
 pub mod Label
 pub mod LabelEqual
+pub mod LabelGrammar
 pub mod TypeNames

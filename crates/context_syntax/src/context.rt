@@ -11,6 +11,9 @@ use label_base::{Bytes, OutOfMemory, cut_at};
 use std::alloc::Global;
 use std::marker::Model;
 
+// Parts the user, the role, the type and the range.
+const COLON: u8 = b':';
+
 /// A security context, as restorecon(8) and file_contexts(5) write it: `user:role:type`, or `user:role:type:range`.
 /// Each part is in the grammar of its place, so there is one spelling for each value.
 #[derive(Debug, Drop)]
@@ -76,12 +79,7 @@ fn are_range_bytes(bytes: &[u8]) -> bool
 fn may_stand_in_word(b: u8) -> bool
     ensures { result ≡ is_word_byte b }
 {
-    b.is_ascii_lowercase()
-        || b.is_ascii_uppercase()
-        || b.is_ascii_digit()
-        || b == b'_'
-        || b == b'.'
-        || b == b'-'
+    b.is_ascii_alphanumeric() || b == b'_' || b == b'.' || b == b'-'
 }
 
 fn is_range_or_none(range: Option<&[u8]>) -> bool
@@ -96,7 +94,7 @@ fn is_range_or_none(range: Option<&[u8]>) -> bool
 fn may_stand_in_range(b: u8) -> bool
     ensures { result ≡ is_range_byte b }
 {
-    b >= 33 && b <= 126 && b != b'"' && b != b'\\'
+    b.is_ascii_graphic() && b != b'"' && b != b'\\'
 }
 
 fn copy_of_range(alloc: Global, range: Option<&[u8]>) -> Result<Option<Bytes>, OutOfMemory>
@@ -133,15 +131,15 @@ impl Context {
         ensures complete { (c : ContextValue) → Spells bytes.now c → context_of bytes.now ≡ Some c }
         ensures sound { (c : ContextValue) → context_of bytes.now ≡ Some c → Spells bytes.now c }
     {
-        let (user, rest) = cut_at(b':', bytes);
+        let (user, rest) = cut_at(COLON, bytes);
         let Some(rest) = rest else {
             return Err(ContextFault::NoContext);
         };
-        let (role, rest) = cut_at(b':', rest);
+        let (role, rest) = cut_at(COLON, rest);
         let Some(rest) = rest else {
             return Err(ContextFault::NoContext);
         };
-        let (kind, range) = cut_at(b':', rest);
+        let (kind, range) = cut_at(COLON, rest);
         if !is_type_name(user)
             || !is_type_name(role)
             || !is_type_name(kind)
@@ -162,12 +160,12 @@ impl Context {
         ensures { OnOk result (to.new ≡ to.old ++ context_text self.now) }
     {
         to.push(self.user.as_slice())?;
-        to.push(b":")?;
+        to.push_byte(COLON)?;
         to.push(self.role.as_slice())?;
-        to.push(b":")?;
+        to.push_byte(COLON)?;
         to.push(self.kind.as_slice())?;
         if let Some(range) = &self.range {
-            to.push(b":")?;
+            to.push_byte(COLON)?;
             to.push(range.as_slice())?;
         }
         Ok(())

@@ -2,10 +2,14 @@ ghost use Rattle.std.specs.Prelude.{◌≡◌, ◌↔◌, IfOk, IsTrue};
 ghost use Rattle.std.specs.Cmp.{partial_equiv_from_equiv};
 ghost use Rattle.context_syntax.specs.Label.{label_of, same_label};
 ghost use Rattle.context_syntax.specs.LabelEqual.{labels_equiv};
+ghost use Rattle.context_syntax.specs.LabelGrammar.{SpellsLabel};
 
 use crate::context::{Context, ContextFault};
 use label_base::{Bytes, OutOfMemory};
 use std::alloc::Global;
+
+// find(1) prints it for an entry without a label.
+const NO_LABEL: &[u8] = b"?";
 
 /// The label of an inode, as find(1) prints it by `%Z` or the attribute `security.selinux` holds it.
 #[derive(Debug, Drop)]
@@ -23,7 +27,7 @@ impl Label {
     pub fn read(alloc: Global, bytes: &[u8]) -> Result<Label, OutOfMemory>
         ensures { IfOk result (λ label. label ≡ label_of bytes.now) }
     {
-        if bytes.is_empty() || bytes == b"?".as_slice() {
+        if bytes.is_empty() || bytes == NO_LABEL {
             return Ok(Label::Absent);
         }
         match Context::read(alloc, bytes) {
@@ -32,6 +36,12 @@ impl Label {
             Err(ContextFault::OutOfMemory) => Err(OutOfMemory),
         }
     }
+
+    /// A law on all bytes: the label that is read is the one that they spell. It does nothing.
+    #[tactic(auto, using(crate::proofs::LabelSpelling::label_spelled))]
+    pub fn follows_grammar(_bytes: &[u8])
+        ensures { (label : _) → (label_of _bytes.now ≡ label) ↔ SpellsLabel _bytes.now label }
+    {}
 
     /// A copy.
     pub fn copy(&self, alloc: Global) -> Result<Label, OutOfMemory>

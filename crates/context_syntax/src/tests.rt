@@ -42,6 +42,7 @@ fn the_type_of_another_context(rt: HostRuntime) -> Result<(), Fail> {
 
 #[test]
 fn labels(rt: HostRuntime) -> Result<(), Fail> {
+    Label::follows_grammar(b"?");
     let absent = Label::read(rt.alloc(), b"?")?;
     assert!(rt; absent == Label::Absent);
     let label = Label::read(rt.alloc(), b"unlabeled")?;
