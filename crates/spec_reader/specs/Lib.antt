@@ -1,4 +1,5 @@
 pub mod Causes
 pub mod SpecFile
+pub mod SpecGrammar
 pub mod SpecLines
 pub mod SpecValue

@@ -10,6 +10,7 @@ use Rattle.pattern_syntax.specs.Tree.{Tree}
 use Rattle.pattern_syntax.specs.Reading.{pattern_of}
 use Rattle.pattern_syntax.specs.declared.pattern_fault.PatternWhy.{PatternWhy}
 use Rattle.spec_reader.specs.SpecValue.{SpecValue}
+use Rattle.spec_reader.specs.declared.line.TheConstants.{NO_CONTEXT}
 use Rattle.spec_reader.specs.declared.spec.Decision.{Decision}
 use Rattle.spec_reader.specs.declared.spec.Decision.TheVariants.{Leave, Give}
 use Rattle.spec_reader.specs.declared.spec_fault.SpecWhy.{SpecWhy}
@@ -46,7 +47,7 @@ with_context part line text kind (Some context) = with_pattern part line text ki
 
 unfoldable pub with_decision : Part → ℕ → List ℕ → Option EntryKind → List ℕ → Result (Option SpecValue) SpecWhy
 with_decision part line text kind field =
-    if same_bytes field (codes "<<none>>") then with_pattern part line text kind Leave
+    if same_bytes field NO_CONTEXT.now then with_pattern part line text kind Leave
     else with_context part line text kind (context_of field)
 
 abbrev pub with_type : Part → ℕ → List ℕ → Option EntryKind → List ℕ → Result (Option SpecValue) SpecWhy

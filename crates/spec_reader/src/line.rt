@@ -14,6 +14,9 @@ use label_base::{Bytes, EntryKind, Part, next_field};
 use pattern_syntax::{Pattern, PatternFault, PatternWhy};
 use std::alloc::Global;
 
+// Stands in place of a context where files keep the labels that they have.
+const NO_CONTEXT: &[u8] = b"<<none>>";
+
 // The kind that a type field names.
 fn kind_in(field: &[u8]) -> Option<EntryKind>
     ensures value { result ≡ kind_of field.now }
@@ -106,7 +109,7 @@ fn read_decision(
     requires kind { is_spec_kind kind ≡ true }
     ensures { Answers (λ spec. spec) line_cause result (with_decision part line text.now kind field.now) }
 {
-    if field == b"<<none>>".as_slice() {
+    if field == NO_CONTEXT {
         return read_pattern(alloc, part, line, text, kind, Decision::Leave);
     }
     match Context::read(alloc, field) {
