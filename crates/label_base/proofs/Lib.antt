@@ -1,8 +1,11 @@
 pub mod Cuts
 pub mod PathLemmas
 pub mod PathTexts
+pub mod FirstCut
 pub mod Known
+pub mod LineCuts
 pub mod LineLemmas
+pub mod LinesMeant
 pub mod StoreLemmas
 pub mod NumberLemmas
 pub mod EscapeLemmas

@@ -2,6 +2,7 @@ pub mod Answers
 pub mod Cut
 pub mod Escape
 pub mod Kind
+pub mod LineGrammar
 pub mod Lines
 pub mod Number
 pub mod Path

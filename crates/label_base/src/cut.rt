@@ -1,8 +1,9 @@
-ghost use Rattle.std.specs.Prelude.{◌≡◌, ◌∷◌, ◌==◌, ◌<◌, ◌≤◌, [], length, IfSome, IfNone};
+ghost use Rattle.std.specs.Prelude.{◌≡◌, ◌↔◌, ◌∷◌, ◌==◌, ◌<◌, ◌≤◌, [], length, IfSome, IfNone};
 ghost use Rattle.std.specs.List.{slice_split};
 ghost use Rattle.std.specs.Option.{option_copied};
 ghost use Rattle.label_base.specs.Cut.{front, behind, pieces_left};
 ghost use Rattle.label_base.specs.Pieces.{turns_left};
+ghost use Rattle.label_base.specs.LineGrammar.{AreFields, AreLines};
 ghost use Rattle.label_base.specs.Lines.{is_blank, fields_of, fields_left, lines_of};
 
 use memchr::{memchr, memchr2};
@@ -77,6 +78,14 @@ pub fn next_line(text: &[u8]) -> Option<(&[u8], &[u8])>
     }
 }
 
+/// A law on all bytes: the lines into which a text is cut, and the fields into which a line is, are those that
+/// their grammar gives. It does nothing.
+#[tactic(auto, using(crate::proofs::LineCuts::lines_are, crate::proofs::LineCuts::fields_are))]
+pub fn cuts_follow_grammar(_text: &[u8])
+    ensures lines { (lines : _) → (lines_of _text.now ≡ lines) ↔ AreLines _text.now lines }
+    ensures fields { (fields : _) → (fields_of _text.now ≡ fields) ↔ AreFields _text.now fields }
+{}
+
 #[cfg(test)]
 mod tests {
     use super::*;
@@ -84,6 +93,7 @@ mod tests {
     #[test]
     fn a_text_is_cut_into_lines_and_fields(rt: HostRuntime) {
         let text = b"a \t b\n\nc".as_slice();
+        cuts_follow_grammar(text);
         let (line, rest) = next_line(text).expect(&rt, "a first line");
         assert_eq!(rt; rest, b"\nc".as_slice());
         let (first, left) = next_field(Some(line)).expect(&rt, "a first field");
