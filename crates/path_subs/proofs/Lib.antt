@@ -1,3 +1,4 @@
 pub mod PlainPaths
 pub mod Covering
 pub mod NamesAt
+pub mod SubsMeant

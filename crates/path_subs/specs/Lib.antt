@@ -1,2 +1,3 @@
+pub mod SubGrammar
 pub mod SubLines
 pub mod Subs

@@ -10,7 +10,7 @@ mod sub;
 mod sub_fault;
 mod subs;
 
-pub use reading::read_subs;
+pub use reading::{read_subs, subs_follow_grammar};
 pub use sub::Sub;
 pub use sub_fault::{NoSub, SubFault};
 pub use subs::Subs;

@@ -1,5 +1,6 @@
-ghost use Rattle.std.specs.Prelude.{◌<◌, ◌^◌, length};
+ghost use Rattle.std.specs.Prelude.{◌≡◌, ◌↔◌, ◌<◌, ◌^◌, length};
 ghost use Rattle.label_base.specs.Answers.{Answers, cause_of};
+ghost use Rattle.path_subs.specs.SubGrammar.{SubsMean};
 ghost use Rattle.path_subs.specs.SubLines.{subs_of};
 
 use crate::line::SubReader;
@@ -19,3 +20,10 @@ pub fn read_subs(alloc: Global, bytes: &[u8]) -> Result<Row<Sub>, SubFault>
 {
     read_lines(alloc, &SubReader, bytes)
 }
+
+/// A law on all bytes: what [`read_subs`] reads of them is what the grammar of selabel_file(5) says, the first refused
+/// line included. It does nothing.
+#[tactic(auto, using(crate::proofs::SubsMeant::subs_mean))]
+pub fn subs_follow_grammar(_bytes: &[u8])
+    ensures { (meant : _) → (subs_of _bytes.now ≡ meant) ↔ SubsMean _bytes.now meant }
+{}

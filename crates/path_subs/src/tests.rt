@@ -1,6 +1,6 @@
 ghost use Rattle.std.specs.Prelude.{◌<◌, ◌^◌, length};
 
-use crate::reading::read_subs;
+use crate::reading::{read_subs, subs_follow_grammar};
 use crate::sub_fault::{NoSub, SubFault};
 use crate::subs::Subs;
 use label_base::{Fault, NormPath, RefusedLine};
@@ -18,6 +18,7 @@ fn subs_of(rt: &HostRuntime, first: &[u8], second: &[u8]) -> Result<Subs, SubFau
 
 #[test]
 fn reads_lines(rt: HostRuntime) -> Result<(), Fail> {
+    subs_follow_grammar(b"/a /b");
     let subs = read_subs(rt.alloc(), b"# subs\n \t\n\t/a/ //b x".as_slice())?;
     assert_eq!(rt; subs.len(), 1);
     let sub = subs.get(0);
