@@ -1,4 +1,2 @@
-pub mod Causes
-pub mod SpecFile
 pub mod SpecLines
 pub mod SpecValue
