@@ -1,5 +1,3 @@
-pub mod Causes
-pub mod SpecFile
 pub mod SpecGrammar
 pub mod SpecLines
 pub mod SpecValue

@@ -1,17 +1,15 @@
-ghost use Rattle.std.specs.Prelude.{◌≡◌, ◌<◌, ◌^◌, length, true, IfSome, Some};
-ghost use Rattle.std.specs.Option.{option_copied, option_map};
-ghost use Rattle.label_base.specs.Answers.{Answers};
-ghost use Rattle.label_base.specs.Lines.{fields_of, fields_left};
+ghost use Rattle.std.specs.Prelude.{◌≡◌, ◌<◌, ◌^◌, length, true, IfSome};
+ghost use Rattle.std.specs.Option.{option_map};
+ghost use Rattle.label_base.specs.Answers.{Answers, cause_of};
 ghost use Rattle.pattern_syntax.specs.PatternCause.{pattern_cause};
-ghost use Rattle.spec_reader.specs.Causes.{line_cause};
 ghost use Rattle.spec_reader.specs.SpecValue.{is_spec_kind};
-ghost use Rattle.spec_reader.specs.SpecLines.{is_comment, kind_of, line_meaning, with_decision, with_pattern};
+ghost use Rattle.spec_reader.specs.SpecLines.{kind_of, spec_in, with_decision, with_pattern};
 
 use crate::spec::{Decision, Spec};
-use crate::spec_fault::{LineFault, SpecWhy};
+use crate::spec_fault::SpecWhy;
 use context_syntax::{Context, ContextFault};
-use label_base::{Bytes, EntryKind, Part, next_field};
-use pattern_syntax::{Pattern, PatternFault, PatternWhy};
+use label_base::{Bytes, EntryKind, Fault, LineReader, Part, next_field};
+use pattern_syntax::{Pattern, PatternFault};
 use std::alloc::Global;
 
 // Stands in place of a context where files keep the labels that they have.
@@ -41,33 +39,13 @@ fn kind_in(field: &[u8]) -> Option<EntryKind>
     }
 }
 
-fn begins_comment(field: &[u8]) -> bool
-    ensures { result ≡ is_comment field.now }
+fn refused_pattern(fault: PatternFault) -> Fault<SpecWhy>
+    ensures { cause_of result ≡ option_map SpecWhy.BadPattern (pattern_cause fault) }
 {
-    match field {
-        [first, ..] => *first == b'#',
-        [] => false,
+    match fault.why() {
+        Some(why) => Fault::Why(SpecWhy::BadPattern(why)),
+        None => Fault::OutOfMemory,
     }
-}
-
-fn refused_pattern(fault: PatternFault) -> LineFault
-    ensures { line_cause result ≡ option_map SpecWhy.BadPattern (pattern_cause fault) }
-{
-    match fault {
-        PatternFault::Syntax { at } => bad_pattern(PatternWhy::Syntax { at }),
-        PatternFault::UnsupportedPattern { at } => bad_pattern(PatternWhy::UnsupportedPattern {
-            at,
-        }),
-        PatternFault::TooDeep { at } => bad_pattern(PatternWhy::TooDeep { at }),
-        PatternFault::TooManyPositions => bad_pattern(PatternWhy::TooManyPositions),
-        PatternFault::OutOfMemory => LineFault::OutOfMemory,
-    }
-}
-
-fn bad_pattern(why: PatternWhy) -> LineFault
-    ensures { line_cause result ≡ Some (SpecWhy.BadPattern why) }
-{
-    LineFault::Why(SpecWhy::BadPattern(why))
 }
 
 #[tactic(auto, unfolding(crate::specs::SpecLines::with_pattern))]
@@ -78,20 +56,21 @@ fn read_pattern(
     text: &[u8],
     kind: Option<EntryKind>,
     decision: Decision,
-) -> Result<Option<Spec>, LineFault>
+) -> Result<Spec, Fault<SpecWhy>>
     requires size { length text.now < 2 ^ 32 }
     requires kind { is_spec_kind kind ≡ true }
-    ensures { Answers (λ spec. spec) line_cause result (with_pattern part line text.now kind decision) }
+    ensures { Answers (λ spec. spec) cause_of result
+        (with_pattern part line text.now kind decision) }
 {
     match Pattern::read(alloc, text) {
-        Ok(pattern) => Ok(Some(Spec {
+        Ok(pattern) => Ok(Spec {
             text: Bytes::copy_of(alloc, text)?,
             pattern,
             kind,
             decision,
             part,
             line,
-        })),
+        }),
         Err(fault) => Err(refused_pattern(fault)),
     }
 }
@@ -104,45 +83,52 @@ fn read_decision(
     text: &[u8],
     kind: Option<EntryKind>,
     field: &[u8],
-) -> Result<Option<Spec>, LineFault>
+) -> Result<Spec, Fault<SpecWhy>>
     requires size { length text.now < 2 ^ 32 }
     requires kind { is_spec_kind kind ≡ true }
-    ensures { Answers (λ spec. spec) line_cause result (with_decision part line text.now kind field.now) }
+    ensures { Answers (λ spec. spec) cause_of result
+        (with_decision part line text.now kind field.now) }
 {
     if field == NO_CONTEXT {
         return read_pattern(alloc, part, line, text, kind, Decision::Leave);
     }
     match Context::read(alloc, field) {
         Ok(context) => read_pattern(alloc, part, line, text, kind, Decision::Give(context)),
-        Err(ContextFault::NoContext) => Err(LineFault::Why(SpecWhy::BadContext)),
-        Err(ContextFault::OutOfMemory) => Err(LineFault::OutOfMemory),
+        Err(ContextFault::NoContext) => Err(Fault::Why(SpecWhy::BadContext)),
+        Err(ContextFault::OutOfMemory) => Err(Fault::OutOfMemory),
     }
 }
 
-/// What a line says: a specification, or nothing where it is blank or a comment.
-pub fn read_line(
-    alloc: Global,
-    part: Part,
-    line: u32,
-    text: &[u8],
-) -> Result<Option<Spec>, LineFault>
-    requires { length text.now < 2 ^ 32 }
-    ensures { Answers (λ spec. spec) line_cause result (line_meaning part line text.now) }
-{
-    let Some((first, more)) = next_field(Some(text)) else {
-        return Ok(None);
-    };
-    if begins_comment(first) {
-        return Ok(None);
-    }
-    let Some((second, more)) = next_field(more) else {
-        return Err(LineFault::Why(SpecWhy::MissingContext));
-    };
-    let Some((third, _)) = next_field(more) else {
-        return read_decision(alloc, part, line, first, None, second);
-    };
-    match kind_in(second) {
-        Some(kind) => read_decision(alloc, part, line, first, Some(kind), third),
-        None => Err(LineFault::Why(SpecWhy::BadKind)),
+/// Reads the lines of a file of specifications.
+#[derive(Drop)]
+pub struct SpecReader {
+    /// The file that the lines stand in.
+    pub part: Part,
+}
+
+impl LineReader for SpecReader {
+    type Value = Spec;
+
+    type Why = SpecWhy;
+
+    ghost meaning = { λ reader number fields. spec_in reader.part number fields };
+
+    fn read_line(
+        &self,
+        alloc: Global,
+        number: u32,
+        first: &[u8],
+        more: Option<&[u8]>,
+    ) -> Result<Spec, Fault<SpecWhy>> {
+        let Some((second, more)) = next_field(more) else {
+            return Err(Fault::Why(SpecWhy::MissingContext));
+        };
+        let Some((third, _)) = next_field(more) else {
+            return read_decision(alloc, self.part, number, first, None, second);
+        };
+        match kind_in(second) {
+            Some(kind) => read_decision(alloc, self.part, number, first, Some(kind), third),
+            None => Err(Fault::Why(SpecWhy::BadKind)),
+        }
     }
 }

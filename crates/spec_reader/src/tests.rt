@@ -3,7 +3,7 @@ ghost use Rattle.std.specs.Prelude.{◌<◌, ◌^◌, length};
 use crate::reading::read_specs;
 use crate::spec::Decision;
 use crate::spec_fault::{SpecFault, SpecWhy};
-use label_base::{EntryKind, Part};
+use label_base::{EntryKind, Fault, LinesWhy, Part, RefusedLine};
 use pattern_syntax::PatternWhy;
 use std::test::Fail;
 
@@ -39,7 +39,7 @@ fn fault_of(rt: &HostRuntime, text: &[u8], room: u32) -> Option<SpecFault>
 
 #[test]
 fn refuses_lines(rt: HostRuntime) {
-    let refused = |line, why| Some(SpecFault::Refused { line, why });
+    let refused = |number, why| Some(Fault::Why(LinesWhy::Refused(RefusedLine { number, why })));
     assert_eq!(rt;
         fault_of(&rt, b"\n/a", 1),
         refused(2, SpecWhy::MissingContext)
@@ -56,10 +56,13 @@ fn refuses_lines(rt: HostRuntime) {
 #[test]
 fn counts_the_room(rt: HostRuntime) {
     let text = b"/a <<none>>\n# /b\n\n/c <<none>>\n/d";
-    assert_eq!(rt; fault_of(&rt, text, 1), Some(SpecFault::TooManySpecs));
-    let refused = SpecFault::Refused {
-        line: 5,
+    assert_eq!(rt; fault_of(&rt, text, 1), Some(Fault::Why(LinesWhy::TooMany)));
+    let fifth = RefusedLine {
+        number: 5,
         why: SpecWhy::MissingContext,
     };
-    assert_eq!(rt; fault_of(&rt, text, 2), Some(refused));
+    assert_eq!(rt;
+        fault_of(&rt, text, 2),
+        Some(Fault::Why(LinesWhy::Refused(fifth)))
+    );
 }
