@@ -2,3 +2,4 @@ pub mod LabelSpelling
 pub mod NameSets
 pub mod Spelling
 pub mod TypeLines
+pub mod TypesMeant

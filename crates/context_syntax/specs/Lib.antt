@@ -5,3 +5,4 @@ pub mod Label
 pub mod LabelEqual
 pub mod LabelGrammar
 pub mod TypeNames
+pub mod TypesGrammar

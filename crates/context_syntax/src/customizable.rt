@@ -1,6 +1,7 @@
-ghost use Rattle.std.specs.Prelude.{◌<◌, ◌^◌, length};
+ghost use Rattle.std.specs.Prelude.{◌≡◌, ◌↔◌, ◌<◌, ◌^◌, length};
 ghost use Rattle.label_base.specs.Answers.{Answers, cause_of};
 ghost use Rattle.context_syntax.specs.TypeNames.{name_in, types_read};
+ghost use Rattle.context_syntax.specs.TypesGrammar.{TypesMean};
 
 use crate::context::is_type_name;
 use crate::type_names::TypeNames;
@@ -47,3 +48,10 @@ pub fn read_customizable(alloc: Global, bytes: &[u8]) -> Result<TypeNames, Custo
     let names = read_lines(alloc, &NameReader, bytes)?;
     Ok(TypeNames::of(alloc, names)?)
 }
+
+/// A law on all bytes: what [`read_customizable`] reads of them is what the grammar of customizable_types(5) says, the
+/// first refused line included. It does nothing.
+#[tactic(auto, using(crate::proofs::TypesMeant::types_mean))]
+pub fn types_follow_grammar(_bytes: &[u8])
+    ensures { (meant : _) → (types_read _bytes.now ≡ meant) ↔ TypesMean _bytes.now meant }
+{}

@@ -7,7 +7,7 @@ mod label;
 mod type_names;
 
 pub use context::{Context, ContextFault};
-pub use customizable::{CustomFault, NoTypeName, read_customizable};
+pub use customizable::{CustomFault, NoTypeName, read_customizable, types_follow_grammar};
 pub use label::Label;
 pub use type_names::TypeNames;
 

@@ -53,6 +53,7 @@ fn labels(rt: HostRuntime) -> Result<(), Fail> {
 
 #[test]
 fn customizable_types(rt: HostRuntime) -> Result<(), Fail> {
+    types_follow_grammar(b"home_t");
     let types = read_customizable(rt.alloc(), b"# types\n\n \thome_t\nboot_t \nhome_t")?;
     assert!(rt; types.has(b"boot_t"));
     assert!(rt; !types.has(b"boot"));

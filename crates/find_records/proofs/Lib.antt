@@ -1,4 +1,4 @@
-pub mod Cuts
+pub mod Outcomes
 pub mod RecordGrammar
 pub mod RunGrammar
 pub mod RunLemmas

@@ -13,7 +13,7 @@ use Rattle.find_records.specs.declared.record.TheConstants.{SPACE}
 use Rattle.find_records.specs.declared.fault.RecordWhy.{RecordWhy}
 use Rattle.find_records.specs.declared.fault.RecordWhy.TheVariants.{MissingField, BadType, BadNumber, BadPath}
 use Rattle.find_records.specs.Grammar.{Fields, HasFields, Spells, IsBad, is_space, kind_of, path_from, record_from, with_path, with_label, with_inode, with_device, record_of}
-use Rattle.find_records.proofs.Cuts.{IsCut, cut, front_at, behind_at, behind_none, count_lacking, count_at}
+use Rattle.label_base.proofs.FirstCut.{IsCut, cut, front_at, behind_at, behind_none, count_lacking, count_at}
 
 abbrev of_fields : Fields → Result Record RecordWhy
 of_fields f = with_path f.letter f.device f.inode f.label f.path

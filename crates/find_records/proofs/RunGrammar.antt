@@ -7,10 +7,10 @@ use Rattle.find_records.specs.declared.record.Record.{Record}
 use Rattle.find_records.specs.declared.reading.TheConstants.{NUL}
 use Rattle.find_records.specs.declared.reading.RecordLimits.{RecordLimits}
 use Rattle.find_records.specs.declared.fault.RecordWhy.{RecordWhy}
-use Rattle.find_records.specs.declared.fault.RecordsWhy.{RecordsWhy}
-use Rattle.find_records.specs.declared.fault.RecordsWhy.TheVariants.{TooMany, Refused, Unended}
+use Rattle.find_records.specs.declared.fault.RecordsFault.{RecordsFault}
+use Rattle.find_records.specs.declared.fault.RecordsFault.TheVariants.{ReadFault, TooLong, TooMany, Refused, Unended, OutOfMemory}
 use Rattle.find_records.specs.Grammar.{Spells, IsBad, IsRun, none, more, StandsAt, Means, numbered, ended, meaning, onto, record_of, records_from, records_of}
-use Rattle.find_records.proofs.Cuts.{IsCut, cut, pieces_at, pieces_lacking}
+use Rattle.label_base.proofs.FirstCut.{IsCut, cut, pieces_at, pieces_lacking}
 use Rattle.find_records.proofs.RecordGrammar.{RecordMeans, record_sound, record_complete}
 use Rattle.find_records.proofs.RunLemmas.{records_none, records_more, records_last, front_more}
 
@@ -39,14 +39,14 @@ last_is most number bytes some h = records_last most number bytes bytes some (pi
 nothing_is : (most number : ℕ) → records_from most number [] ≡ Ok []
 nothing_is most number = records_none most number [] refl
 
-onto_bad : (why : RecordsWhy) (meant : Result Record RecordsWhy) (rest : Result (List Record) RecordsWhy) → meant ≡ Err why → onto meant rest ≡ Err why
+onto_bad : (why : RecordsFault) (meant : Result Record RecordsFault) (rest : Result (List Record) RecordsFault) → meant ≡ Err why → onto meant rest ≡ Err why
 onto_bad why meant rest h = ap (λ m. onto m rest) h
 
-onto_good : (first : Record) (records : List Record) (rest : Result (List Record) RecordsWhy) → onto (Ok first) (with_front records rest) ≡ with_front (first ∷ records) rest
+onto_good : (first : Record) (records : List Record) (rest : Result (List Record) RecordsFault) → onto (Ok first) (with_front records rest) ≡ with_front (first ∷ records) rest
 onto_good first records (Ok rest) = refl
 onto_good first records (Err why) = refl
 
-front_none : (meant : Result (List Record) RecordsWhy) → with_front [] meant ≡ meant
+front_none : (meant : Result (List Record) RecordsFault) → with_front [] meant ≡ meant
 front_none (Ok records) = refl
 front_none (Err why) = refl
 
@@ -64,7 +64,7 @@ run_read most number front left records (more bytes rest first others ends good 
     ∙ ap (λ n. with_front (first ∷ others) (records_from most n left)) (omega arith)
 
 -- what is left behind good records decides
-left_read : (most number : ℕ) (bytes left : List ℕ) (why : RecordsWhy) (s : StandsAt bytes number left) → number ≤ most + 1 → records_from most number left ≡ Err why → records_from most 1 bytes ≡ Err why
+left_read : (most number : ℕ) (bytes left : List ℕ) (why : RecordsFault) (s : StandsAt bytes number left) → number ≤ most + 1 → records_from most number left ≡ Err why → records_from most 1 bytes ≡ Err why
 left_read most number bytes left why s few h =
     ap (records_from most 1) s.text
     ∙ run_read most 1 s.front left s.records s.good (omega (arith, s.count))
@@ -89,7 +89,7 @@ unended_left most number left few some ends =
     last_is most number left some ends
     ∙ onto_bad (Unended number) (meaning most number left false) (records_from most (number + 1) []) (within most number left false few)
 
-pub run_complete : (most : ℕ) (bytes : List ℕ) (meant : Result (List Record) RecordsWhy) → Means most bytes meant → records_from most 1 bytes ≡ meant
+pub run_complete : (most : ℕ) (bytes : List ℕ) (meant : Result (List Record) RecordsFault) → Means most bytes meant → records_from most 1 bytes ≡ meant
 run_complete most bytes (Ok records) m =
     ap (records_from most 1) (sym (append-nil bytes))
     ∙ run_read most 1 bytes [] records m.0 (omega (arith, m.1))
@@ -101,6 +101,9 @@ run_complete most bytes (Err (Refused number why)) m =
     left_read most number bytes (m.bad ++ NUL ∷ m.rest) (Refused number why) m.place (omega (arith, m.within)) (refused_left most number m.bad m.rest why m.within m.ended m.is_bad)
 run_complete most bytes (Err (Unended number)) m =
     left_read most number bytes m.left (Unended number) m.place (omega (arith, m.within)) (unended_left most number m.left m.within m.some m.unended)
+run_complete most bytes (Err ReadFault) m = absurd m
+run_complete most bytes (Err TooLong) m = absurd m
+run_complete most bytes (Err OutOfMemory) m = absurd m
 
 -- ---- what is read is meant
 
@@ -110,7 +113,7 @@ run_more front records bytes found (more b rest first others lacks spells run) e
     subst (λ t. IsRun t (first ∷ (others ++ found ∷ []))) (sym (append_assoc b (NUL ∷ rest) (bytes ++ NUL ∷ []))) (more b (rest ++ (bytes ++ NUL ∷ [])) first (others ++ found ∷ []) lacks spells (run_more rest others bytes found run ends good))
 
 -- what is left behind good records, and what is read of it
-abbrev LeftMeans : ℕ → List ℕ → List Record → List ℕ → Result (List Record) RecordsWhy → Type 0
+abbrev LeftMeans : ℕ → List ℕ → List Record → List ℕ → Result (List Record) RecordsFault → Type 0
 LeftMeans most front records left read = Means most (front ++ left) (with_front records read)
 
 stands : (front : List ℕ) (records : List Record) (left : List ℕ) (number : ℕ) → IsRun front records → length records + 1 ≡ number → StandsAt (front ++ left) number left
@@ -207,7 +210,7 @@ run_sound most bytes =
     subst (Means most bytes) (front_none (records_from most 1 bytes)) (left_sound (length bytes) most [] [] bytes (omega arith) none (omega arith))
 
 -- the records of bytes are what the bytes mean, faults included
-pub run_means : (limits : RecordLimits) (bytes : List ℕ) (meant : Result (List Record) RecordsWhy) → (records_of limits bytes ≡ meant) ↔ Means limits.records bytes meant
+pub run_means : (limits : RecordLimits) (bytes : List ℕ) (meant : Result (List Record) RecordsFault) → (records_of limits bytes ≡ meant) ↔ Means limits.records bytes meant
 run_means limits bytes meant = (
   λ read. subst (Means limits.records bytes) read (run_sound limits.records bytes),
   λ means. run_complete limits.records bytes meant means,

@@ -1,16 +1,8 @@
--- The causes of faults; want of memory has none.
+-- What the bytes are at fault for; want of memory is no fault of theirs.
 use Rattle.std.specs.Prelude.{Option, Some, None}
-use Rattle.find_records.specs.declared.fault.RecordWhy.{RecordWhy}
-use Rattle.find_records.specs.declared.fault.RecordsWhy.{RecordsWhy}
-use Rattle.find_records.specs.declared.fault.RecordFault.{RecordFault}
-use Rattle.find_records.specs.declared.fault.RecordFault.TheVariants as one
-use Rattle.find_records.specs.declared.fault.RunFault.{RunFault}
-use Rattle.find_records.specs.declared.fault.RunFault.TheVariants as run
+use Rattle.find_records.specs.declared.fault.RecordsFault.{RecordsFault}
+use Rattle.find_records.specs.declared.fault.RecordsFault.TheVariants.{OutOfMemory}
 
-abbrev pub record_cause : RecordFault → Option RecordWhy
-record_cause (one.Bad why) = Some why
-record_cause one.OutOfMemory = None
-
-abbrev pub run_cause : RunFault → Option RecordsWhy
-run_cause (run.Bad why) = Some why
-run_cause run.OutOfMemory = None
+abbrev pub records_cause : RecordsFault → Option RecordsFault
+records_cause OutOfMemory = None
+records_cause fault = Some fault

@@ -15,8 +15,8 @@ use Rattle.find_records.specs.declared.reading.TheConstants.{NUL}
 use Rattle.find_records.specs.declared.reading.RecordLimits.{RecordLimits}
 use Rattle.find_records.specs.declared.fault.RecordWhy.{RecordWhy}
 use Rattle.find_records.specs.declared.fault.RecordWhy.TheVariants.{MissingField, BadType, BadNumber, BadPath}
-use Rattle.find_records.specs.declared.fault.RecordsWhy.{RecordsWhy}
-use Rattle.find_records.specs.declared.fault.RecordsWhy.TheVariants.{TooMany, Refused, Unended}
+use Rattle.find_records.specs.declared.fault.RecordsFault.{RecordsFault}
+use Rattle.find_records.specs.declared.fault.RecordsFault.TheVariants.{TooMany, Refused, Unended}
 
 -- ---- one record
 
@@ -132,11 +132,12 @@ pub record IsUnendedAt (most : ℕ) (bytes : List ℕ) (number : ℕ) : Type 0 w
   pub unended : ¬ Contains left NUL
 
 -- what the bytes mean, where there may be so many records
-abbrev pub Means : ℕ → List ℕ → Result (List Record) RecordsWhy → Type 0
+abbrev pub Means : ℕ → List ℕ → Result (List Record) RecordsFault → Type 0
 Means most bytes (Ok records) = IsRun bytes records × (length records ≤ most)
 Means most bytes (Err TooMany) = HasTooMany most bytes
 Means most bytes (Err (Refused number why)) = IsRefusedAt most bytes number why
 Means most bytes (Err (Unended number)) = IsUnendedAt most bytes number
+Means most bytes (Err fault) = ⊥
 
 -- ---- how it is computed
 
@@ -195,32 +196,32 @@ abbrev pub pieces_of : List ℕ → List (List ℕ × Bool)
 pieces_of bytes = with_ends (slice_split is_nul bytes)
 
 -- a record outside its grammar is refused by its number
-abbrev pub numbered : ℕ → Result Record RecordWhy → Result Record RecordsWhy
+abbrev pub numbered : ℕ → Result Record RecordWhy → Result Record RecordsFault
 numbered number (Ok found) = Ok found
 numbered number (Err why) = Err (Refused number why)
 
-abbrev pub ended : ℕ → List ℕ → Bool → Result Record RecordsWhy
+abbrev pub ended : ℕ → List ℕ → Bool → Result Record RecordsFault
 ended number bytes false = Err (Unended number)
 ended number bytes true = numbered number (record_of bytes)
 
 -- what the piece with this number gives: too many first, then the end, then the grammar
-unfoldable pub meaning : ℕ → ℕ → List ℕ → Bool → Result Record RecordsWhy
+unfoldable pub meaning : ℕ → ℕ → List ℕ → Bool → Result Record RecordsFault
 meaning most number bytes is_ended = if nat_lt most number then Err TooMany else ended number bytes is_ended
 
 -- a first record before others; the first refusal decides
-abbrev pub onto : Result Record RecordsWhy → Result (List Record) RecordsWhy → Result (List Record) RecordsWhy
+abbrev pub onto : Result Record RecordsFault → Result (List Record) RecordsFault → Result (List Record) RecordsFault
 onto (Err why) rest = Err why
 onto (Ok first) (Err why) = Err why
 onto (Ok first) (Ok rest) = Ok (first ∷ rest)
 
 -- all records of the pieces, of which the first has this number, or the first refusal
-abbrev pub all_from : ℕ → ℕ → List (List ℕ × Bool) → Result (List Record) RecordsWhy
+abbrev pub all_from : ℕ → ℕ → List (List ℕ × Bool) → Result (List Record) RecordsFault
 all_from most number [] = Ok []
 all_from most number (piece ∷ pieces) = onto (meaning most number piece.0 piece.1) (all_from most (number + 1) pieces)
 
-unfoldable pub records_from : ℕ → ℕ → List ℕ → Result (List Record) RecordsWhy
+unfoldable pub records_from : ℕ → ℕ → List ℕ → Result (List Record) RecordsFault
 records_from most number bytes = all_from most number (pieces_of bytes)
 
 -- the records that the bytes spell, or what is wrong with the first bad one
-abbrev pub records_of : RecordLimits → List ℕ → Result (List Record) RecordsWhy
+abbrev pub records_of : RecordLimits → List ℕ → Result (List Record) RecordsFault
 records_of limits bytes = records_from limits.records 1 bytes

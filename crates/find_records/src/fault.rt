@@ -1,6 +1,5 @@
 ghost use Rattle.std.specs.Prelude.{◌≡◌};
-ghost use Rattle.find_records.specs.declared.fault.RecordFault.TheVariants.{OutOfMemory};
-ghost use Rattle.find_records.specs.declared.fault.RunFault.TheVariants as run;
+ghost use Rattle.find_records.specs.declared.fault.RecordsFault.TheVariants.{OutOfMemory};
 
 use label_base::PathWhy;
 
@@ -17,18 +16,7 @@ pub enum RecordWhy {
     BadPath(PathWhy),
 }
 
-/// What is wrong with the first bad record. Records are numbered from 1.
-#[derive(Clone, Copy, Debug, PartialEq, Eq)]
-pub enum RecordsWhy {
-    /// There are more records than the limit.
-    TooMany,
-    /// The record is outside its grammar.
-    Refused { number: u32, why: RecordWhy },
-    /// The last record lacks its NUL.
-    Unended { number: u32 },
-}
-
-/// Why a source gave no records.
+/// Why a source gave no records. Records are numbered from 1.
 #[derive(Clone, Copy, Debug, PartialEq, Eq)]
 pub enum RecordsFault {
     /// The source failed.
@@ -41,35 +29,14 @@ pub enum RecordsFault {
     Refused { number: u32, why: RecordWhy },
     /// The first bad record is the last one, which lacks its NUL.
     Unended { number: u32 },
+    /// There was not enough memory.
     OutOfMemory,
 }
 
-/// Why the bytes of one record gave no record.
-#[derive(Clone, Copy, Debug, PartialEq, Eq)]
-pub enum RecordFault {
-    Bad(RecordWhy),
-    OutOfMemory,
-}
-
-impl From<label_base::OutOfMemory> for RecordFault {
+impl From<label_base::OutOfMemory> for RecordsFault {
     ghost from_gives = { λ _ e. e ≡ OutOfMemory };
 
-    fn from(_refused: label_base::OutOfMemory) -> RecordFault {
-        RecordFault::OutOfMemory
-    }
-}
-
-/// Why bytes gave no records.
-#[derive(Clone, Copy, Debug, PartialEq, Eq)]
-pub enum RunFault {
-    Bad(RecordsWhy),
-    OutOfMemory,
-}
-
-impl From<label_base::OutOfMemory> for RunFault {
-    ghost from_gives = { λ _ e. e ≡ run.OutOfMemory };
-
-    fn from(_refused: label_base::OutOfMemory) -> RunFault {
-        RunFault::OutOfMemory
+    fn from(_refused: label_base::OutOfMemory) -> RecordsFault {
+        RecordsFault::OutOfMemory
     }
 }

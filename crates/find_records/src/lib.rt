@@ -5,7 +5,7 @@ mod fault;
 mod reading;
 mod record;
 
-pub use fault::{RecordWhy, RecordsFault, RecordsWhy};
+pub use fault::{RecordWhy, RecordsFault};
 pub use label_base::PathWhy;
 pub use reading::{RecordLimits, read_records, records_follow_grammar};
 pub use record::Record;

@@ -1,12 +1,12 @@
 ghost use Rattle.std.specs.Prelude.{◌≡◌, ◌↔◌, ◌<◌, ◌≤◌, ◌+◌, ◌-◌, ◌^◌, List, Result, length, IfOk, IfErr, Ok};
 ghost use Rattle.label_base.specs.Answers.{Answers, Explains};
-ghost use Rattle.find_records.specs.Cause.{run_cause};
+ghost use Rattle.find_records.specs.Cause.{records_cause};
 ghost use Rattle.find_records.specs.Grammar.{Means, meaning, onto, records_from, records_of};
 ghost use Rattle.find_records.specs.Reading.{RecordsTold, RecordsCounts};
 
-use crate::fault::{RecordFault, RecordsFault, RecordsWhy, RunFault};
+use crate::fault::RecordsFault;
 use crate::record::{Record, read_record};
-use label_base::{AllFault, Row, Source, cut_at, read_all};
+use label_base::{AllFault, Fault, Row, Source, cut_at, read_all};
 use std::alloc::Global;
 
 /// The most that is read.
@@ -29,21 +29,21 @@ fn read_numbered(
     most: u32,
     bytes: &[u8],
     is_ended: bool,
-) -> Result<Record, RunFault>
-    ensures answer { Answers (λ found. found) run_cause result (meaning most number bytes.now is_ended) }
+) -> Result<Record, RecordsFault>
+    ensures answer { Answers (λ found. found) records_cause result (meaning most number bytes.now is_ended) }
     ensures few { IfOk result (λ _. number ≤ most) }
 {
     if number > u64::from(most) {
-        return Err(RunFault::Bad(RecordsWhy::TooMany));
+        return Err(RecordsFault::TooMany);
     }
     let number = number as u32;
     if !is_ended {
-        return Err(RunFault::Bad(RecordsWhy::Unended { number }));
+        return Err(RecordsFault::Unended { number });
     }
     match read_record(alloc, bytes) {
         Ok(record) => Ok(record),
-        Err(RecordFault::Bad(why)) => Err(RunFault::Bad(RecordsWhy::Refused { number, why })),
-        Err(RecordFault::OutOfMemory) => Err(RunFault::OutOfMemory),
+        Err(Fault::Why(why)) => Err(RecordsFault::Refused { number, why }),
+        Err(Fault::OutOfMemory) => Err(RecordsFault::OutOfMemory),
     }
 }
 
@@ -53,12 +53,12 @@ fn next_record(
     number: u64,
     most: u32,
     bytes: &[u8],
-) -> Result<(Record, &[u8]), RunFault>
+) -> Result<(Record, &[u8]), RecordsFault>
     requires { 0 < length bytes.now }
     ensures found { IfOk result (λ found. records_from most number bytes.now ≡ onto (Ok found.0) (records_from most (number + 1) found.1.now)) }
     ensures shorter { IfOk result (λ found. length found.1.now < length bytes.now) }
     ensures few { IfOk result (λ _. number ≤ most) }
-    ensures bad { IfErr result (λ fault. Explains (run_cause fault) (records_from most number bytes.now)) }
+    ensures bad { IfErr result (λ fault. Explains (records_cause fault) (records_from most number bytes.now)) }
 {
     let (piece, rest) = cut_at(NUL, bytes);
     match rest {
@@ -67,8 +67,8 @@ fn next_record(
     }
 }
 
-fn read_all_records(alloc: Global, bytes: &[u8], most: u32) -> Result<Row<Record>, RunFault>
-    ensures answer { Answers (λ records. records) run_cause result (records_from most 1 bytes.now) }
+fn read_all_records(alloc: Global, bytes: &[u8], most: u32) -> Result<Row<Record>, RecordsFault>
+    ensures answer { Answers (λ records. records) records_cause result (records_from most 1 bytes.now) }
     ensures few { IfOk result (λ records. length records ≤ most) }
 {
     let mut records = Row::new(alloc);
@@ -104,15 +104,7 @@ pub fn read_records<I: Source>(
         Err(AllFault::TooLong) => return Err(RecordsFault::TooLong),
         Err(AllFault::OutOfMemory) => return Err(RecordsFault::OutOfMemory),
     };
-    match read_all_records(alloc, bytes.as_slice(), limits.records) {
-        Ok(records) => Ok(records),
-        Err(RunFault::Bad(RecordsWhy::TooMany)) => Err(RecordsFault::TooMany),
-        Err(RunFault::Bad(RecordsWhy::Refused { number, why })) => {
-            Err(RecordsFault::Refused { number, why })
-        }
-        Err(RunFault::Bad(RecordsWhy::Unended { number })) => Err(RecordsFault::Unended { number }),
-        Err(RunFault::OutOfMemory) => Err(RecordsFault::OutOfMemory),
-    }
+    read_all_records(alloc, bytes.as_slice(), limits.records)
 }
 
 /// A law on all bytes: what [`read_records`] reads of them is what the grammar of find(1) says, each fault included.

@@ -1,11 +1,10 @@
 ghost use Rattle.std.specs.Prelude.{◌≡◌, ◌∷◌, []};
-ghost use Rattle.label_base.specs.Answers.{Answers};
+ghost use Rattle.label_base.specs.Answers.{Answers, cause_of};
 ghost use Rattle.find_records.specs.Grammar.{kind_of, path_of, record_of, with_path};
-ghost use Rattle.find_records.specs.Cause.{record_cause};
 
-use crate::fault::{RecordFault, RecordWhy};
+use crate::fault::RecordWhy;
 use context_syntax::Label;
-use label_base::{EntryKind, NormPath, PathFault, PathWhy, cut_at, read_number};
+use label_base::{EntryKind, Fault, NormPath, cut_at, read_number};
 use std::alloc::Global;
 
 // Parts the fields of a record.
@@ -48,41 +47,36 @@ fn read_kind(field: &[u8]) -> Option<EntryKind>
     }
 }
 
-fn read_path(alloc: Global, field: &[u8]) -> Result<NormPath, RecordFault>
-    ensures { Answers (λ path. path) record_cause result (path_of field.now) }
+fn read_path(alloc: Global, field: &[u8]) -> Result<NormPath, Fault<RecordWhy>>
+    ensures { Answers (λ path. path) cause_of result (path_of field.now) }
 {
-    let why = match NormPath::read(alloc, field) {
-        Ok(path) => return Ok(path),
-        Err(PathFault::OutOfMemory) => return Err(RecordFault::OutOfMemory),
-        Err(PathFault::Empty) => PathWhy::Empty,
-        Err(PathFault::PathTooLong) => PathWhy::PathTooLong,
-        Err(PathFault::HasNul) => PathWhy::HasNul,
-        Err(PathFault::NotAbsolute) => PathWhy::NotAbsolute,
-        Err(PathFault::DotPart) => PathWhy::DotPart,
-    };
-    Err(RecordFault::Bad(RecordWhy::BadPath(why)))
+    match NormPath::read(alloc, field) {
+        Ok(path) => Ok(path),
+        Err(Fault::Why(why)) => Err(Fault::Why(RecordWhy::BadPath(why))),
+        Err(Fault::OutOfMemory) => Err(Fault::OutOfMemory),
+    }
 }
 
 /// Reads one record, without its NUL.
 #[tactic(auto, unfolding(crate::specs::Grammar::record_of))]
-pub fn read_record(alloc: Global, bytes: &[u8]) -> Result<Record, RecordFault>
-    ensures { Answers (λ found. found) record_cause result (record_of bytes.now) }
+pub fn read_record(alloc: Global, bytes: &[u8]) -> Result<Record, Fault<RecordWhy>>
+    ensures { Answers (λ found. found) cause_of result (record_of bytes.now) }
 {
     let (kind, rest) = cut_at(SPACE, bytes);
     let Some(rest) = rest else {
-        return Err(RecordFault::Bad(RecordWhy::MissingField));
+        return Err(Fault::Why(RecordWhy::MissingField));
     };
     let (device, rest) = cut_at(SPACE, rest);
     let Some(rest) = rest else {
-        return Err(RecordFault::Bad(RecordWhy::MissingField));
+        return Err(Fault::Why(RecordWhy::MissingField));
     };
     let (inode, rest) = cut_at(SPACE, rest);
     let Some(rest) = rest else {
-        return Err(RecordFault::Bad(RecordWhy::MissingField));
+        return Err(Fault::Why(RecordWhy::MissingField));
     };
     let (label, path) = cut_at(SPACE, rest);
     let Some(path) = path else {
-        return Err(RecordFault::Bad(RecordWhy::MissingField));
+        return Err(Fault::Why(RecordWhy::MissingField));
     };
     read_fields(alloc, kind, device, inode, label, path)
 }
@@ -94,17 +88,17 @@ fn read_fields(
     inode: &[u8],
     label: &[u8],
     path: &[u8],
-) -> Result<Record, RecordFault>
-    ensures { Answers (λ found. found) record_cause result (with_path kind.now device.now inode.now label.now path.now) }
+) -> Result<Record, Fault<RecordWhy>>
+    ensures { Answers (λ found. found) cause_of result (with_path kind.now device.now inode.now label.now path.now) }
 {
     let Some(kind) = read_kind(kind) else {
-        return Err(RecordFault::Bad(RecordWhy::BadType));
+        return Err(Fault::Why(RecordWhy::BadType));
     };
     let Some(device) = read_number(device) else {
-        return Err(RecordFault::Bad(RecordWhy::BadNumber));
+        return Err(Fault::Why(RecordWhy::BadNumber));
     };
     let Some(inode) = read_number(inode) else {
-        return Err(RecordFault::Bad(RecordWhy::BadNumber));
+        return Err(Fault::Why(RecordWhy::BadNumber));
     };
     let path = read_path(alloc, path)?;
     let label = Label::read(alloc, label)?;

@@ -1,7 +1,7 @@
 -- The tree that the input gives.
 use Rattle.std.specs.Prelude.{ℕ, Bool, ◌||◌, not, nat_lt, List, length, Result, Ok, Err, if◌then◌else◌}
 use Rattle.find_records.specs.Grammar.{records_of}
-use Rattle.find_records.specs.declared.fault.RecordsWhy.{RecordsWhy}
+use Rattle.find_records.specs.declared.fault.RecordsFault.{RecordsFault}
 use Rattle.find_records.specs.declared.reading.RecordLimits.{RecordLimits}
 use Rattle.find_records.specs.declared.record.Record.{Record}
 use Rattle.tree_model.specs.Entries.{tree_of}
@@ -23,7 +23,7 @@ abbrev pub entries_from : Result (List Record) (ℕ × ℕ) → Result (List Rec
 entries_from (Ok entries) = checked_entries entries
 entries_from (Err doubled) = Err InputRefused
 
-abbrev pub entries_read : Result (List Record) RecordsWhy → Result (List Record) Cause
+abbrev pub entries_read : Result (List Record) RecordsFault → Result (List Record) Cause
 entries_read (Ok records) = entries_from (tree_of records)
 entries_read (Err why) = Err InputRefused
 
