@@ -13,20 +13,21 @@ use Rattle.pattern_syntax.specs.Reading as reading
 use Rattle.pattern_syntax.specs.Tokens as tokens
 use Rattle.pattern_syntax.specs.Shape.{is_proper, is_sequence, is_choice, tree_size, stack_size}
 use Rattle.pattern_syntax.specs.Building.{Stands, Ends, Explained, IsProperLevel, IsProperIfAny, fault_of, outer_counts, outer_trees, tree_on, level_counts, count_of, capped}
+use Rattle.pattern_syntax.specs.Parts.{IsWhole}
 use Rattle.pattern_syntax.specs.declared.builder.Builder.{Builder}
 use Rattle.pattern_syntax.specs.declared.builder.Level.{Level}
 use Rattle.pattern_syntax.specs.declared.pattern_fault.PatternWhy.{PatternWhy}
 use Rattle.pattern_syntax.specs.declared.pattern_fault.PatternWhy.TheVariants.{Syntax, TooDeep, TooManyPositions}
 use Rattle.pattern_syntax.specs.declared.node.Node.TheVariants as node
-use Rattle.pattern_syntax.specs.Nodes.{after_node, after_nodes, tree_of}
+use Rattle.pattern_syntax.specs.Nodes.{after_node, after_nodes, trees_behind, rest_tree}
 use Rattle.pattern_syntax.specs.declared.node.Node.{Node}
 
 after_append : (ns : List Node) (n : Node) (stack : List Tree) → after_nodes (ns ++ n ∷ []) stack ≡ after_node n (after_nodes ns stack)
 after_append [] n stack = refl
 after_append (m ∷ ns) n stack = after_append ns n (after_node m stack)
 
-pub after_pushed : (new old : List Node) (n : Node) → new ≡ old ++ n ∷ [] → after_nodes new [] ≡ after_node n (after_nodes old [])
-after_pushed new old n e = ap (λ l. after_nodes l []) e ∙ after_append old n []
+pub after_pushed : (new old : List Node) (n : Node) → new ≡ old ++ n ∷ [] → trees_behind new ≡ after_node n (trees_behind old)
+after_pushed new old n e = ap (λ l. trees_behind l) e ∙ after_append old n (tree.Nothing ∷ [])
 
 pub outer_length : (outer : List reading.Level) → length (outer_counts outer) ≡ length outer
 outer_length [] = refl
@@ -66,10 +67,10 @@ open_outer old read count s e =
     ∙ ap (λ (o : Option ℕ). outer_counts read.outer ++ record { sides = o; sequence = count_of (sequence_of read.level); piece = None } ∷ []) side
 
 pub open_stands : (old new : Builder) (read : Reading) (count at : ℕ) → Stands old read → length old.outer.items < 50 → count ≡ count_of (sequence_of read.level)
-    → after_nodes new.nodes.items [] ≡ tree.Nothing ∷ (sequence_of read.level ∷ tree_on read.level.sides (outer_trees read.outer))
+    → trees_behind new.nodes.items ≡ tree.Nothing ∷ (sequence_of read.level ∷ tree_on read.level.sides (outer_trees read.outer))
     → new.level ≡ level_counts new_level
     → new.outer.items ≡ old.outer.items ++ record { sides = old.level.sides; sequence = count; piece = None } ∷ []
-    → length new.nodes.items ≡ 1 + (tree_size (sequence_of read.level) + stack_size (tree_on read.level.sides (outer_trees read.outer)))
+    → length new.nodes.items + 1 ≡ 1 + (tree_size (sequence_of read.level) + stack_size (tree_on read.level.sides (outer_trees read.outer)))
     → (fault_of read at tokens.Open ≡ None) × Stands new (after_token read tokens.Open)
 open_stands old new read count at s small e trees level outer size =
     let p = s.level_proper in
@@ -102,7 +103,7 @@ repeat_level old sides sequence tree least most count l e =
 
 pub repeat_stands : (old new : Builder) (sides : Option Tree) (sequence : Tree) (piece : Option Tree) (outer : List reading.Level) (least : ℕ) (most : Option ℕ) (count at : ℕ)
     → Stands old (record { level = record { sides = sides; sequence = sequence; piece = piece }; outer = outer }) → old.level.piece ≡ Some count
-    → after_nodes new.nodes.items [] ≡ after_node node.Both (after_node (node.Repeat least most) (after_nodes old.nodes.items []))
+    → trees_behind new.nodes.items ≡ after_node node.Both (after_node (node.Repeat least most) (trees_behind old.nodes.items))
     → new.level ≡ record { sides = old.level.sides; sequence = capped (old.level.sequence + capped (count * factor least most)); piece = None }
     → new.outer.items ≡ old.outer.items → length new.nodes.items ≡ length old.nodes.items + 2
     → (fault_of (record { level = record { sides = sides; sequence = sequence; piece = piece }; outer = outer }) at (tokens.Times least most) ≡ None)
@@ -138,7 +139,7 @@ finish_many old new read at count s e h ends k =
     let n = ends.counted in
     ends_many at read (omega (arith, l, g)) (omega (arith, n, k))
 
-whole_tree : (nodes : List Node) (t : Tree) → after_nodes nodes [] ≡ t ∷ [] → tree_of nodes ≡ t
+whole_tree : (nodes : List Node) (t : Tree) → trees_behind nodes ≡ t ∷ [] → rest_tree nodes ≡ t
 whole_tree nodes t e = ap tree_from e
 
 choice_proper : (level : reading.Level) → IsProperLevel level → is_proper (choice_of level) ≡ true
@@ -168,19 +169,21 @@ no_levels (around ∷ outer) h = absurd (omega arith)
 
 pub finish_whole : (old new : Builder) (read : Reading) (at count : ℕ) → Stands old read → new.outer ≡ old.outer → length new.outer.items ≡ 0
     → Ends new (outer_trees read.outer) (choice_of read.level) count → count ≤ 2000
-    → (reads_as at read [] ≡ Ok (tree_of new.nodes.items)) × (after_nodes new.nodes.items [] ≡ tree_of new.nodes.items ∷ []) × (is_proper (tree_of new.nodes.items) ≡ true) × (is_choice (tree_of new.nodes.items) ≡ true) × (length new.nodes.items ≡ tree_size (tree_of new.nodes.items))
+    → (reads_as at read [] ≡ Ok (rest_tree new.nodes.items)) × IsWhole new.nodes.items
 finish_whole old new read at count s e h ends k =
     let l = ap length s.outer ∙ outer_length read.outer in
     let g : length old.outer.items ≡ 0 = rw e at h in
     let z : length read.outer ≡ 0 = omega (arith, l, g) in
     let n = ends.counted in
-    let stack : after_nodes new.nodes.items [] ≡ choice_of read.level ∷ [] = ends.trees ∙ ap (λ (ts : List Tree). choice_of read.level ∷ ts) (no_levels read.outer z) in
+    let stack : trees_behind new.nodes.items ≡ choice_of read.level ∷ [] = ends.trees ∙ ap (λ (ts : List Tree). choice_of read.level ∷ ts) (no_levels read.outer z) in
     let t = whole_tree new.nodes.items (choice_of read.level) stack in (
       ends_whole at read z (omega (arith, n, k)) ∙ ap (λ (u : Tree). Ok u) (sym t),
-      stack ∙ ap (λ (u : Tree). u ∷ []) (sym t),
-      ap is_proper t ∙ choice_proper read.level s.level_proper,
-      ap is_choice t ∙ choice_shaped read.level s.level_proper,
-      ends.size ∙ ap (λ (ts : List Tree). tree_size (choice_of read.level) + stack_size ts) (no_levels read.outer z) ∙ (let m : tree_size (choice_of read.level) + 0 ≡ tree_size (choice_of read.level) = omega arith in m) ∙ ap tree_size (sym t),
+      record {
+        builds = stack ∙ ap (λ (u : Tree). u ∷ []) (sym t);
+        proper = ap is_proper t ∙ choice_proper read.level s.level_proper;
+        choice = ap is_choice t ∙ choice_shaped read.level s.level_proper;
+        size = ends.size ∙ ap (λ (ts : List Tree). tree_size (choice_of read.level) + stack_size ts) (no_levels read.outer z) ∙ (let m : tree_size (choice_of read.level) + 0 ≡ tree_size (choice_of read.level) = omega arith in m) ∙ ap tree_size (sym t);
+      },
     )
 
 -- ---- a token more

@@ -8,4 +8,5 @@ pub mod ReadingLemmas
 pub mod ShapeLemmas
 pub mod GrammarLemmas
 pub mod LiteralLemmas
+pub mod PartsLemmas
 pub mod RestLemmas

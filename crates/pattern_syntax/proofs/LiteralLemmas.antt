@@ -8,9 +8,10 @@ use Rattle.pattern_syntax.specs.ByteSet.{only_of}
 use Rattle.pattern_syntax.specs.Tree as tree
 use Rattle.pattern_syntax.specs.Tree.{Tree, TreeNode, tree_nodes}
 use Rattle.pattern_syntax.specs.Language.{In}
-use Rattle.pattern_syntax.specs.Nodes.{after_node, after_nodes, tree_of}
+use Rattle.pattern_syntax.specs.Nodes.{after_node, after_nodes, rest_tree}
 use Rattle.pattern_syntax.specs.Shape.{is_proper, is_sequence, is_choice, tree_size, stack_size}
 use Rattle.pattern_syntax.specs.Literal.{single_byte, joined, single_bytes, literal_start_of, node_code, code_byte, leads, leading_bytes, led_byte, is_several}
+use Rattle.pattern_syntax.specs.Parts.{IsWhole}
 use Rattle.pattern_syntax.specs.declared.node.Node.{Node}
 use Rattle.pattern_syntax.specs.declared.node.Node.TheVariants as node
 use Rattle.pattern_syntax.proofs.ShapeLemmas.{and_first, and_second}
@@ -59,7 +60,7 @@ nodes_exact (n ∷ ns) stack h =
     nodes_exact ns (after_node n stack) (omega (arith, a, b, h)) ∙ ap (λ (l : List TreeNode). l ++ map node_code ns) (node_exact n stack (omega (arith, a, b, h)))
     ∙ append_assoc (stack_nodes stack) (node_code n ∷ []) (map node_code ns)
 
-pub whole_nodes : (ns : List Node) (t : Tree) → after_nodes ns [] ≡ t ∷ [] → length ns ≡ tree_size t → map node_code ns ≡ tree_nodes t
+whole_nodes : (ns : List Node) (t : Tree) → after_nodes ns [] ≡ t ∷ [] → length ns ≡ tree_size t → map node_code ns ≡ tree_nodes t
 whole_nodes ns t e h =
     let s = ap stack_size e in
     sym (nodes_exact ns [] (omega (arith, s, h))) ∙ ap stack_nodes e
@@ -180,7 +181,7 @@ only_member [] b c h k = absurd (let f : None ≡ Some b = h in cc)
 only_member (x ∷ []) b c h k = let f : Some x ≡ Some b = h in let g : x ≡ b = cc in same_member x b c k g
 only_member (x ∷ y ∷ bytes) b c h k = absurd (let f : None ≡ Some b = h in cc)
 
-single_text : (t : Tree) (b : ℕ) (text : List ℕ) → single_byte t ≡ Some b → In t text → text ≡ b ∷ []
+pub single_text : (t : Tree) (b : ℕ) (text : List ℕ) → single_byte t ≡ Some b → In t text → text ≡ b ∷ []
 single_text (tree.Set bytes) b text h k = k.1 ∙ ap (λ (c : ℕ). c ∷ []) (sym (only_member bytes b k.0 h k.2))
 single_text tree.Nothing b text h k = absurd (let f : None ≡ Some b = h in cc)
 single_text (tree.Both first second) b text h k = absurd (let f : None ≡ Some b = h in cc)
@@ -282,7 +283,7 @@ leading_from at ns = leading_bytes (map node_code (drop at ns))
 pub leading_start : (ns : List Node) (t : Tree) → map node_code ns ≡ tree_nodes t → is_proper t ≡ true → is_sequence t ≡ true → leading_from 1 ns ≡ literal_start_of t
 leading_start ns t e h k = ap leading_bytes (sym (drop_codes 1 ns)) ∙ start_of_nodes ns t e h k
 
-two_nodes : (ns : List Node) (at : ℕ) (d : Node) → at + 1 < length ns → drop at ns ≡ get_or ns at d ∷ (get_or ns (at + 1) d ∷ drop (at + 2) ns)
+pub two_nodes : (ns : List Node) (at : ℕ) (d : Node) → at + 1 < length ns → drop at ns ≡ get_or ns at d ∷ (get_or ns (at + 1) d ∷ drop (at + 2) ns)
 two_nodes ns at d h =
     let e : at + 1 + 1 ≡ at + 2 = omega arith in
     drop_more ns at d (omega arith) ∙ ap (λ (l : List Node). get_or ns at d ∷ l) (drop_more ns (at + 1) d h ∙ ap (λ (n : ℕ). get_or ns (at + 1) d ∷ drop n ns) e)
@@ -297,7 +298,7 @@ lead_some (Some c) true rest b h = let f : Some c ≡ Some b = h in let g : c �
 lead_some (Some c) false rest b h = absurd (let f : None ≡ Some b = h in cc)
 lead_some None joins rest b h = absurd (let f : None ≡ Some b = h in cc)
 
-abbrev led_at : List Node → ℕ → Node → Option ℕ
+abbrev pub led_at : List Node → ℕ → Node → Option ℕ
 led_at ns at d = led_byte (code_byte (node_code (get_or ns at d))) ((node_code (get_or ns (at + 1) d)).0 == 2)
 
 pub leading_none : (ns : List Node) (at : ℕ) (d : Node) → at + 1 < length ns → led_at ns at d ≡ None → leading_from at ns ≡ []
@@ -314,41 +315,23 @@ short_leads (n ∷ m ∷ ns) h = absurd (omega arith)
 pub leading_end : (ns : List Node) (at : ℕ) → length ns ≤ at + 1 → leading_from at ns ≡ []
 leading_end ns at h = short_leads (drop at ns) (let l = length-drop at ns in omega (arith, l))
 
--- what a pattern keeps of its nodes, for any list and tree that they are
-pub record Keeps (ns : List Node) (t : Tree) : Type 0 where
-  pub codes : map node_code ns ≡ tree_nodes t
-  pub proper : is_proper t ≡ true
-  pub choice : is_choice t ≡ true
-  pub nonempty : 1 ≤ length ns
+-- behind the first node stand nodes that lead with the literal start, or the last says that there are several sides
+pub whole_codes : (ns : List Node) → IsWhole ns → map node_code (node.Nothing ∷ ns) ≡ tree_nodes (rest_tree ns)
+whole_codes ns w = whole_nodes (node.Nothing ∷ ns) (rest_tree ns) w.builds (let s = w.size in omega (arith, s))
 
-size_positive : (t : Tree) → 1 ≤ tree_size t
-size_positive (tree.Set bytes) = omega arith
-size_positive tree.Nothing = omega arith
-size_positive (tree.Both first second) = omega arith
-size_positive (tree.Either left right) = omega arith
-size_positive (tree.Repeat least most piece) = omega arith
+one_behind : (n : Node) (ns : List Node) (i : ℕ) (d : Node) → get_or (n ∷ ns) (i + 1) d ≡ get_or ns i d
+one_behind n ns i d = let e : i + 1 ≡ suc i = omega arith in ap (λ (k : ℕ). get_or (n ∷ ns) k d) e
 
-pub keeps : (ns items : List Node) (t : Tree) → ns ≡ items → t ≡ tree_of items → after_nodes items [] ≡ tree_of items ∷ [] → is_proper (tree_of items) ≡ true → is_choice (tree_of items) ≡ true
-    → length items ≡ tree_size (tree_of items) → Keeps ns t
-keeps ns items t e v builds proper choice size = record {
-  codes = ap (λ (l : List Node). map node_code l) e ∙ whole_nodes items (tree_of items) builds size ∙ ap tree_nodes (sym v);
-  proper = ap is_proper v ∙ proper;
-  choice = ap is_choice v ∙ choice;
-  nonempty = let l = ap length e in let p = size_positive (tree_of items) in omega (arith, l, p, size);
-}
+pub whole_several : (ns : List Node) (i : ℕ) (d : Node) → IsWhole ns → i + 1 ≡ length ns → ((node_code (get_or ns i d)).0 == 3) ≡ is_several (rest_tree ns)
+whole_several ns i d w h =
+    ap (λ (n : Node). (node_code n).0 == 3) (sym (one_behind node.Nothing ns i d)) ∙ last_several (node.Nothing ∷ ns) (rest_tree ns) (i + 1) d (whole_codes ns w) (omega (arith, h))
 
-pub no_start : (ns : List Node) (t : Tree) (i : ℕ) (d : Node) → Keeps ns t → i + 1 ≡ length ns → ((node_code (get_or ns i d)).0 == 3) ≡ true → literal_start_of t ≡ []
-no_start ns t i d k h e = several_start t (sym (last_several ns t i d k.codes h) ∙ e)
-
-pub some_start : (ns : List Node) (t : Tree) (i : ℕ) (d : Node) → Keeps ns t → i + 1 ≡ length ns → ((node_code (get_or ns i d)).0 == 3) ≡ false → leading_from 1 ns ≡ literal_start_of t
-some_start ns t i d k h e = leading_start ns t k.codes k.proper (not_several t (sym (last_several ns t i d k.codes h) ∙ e) k.choice)
-
-pub all_led : (ns : List Node) (t : Tree) (start : List ℕ) (at : ℕ) → leading_from 1 ns ≡ literal_start_of t → leading_from 1 ns ≡ start ++ leading_from at ns → leading_from at ns ≡ [] → start ≡ literal_start_of t
-all_led ns t start at h k e = sym (append-nil start) ∙ ap (λ (l : List ℕ). start ++ l) (sym e) ∙ sym k ∙ h
+pub whole_leads : (ns : List Node) → IsWhole ns → is_several (rest_tree ns) ≡ false → leading_from 0 ns ≡ literal_start_of (rest_tree ns)
+whole_leads ns w s = leading_start (node.Nothing ∷ ns) (rest_tree ns) (whole_codes ns w) w.proper (not_several (rest_tree ns) s w.choice)
 
 pub text_begins : (t : Tree) (start : List ℕ) → start ≡ literal_start_of t → (text : List ℕ) → In t text → (rest : List ℕ) × (text ≡ start ++ rest)
 text_begins t start e text h = let r = begins_with_start t text h in (r.0, r.1 ∙ ap (λ (l : List ℕ). l ++ r.0) (sym e))
 
-pub one_more : (ns : List Node) (start new : List ℕ) (at b : ℕ) (d : Node) → at + 1 < length ns → led_at ns at d ≡ Some b → leading_from 1 ns ≡ start ++ leading_from at ns → new ≡ start ++ b ∷ [] → leading_from 1 ns ≡ new ++ leading_from (at + 2) ns
+pub one_more : (ns : List Node) (start new : List ℕ) (at b : ℕ) (d : Node) → at + 1 < length ns → led_at ns at d ≡ Some b → leading_from 0 ns ≡ start ++ leading_from at ns → new ≡ start ++ b ∷ [] → leading_from 0 ns ≡ new ++ leading_from (at + 2) ns
 one_more ns start new at b d h e k f =
     k ∙ ap (λ (l : List ℕ). start ++ l) (leading_some ns at b d h e) ∙ sym (append_assoc start (b ∷ []) (leading_from (at + 2) ns)) ∙ ap (λ (l : List ℕ). l ++ leading_from (at + 2) ns) (sym f)

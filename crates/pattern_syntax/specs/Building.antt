@@ -3,8 +3,9 @@ use Rattle.std.specs.Prelude.{◌≡◌, ℕ, ◌+◌, min, true, List, [], ◌�
 use Rattle.std.specs.Global.{Vec}
 use Rattle.label_base.specs.Answers.{Explains}
 use Rattle.pattern_syntax.specs.Tree.{Tree, Set}
-use Rattle.pattern_syntax.specs.Shape.{is_proper, is_proper_set, is_sequence, is_choice, tree_size, stack_size}
-use Rattle.pattern_syntax.specs.Nodes.{after_node, after_nodes, tree_of}
+use Rattle.pattern_syntax.specs.Shape.{is_proper, is_proper_set, is_sequence, stack_size}
+use Rattle.pattern_syntax.specs.Nodes.{after_node, trees_behind, rest_tree}
+use Rattle.pattern_syntax.specs.Parts.{IsWhole}
 use Rattle.pattern_syntax.specs.Tokens.{Token, Bytes, Open, Close, Bar, Anchor, Times}
 use Rattle.pattern_syntax.specs.Reading as reading
 use Rattle.pattern_syntax.specs.Reading.{Reading, positions, after_token, structure_fault, reads_as}
@@ -59,18 +60,18 @@ AreProperLevels (around ∷ outer) = (around.piece ≡ None) × IsProperLevel ar
 
 -- the builder's nodes are the trees of what is read, and its counts are theirs
 pub record Stands (builder : Builder) (read : Reading) : Type 0 where
-  pub trees : after_nodes builder.nodes.items [] ≡ level_trees read.level (outer_trees read.outer)
+  pub trees : trees_behind builder.nodes.items ≡ level_trees read.level (outer_trees read.outer)
   pub level : builder.level ≡ level_counts read.level
   pub outer : builder.outer.items ≡ outer_counts read.outer
   pub level_proper : IsProperLevel read.level
   pub outer_proper : AreProperLevels read.outer
-  pub size : length builder.nodes.items ≡ stack_size (level_trees read.level (outer_trees read.outer))
+  pub size : length builder.nodes.items + 1 ≡ stack_size (level_trees read.level (outer_trees read.outer))
 
 -- the nodes end a tree that stands on these, and this is its count
 pub record Ends (builder : Builder) (stack : List Tree) (tree : Tree) (count : ℕ) : Type 0 where
-  pub trees : after_nodes builder.nodes.items [] ≡ tree ∷ stack
+  pub trees : trees_behind builder.nodes.items ≡ tree ∷ stack
   pub counted : count ≡ count_of tree
-  pub size : length builder.nodes.items ≡ stack_size (tree ∷ stack)
+  pub size : length builder.nodes.items + 1 ≡ stack_size (tree ∷ stack)
 
 abbrev pub IsProperToken : Token → Type 0
 IsProperToken (Bytes bytes) = is_proper_set bytes ≡ true
@@ -98,7 +99,7 @@ IsSetNode node bytes = (stack : List Tree) → after_node node stack ≡ Set byt
 
 -- what is read is whole, and the nodes are those of its tree; or the error is its fault, or want of memory
 abbrev pub Finishes : Result (Vec Node) PatternFault → Reading → ℕ → Type 0
-Finishes (Ok nodes) read end = (reads_as end read [] ≡ Ok (tree_of nodes.items)) × (after_nodes nodes.items [] ≡ tree_of nodes.items ∷ []) × (is_proper (tree_of nodes.items) ≡ true) × (is_choice (tree_of nodes.items) ≡ true) × (length nodes.items ≡ tree_size (tree_of nodes.items))
+Finishes (Ok nodes) read end = (reads_as end read [] ≡ Ok (rest_tree nodes.items)) × IsWhole nodes.items
 Finishes (Err e) read end = Explains (pattern_cause e) (reads_as end read [])
 
 -- the positions of a level without its last piece

@@ -14,3 +14,4 @@ pub mod Shape
 pub mod Building
 pub mod Grammar
 pub mod Literal
+pub mod Parts

@@ -25,3 +25,11 @@ after_nodes (n ∷ ns) stack = after_nodes ns (after_node n stack)
 -- the tree of the nodes
 abbrev pub tree_of : List Node → Tree
 tree_of nodes = tree_from (after_nodes nodes [])
+
+-- the trees of nodes that stand behind an empty sequence, the last on top
+abbrev pub trees_behind : List Node → List Tree
+trees_behind nodes = after_nodes nodes (tree.Nothing ∷ [])
+
+-- the tree of nodes that stand behind an empty sequence
+abbrev pub rest_tree : List Node → Tree
+rest_tree nodes = tree_from (trees_behind nodes)

@@ -2,7 +2,7 @@
 ghost use Rattle.std.specs.Prelude.{◌≡◌, ◌+◌, ◌*◌, ◌∷◌, ◌++◌, [], length, ◌<◌, ◌^◌, min, IfOk, OnOk, Some, ℕ, List, true, option_map, is_some};
 ghost use Rattle.std.specs.Bool.{OnTrue};
 ghost use Rattle.pattern_syntax.specs.Tokens as tokens;
-ghost use Rattle.pattern_syntax.specs.Nodes.{after_node, after_nodes};
+ghost use Rattle.pattern_syntax.specs.Nodes.{after_node, trees_behind};
 ghost use Rattle.pattern_syntax.specs.Reading.{Reading, new_level, new_reading, sequence_of, choice_of, after_token};
 ghost use Rattle.pattern_syntax.specs.Reading as reading;
 ghost use Rattle.pattern_syntax.specs.Building.{capped, level_counts, tree_on, outer_trees, Stands, Ends, Steps, Finishes, IsProperToken, IsSetNode, base_positions};
@@ -36,7 +36,7 @@ impl Level {
     }
 }
 
-/// The nodes so far, in postfix order, but for those that join a level's parts; the innermost choice, and those around it.
+/// The nodes so far, in postfix order, behind an empty sequence, but for those that join a level's parts; the innermost choice, and those around it.
 #[derive(Debug, Drop)]
 pub(crate) struct Builder {
     nodes: Vec<Node>,
@@ -67,22 +67,20 @@ fn factor(least: u32, most: Option<u32>) -> u32
 
 impl Builder {
     /// Nothing read yet.
-    pub(crate) fn new(alloc: Global) -> Result<Builder, OutOfMemory>
-        ensures { IfOk result (λ builder. Stands builder new_reading) }
+    pub(crate) fn new(alloc: Global) -> Builder
+        ensures { Stands result new_reading }
     {
-        let mut nodes = Vec::new(alloc);
-        nodes.push(Node::Nothing)?;
-        Ok(Builder {
-            nodes,
+        Builder {
+            nodes: Vec::new(alloc),
             level: Level::new(),
             outer: Vec::new(alloc),
-        })
+        }
     }
 
     #[tactic(auto, using(crate::proofs::BuildingLemmas::after_pushed))]
     fn push(&mut self, node: Node) -> Result<(), OutOfMemory>
         ensures size { OnOk result (length self.new.nodes.items ≡ length self.old.nodes.items + 1) }
-        ensures nodes { OnOk result (after_nodes self.new.nodes.items [] ≡ after_node node (after_nodes self.old.nodes.items [])) }
+        ensures nodes { OnOk result (trees_behind self.new.nodes.items ≡ after_node node (trees_behind self.old.nodes.items)) }
         ensures level { self.new.level ≡ self.old.level }
         ensures outer { self.new.outer ≡ self.old.outer }
     {

@@ -1,7 +1,8 @@
-ghost use Rattle.std.specs.Prelude.{◌≡◌, ◌==◌, ◌∷◌, [], ◌<◌, ◌^◌, length, IfOk, Ok, Err, true};
+ghost use Rattle.std.specs.Prelude.{◌≡◌, ◌==◌, ◌∷◌, [], ◌<◌, ◌^◌, length, IfOk, Ok, Err, true, ℕ, List, ◌↔◌};
 ghost use Rattle.label_base.specs.Answers.{Answers};
-ghost use Rattle.pattern_syntax.specs.Nodes.{after_nodes};
-ghost use Rattle.pattern_syntax.specs.Literal.{node_code, code_byte, led_byte};
+ghost use Rattle.pattern_syntax.specs.Nodes.{after_nodes, trees_behind, rest_tree};
+ghost use Rattle.pattern_syntax.specs.Literal.{node_code, code_byte, led_byte, is_several};
+ghost use Rattle.pattern_syntax.specs.Parts.{IsWhole, IsStart, IsPattern};
 
 use crate::builder::Builder;
 use crate::node::Node;
@@ -15,7 +16,9 @@ use std::marker::Model;
 /// A pattern of a file_contexts specification, seen as a tree.
 #[derive(Debug, Drop)]
 pub struct Pattern {
-    nodes: Vec<Node>,
+    // The bytes that each text of its language begins with, and the nodes behind them.
+    start: Bytes,
+    rest: Vec<Node>,
 }
 
 impl Model for Pattern {
@@ -25,18 +28,11 @@ impl Model for Pattern {
 
     ghost coded = { tree_code };
 
-    ghost use Rattle.std.specs.Prelude.{◌≡◌, ◌∷◌, [], true, length};
-    ghost use Rattle.pattern_syntax.specs.Nodes.{after_nodes, tree_of};
-    ghost use Rattle.pattern_syntax.specs.Shape.{is_proper, is_choice, tree_size};
+    ghost use Rattle.pattern_syntax.specs.Parts.{pattern_tree, IsPattern};
 
-    ghost view = { λ p. tree_of p.nodes.items };
+    ghost view = { λ p. pattern_tree p.start p.rest.items };
 
-    ghost invariant = { λ p. record {
-      builds : after_nodes p.nodes.items [] ≡ tree_of p.nodes.items ∷ [];
-      proper : is_proper (tree_of p.nodes.items) ≡ true;
-      choice : is_choice (tree_of p.nodes.items) ≡ true;
-      size : length p.nodes.items ≡ tree_size (tree_of p.nodes.items);
-    } };
+    ghost invariant = { λ p. IsPattern p.start p.rest.items };
 }
 
 fn is_either(node: &Node) -> bool
@@ -59,6 +55,36 @@ fn joined_byte(node: &Node, next: &Node) -> Option<u8>
     }
 }
 
+/// Whether the nodes behind an empty sequence make a choice of several sides.
+fn have_sides(nodes: &[Node]) -> bool
+    requires { IsWhole nodes.now }
+    ensures { result ≡ is_several (rest_tree nodes.now) }
+{
+    nodes.len() > 0 && is_either(&nodes[nodes.len() - 1])
+}
+
+/// The literal start of the nodes behind an empty sequence.
+fn leading_bytes(alloc: Global, nodes: &[Node]) -> Result<Bytes, OutOfMemory>
+    requires { IsWhole nodes.now }
+    ensures { IfOk result (λ start. IsStart nodes.now start) }
+{
+    let mut start = Bytes::new(alloc);
+    if have_sides(nodes) {
+        return Ok(start);
+    }
+    let mut at = 0;
+    'bytes: while at + 1 < nodes.len() {
+        match joined_byte(&nodes[at], &nodes[at + 1]) {
+            None => return Ok(start),
+            Some(b) => {
+                start.push_byte(b)?;
+                at += 2;
+            }
+        }
+    }
+    Ok(start)
+}
+
 impl Pattern {
     ghost use Rattle.pattern_syntax.specs.PatternCause.{pattern_cause};
     ghost use Rattle.pattern_syntax.specs.Reading.{pattern_of};
@@ -68,7 +94,8 @@ impl Pattern {
     ghost use Rattle.pattern_syntax.specs.Tree.{Tree};
     ghost use Rattle.pattern_syntax.specs.Language.{In};
     ghost use Rattle.pattern_syntax.specs.Literal.{literal_start_of};
-    ghost use Rattle.std.specs.Prelude.{ℕ, List, ◌++◌};
+    ghost use Rattle.pattern_syntax.specs.Parts.{bytes_tree, Follows};
+    ghost use Rattle.std.specs.Prelude.{◌++◌};
 
     /// Reads a pattern, in the dialect of pcrepattern(3) that selabel_file(5) needs: sets, groups, choices, repeats, and
     /// anchors at the ends. The fault at the least place decides; a pattern has at most 2,000 positions.
@@ -76,7 +103,7 @@ impl Pattern {
         requires { length bytes.now < 2 ^ 32 }
         ensures { Answers (λ pattern. pattern) pattern_cause result (pattern_of bytes.now) }
     {
-        let mut builder = Builder::new(alloc)?;
+        let mut builder = Builder::new(alloc);
         let mut at = 0;
         'tokens: while at < bytes.len() {
             if builder.is_full() {
@@ -87,14 +114,37 @@ impl Pattern {
             at += length;
         }
         let nodes = builder.finish(at as u32)?;
-        Ok(Pattern { nodes })
+        Ok(Pattern::of_nodes(alloc, nodes.as_slice())?)
     }
 
-    /// The nodes in postfix order.
-    pub fn nodes(&self) -> &[Node]
-        ensures { after_nodes result.now [] ≡ self.now ∷ [] }
+    /// The pattern of these nodes behind an empty sequence.
+    fn of_nodes(alloc: Global, nodes: &[Node]) -> Result<Pattern, OutOfMemory>
+        requires { IsWhole nodes.now }
+        ensures { IfOk result (λ pattern. pattern ≡ rest_tree nodes.now) }
     {
-        self.nodes.as_slice()
+        let start = leading_bytes(alloc, nodes)?;
+        Ok(Pattern {
+            rest: Vec::from_slice(alloc, &nodes[2 * start.len()..])?,
+            start: Bytes::copy_of(alloc, start.as_slice())?,
+        })
+    }
+
+    /// The bytes of the single bytes that the pattern begins with; none where a bar stands outside of all groups.
+    pub fn start(&self) -> &[u8]
+        ensures { result.now ≡ literal_start_of self.now }
+    {
+        self.start.as_slice()
+    }
+
+    /// The bytes that the pattern begins with, and the nodes behind them, in postfix order. The texts of the language are
+    /// the start and then a text of the rest.
+    pub fn parts(&self) -> (&[u8], &[Node])
+        ensures start { result.0.now ≡ literal_start_of self.now }
+        ensures whole { after_nodes result.1.now (bytes_tree result.0.now ∷ []) ≡ self.now ∷ [] }
+        ensures rest { trees_behind result.1.now ≡ rest_tree result.1.now ∷ [] }
+        ensures language { (text : List ℕ) → In self.now text ↔ Follows result.0.now (rest_tree result.1.now) text }
+    {
+        (self.start.as_slice(), self.rest.as_slice())
     }
 
     /// A law on every pattern: each of its sets has a byte, and none of them 0; what stands before the last piece of a
@@ -104,7 +154,7 @@ impl Pattern {
         ensures nonempty { HasNoEmptySet self.now }
         ensures proper { is_proper self.now ≡ true }
     {
-        let _nodes = &self.nodes;
+        let _start = &self.start;
     }
 
     /// A law on every text: what is read is what the grammar of tokens says, and that gives a text one tree. A text of the
@@ -117,27 +167,12 @@ impl Pattern {
         ensures many { pattern_of _bytes.now ≡ Err TooManyPositions → HasTooMany _bytes.now }
     {}
 
-    /// The bytes of the single bytes that the pattern begins with; none where a bar stands outside of all groups. Every
-    /// text of the pattern's language begins with them.
+    /// A copy of the start. Every text of the pattern's language begins with it.
     pub fn literal_start(&self, alloc: Global) -> Result<Bytes, OutOfMemory>
         ensures value { IfOk result (λ start. start ≡ literal_start_of self.now) }
         ensures begins { IfOk result (λ start. (text : List ℕ) → In self.now text → (rest : List ℕ) × (text ≡ start ++ rest)) }
     {
-        let nodes = self.nodes.as_slice();
-        let mut start = Bytes::new(alloc);
-        if is_either(&nodes[nodes.len() - 1]) {
-            return Ok(start);
-        }
-        let mut at = 1;
-        'bytes: while at + 1 < nodes.len() {
-            match joined_byte(&nodes[at], &nodes[at + 1]) {
-                None => return Ok(start),
-                Some(b) => {
-                    start.push(&[b])?;
-                    at += 2;
-                }
-            }
-        }
+        let start = Bytes::copy_of(alloc, self.start())?;
         Ok(start)
     }
 }

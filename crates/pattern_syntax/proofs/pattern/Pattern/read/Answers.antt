@@ -1,5 +1,8 @@
-use Rattle.std.proofs.Common.{arith, ◌∙◌, refl, length}
+use Rattle.std.proofs.Common.{arith, ◌∙◌, refl, length, ap, sym}
+use Rattle.std.specs.Prelude.{Ok}
 use Rattle.std.proofs.lemmas.List.{length-drop}
+use Rattle.pattern_syntax.specs.Tree.{Tree}
+use Rattle.pattern_syntax.specs.Nodes.{rest_tree}
 use Rattle.std.proofs.lemmas.Result.{err_from_is_err_and}
 use Rattle.pattern_syntax.specs.Reading.{new_reading, after_token, pattern_of}
 use Rattle.pattern_syntax.specs.PatternCause.{pattern_cause}
@@ -10,12 +13,12 @@ use Rattle.pattern_syntax.proofs.pattern.Pattern.read.Goals as goal
 
 pub tokens-init : goal.tokens-init
 unfolding pattern_of
-tokens-init c = (new_reading, c.in_ok-builder.ensures, omega arith, refl)
+tokens-init c = (new_reading, c.new-builder.ensures, omega arith, refl)
 
 pub returns-in_err-token : goal.returns-in_err-token
 returns-in_err-token c =
     let i = c.tokens.invariant in
-    let p = err_from_is_err_and c.from_residual-in_err-token.result c.from_residual-in_err-token.ensures.1 in
+    let p = err_from_is_err_and c.from_residual.result c.from_residual.ensures.1 in
     rw (p.1, p.2) (token_explained (pattern_cause c.in_err-token.field-0.0) (pattern_of c.args.bytes.now) (length c.args.bytes.now) i.0 c.tokens.at c.args.bytes.now (omega arith) i.3 c.in_err-token.ensures.value)
 
 pub returns-in_err-add : goal.returns-in_err-add
@@ -46,7 +49,7 @@ returns-in_err-nodes c =
 pub returns : goal.returns
 returns c =
     let i = c.tokens.invariant in
-    all_read (pattern_of c.args.bytes.now) i.0 c.tokens.at c.args.bytes.now (omega arith) i.3 ∙ (c.in_ok-nodes.ensures i.0 i.1).0
+    all_read (pattern_of c.args.bytes.now) i.0 c.tokens.at c.args.bytes.now (omega arith) i.3 ∙ (c.in_ok-nodes.ensures i.0 i.1).0 ∙ ap (λ (t : Tree). Ok t) (ap rest_tree (sym c.as_slice.ensures.value) ∙ sym c.in_ok-of_nodes.ensures)
 
 pub returns-then-is_full : goal.returns-then-is_full
 returns-then-is_full c =
