@@ -2,10 +2,13 @@
 use Rattle.std.specs.Prelude.{ℕ, ◌-◌, ◌+◌, Bool, nat_lt, List, [], ◌++◌, length, Option, Some, None, Result, Ok, Err, if◌then◌else◌}
 use Rattle.label_base.specs.Store.{Files, content}
 use Rattle.label_base.specs.declared.kind.Part.{Part}
+use Rattle.label_base.specs.declared.lines.LinesWhy.{LinesWhy}
+use Rattle.label_base.specs.declared.lines.LinesWhy.TheVariants.{Refused, TooMany}
 use Rattle.label_base.specs.declared.lines.RefusedLine.{RefusedLine}
 use Rattle.label_base.specs.declared.kind.Part.TheVariants.{Base, Homedirs, Local, Subs, SubsDist, Kept}
-use Rattle.spec_reader.specs.SpecFile.{FileWhy, RefusedLine, TooMany, specs_of}
+use Rattle.spec_reader.specs.SpecLines.{specs_of}
 use Rattle.spec_reader.specs.SpecValue.{SpecValue}
+use Rattle.spec_reader.specs.declared.spec_fault.SpecWhy.{SpecWhy}
 use Rattle.spec_order.specs.Order.{in_order}
 use Rattle.path_subs.specs.Subs.{SubValue}
 use Rattle.path_subs.specs.SubLines.{subs_of}
@@ -40,11 +43,11 @@ bytes_from names part (Some bytes) = if nat_lt (most_bytes part) (length bytes) 
 unfoldable pub part_bytes : FileNames → Part → Files → Result (List ℕ) Cause
 part_bytes names part files = bytes_from names part (content files (name_of names part))
 
-abbrev pub spec_refusal : Part → FileWhy → Cause
-spec_refusal part (RefusedLine line why) = SpecRefused part line why
+abbrev pub spec_refusal : Part → LinesWhy SpecWhy → Cause
+spec_refusal part (Refused line) = SpecRefused part line.number line.why
 spec_refusal part TooMany = Limit Specs
 
-abbrev pub specs_from : Part → Result (List SpecValue) FileWhy → Result (List SpecValue) Cause
+abbrev pub specs_from : Part → Result (List SpecValue) (LinesWhy SpecWhy) → Result (List SpecValue) Cause
 specs_from part (Ok specs) = Ok specs
 specs_from part (Err why) = Err (spec_refusal part why)
 

@@ -4,12 +4,12 @@ ghost use Rattle.relabel_program.specs.Files.{absent, list_of, most_bytes, part_
 
 use crate::cause::{Cause, LimitKind};
 use crate::names::FileNames;
-use label_base::{Bytes, Fault, FileFault, Name, Part, Row, Store};
+use label_base::{Bytes, Fault, FileFault, LinesWhy, Name, Part, Row, Store};
 use path_subs::{Sub, Subs, read_subs};
 use relabel_core::Rules;
 use spec_match::RuleSet;
 use spec_order::ordered;
-use spec_reader::{Spec, SpecFault, read_specs};
+use spec_reader::{Spec, read_specs};
 use std::alloc::Global;
 
 /// The greatest number of bytes of a file of specifications.
@@ -88,11 +88,15 @@ fn read_specs_part<S: Store>(
     let bytes = read_part(alloc, names, part, store)?;
     match read_specs(alloc, bytes.as_slice(), part, room) {
         Ok(specs) => Ok(specs),
-        Err(SpecFault::Refused { line, why }) => Err(Cause::SpecRefused { part, line, why }),
-        Err(SpecFault::TooManySpecs) => Err(Cause::Limit {
+        Err(Fault::Why(LinesWhy::Refused(line))) => Err(Cause::SpecRefused {
+            part,
+            line: line.number,
+            why: line.why,
+        }),
+        Err(Fault::Why(LinesWhy::TooMany)) => Err(Cause::Limit {
             which: LimitKind::Specs,
         }),
-        Err(SpecFault::OutOfMemory) => Err(Cause::OutOfMemory),
+        Err(Fault::OutOfMemory) => Err(Cause::OutOfMemory),
     }
 }
 
