@@ -28,8 +28,8 @@ pub fn read_specs(
     read_lines_within(alloc, &SpecReader { part }, bytes, room)
 }
 
-/// A law on all bytes: what [`read_specs`] reads of them is what the grammar of selabel_file(5) says, the first line that
-/// is refused or gives one specification too many included. It does nothing.
+/// A law on all bytes: what [`read_specs`] reads of them is what the grammar of selabel_file(5) says, the
+/// first line that is refused or gives one specification too many included. It does nothing.
 #[tactic(auto, using(crate::proofs::SpecsMeant::specs_mean))]
 pub fn specs_follow_grammar(_bytes: &[u8], _part: Part, _room: u32)
     ensures { (meant : _)
