@@ -30,7 +30,8 @@ fn read_numbered(
     bytes: &[u8],
     is_ended: bool,
 ) -> Result<Record, RecordsFault>
-    ensures answer { Answers (λ found. found) records_cause result (meaning most number bytes.now is_ended) }
+    ensures answer { Answers (λ found. found) records_cause result
+        (meaning most number bytes.now is_ended) }
     ensures few { IfOk result (λ _. number ≤ most) }
 {
     if number > u64::from(most) {
@@ -55,10 +56,12 @@ fn next_record(
     bytes: &[u8],
 ) -> Result<(Record, &[u8]), RecordsFault>
     requires { 0 < length bytes.now }
-    ensures found { IfOk result (λ found. records_from most number bytes.now ≡ onto (Ok found.0) (records_from most (number + 1) found.1.now)) }
+    ensures found { IfOk result (λ found. records_from most number bytes.now
+        ≡ onto (Ok found.0) (records_from most (number + 1) found.1.now)) }
     ensures shorter { IfOk result (λ found. length found.1.now < length bytes.now) }
     ensures few { IfOk result (λ _. number ≤ most) }
-    ensures bad { IfErr result (λ fault. Explains (records_cause fault) (records_from most number bytes.now)) }
+    ensures bad { IfErr result (λ fault. Explains (records_cause fault)
+        (records_from most number bytes.now)) }
 {
     let (piece, rest) = cut_at(NUL, bytes);
     match rest {
@@ -68,7 +71,8 @@ fn next_record(
 }
 
 fn read_all_records(alloc: Global, bytes: &[u8], most: u32) -> Result<Row<Record>, RecordsFault>
-    ensures answer { Answers (λ records. records) records_cause result (records_from most 1 bytes.now) }
+    ensures answer { Answers (λ records. records) records_cause result
+        (records_from most 1 bytes.now) }
     ensures few { IfOk result (λ records. length records ≤ most) }
 {
     let mut records = Row::new(alloc);
@@ -86,8 +90,8 @@ fn read_all_records(alloc: Global, bytes: &[u8], most: u32) -> Result<Row<Record
 /// Reads a source to its end, and then the records that it had, each ended by a NUL, as
 /// `find -printf '%y %D %i %Z %p\0'` writes them (find(1)).
 ///
-/// The first bad record decides; on one record the limit of their number comes first, then the NUL that a
-/// last one lacks, then its fields.
+/// The first bad record decides; on one record the limit of their number comes first, then the NUL that
+/// a last one lacks, then its fields.
 pub fn read_records<I: Source>(
     alloc: Global,
     source: &mut I,
@@ -107,9 +111,9 @@ pub fn read_records<I: Source>(
     read_all_records(alloc, bytes.as_slice(), limits.records)
 }
 
-/// A law on all bytes: what [`read_records`] reads of them is what the grammar of find(1) says, each fault included.
-/// They give records exactly where they are such records, each ended by a NUL, and no more than the limit; a fault
-/// names the first record that is bad, behind good ones. It does nothing.
+/// A law on all bytes: what [`read_records`] reads of them is what the grammar of find(1) says, each
+/// fault included. They give records exactly where they are such records, each ended by a NUL, and no
+/// more than the limit; a fault names the first record that is bad, behind good ones. It does nothing.
 #[tactic(auto, using(crate::proofs::RunGrammar::run_means))]
 pub fn records_follow_grammar(_limits: RecordLimits, _bytes: &[u8])
     ensures { (meant : _)

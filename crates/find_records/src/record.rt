@@ -89,7 +89,8 @@ fn read_fields(
     label: &[u8],
     path: &[u8],
 ) -> Result<Record, Fault<RecordWhy>>
-    ensures { Answers (λ found. found) cause_of result (with_path kind.now device.now inode.now label.now path.now) }
+    ensures { Answers (λ found. found) cause_of result
+        (with_path kind.now device.now inode.now label.now path.now) }
 {
     let Some(kind) = read_kind(kind) else {
         return Err(Fault::Why(RecordWhy::BadType));

@@ -1,7 +1,10 @@
--- The grammar of a line of specifications, as selabel_file(5) has it: a pattern, perhaps a type, and a context.
+-- The grammar of a file of specifications: a pattern, perhaps a type, and a context on each line, as selabel_file(5)
+-- has them.
 use Rattle.std.specs.Prelude.{◌≡◌, ℕ, ◌<◌, List, [], ◌∷◌, length, Option, Some, None, IsSome, Result, Ok, Err}
 use Rattle.label_base.specs.declared.kind.EntryKind.{EntryKind}
 use Rattle.label_base.specs.declared.kind.Part.{Part}
+use Rattle.label_base.specs.declared.lines.LinesWhy.{LinesWhy}
+use Rattle.label_base.specs.LineGrammar.{LinesMeanWithin}
 use Rattle.context_syntax.specs.Context.{Spells}
 use Rattle.pattern_syntax.specs.Reading.{pattern_of}
 use Rattle.spec_reader.specs.SpecLines.{kind_of}
@@ -63,3 +66,7 @@ abbrev pub FieldsMean : Part → ℕ → List (List ℕ) → Result SpecValue Sp
 FieldsMean part number fields (Ok spec) = IsSpecOf part number fields spec
 FieldsMean part number fields (Err MissingContext) = length fields < 2
 FieldsMean part number fields (Err why) = (parts : Parts) × (parts_of fields ≡ Some parts) × AreBad parts why
+
+-- what the text of a file means, where there is room for so many specifications
+abbrev pub SpecsMean : Part → ℕ → List ℕ → Result (List SpecValue) (LinesWhy SpecWhy) → Type 0
+SpecsMean part = LinesMeanWithin (FieldsMean part)

@@ -6,7 +6,7 @@ mod reading;
 mod spec;
 mod spec_fault;
 
-pub use reading::read_specs;
+pub use reading::{read_specs, specs_follow_grammar};
 pub use spec::{Decision, Spec};
 pub use spec_fault::{SpecFault, SpecWhy};
 

@@ -1,5 +1,6 @@
-ghost use Rattle.std.specs.Prelude.{◌<◌, ◌≤◌, ◌^◌, length, IfOk};
+ghost use Rattle.std.specs.Prelude.{◌≡◌, ◌↔◌, ◌<◌, ◌≤◌, ◌^◌, length, IfOk};
 ghost use Rattle.label_base.specs.Answers.{Answers, cause_of};
+ghost use Rattle.spec_reader.specs.SpecGrammar.{SpecsMean};
 ghost use Rattle.spec_reader.specs.SpecLines.{specs_of};
 
 use crate::line::SpecReader;
@@ -26,3 +27,11 @@ pub fn read_specs(
 {
     read_lines_within(alloc, &SpecReader { part }, bytes, room)
 }
+
+/// A law on all bytes: what [`read_specs`] reads of them is what the grammar of selabel_file(5) says, the
+/// first line that is refused or gives one specification too many included. It does nothing.
+#[tactic(auto, using(crate::proofs::SpecsMeant::specs_mean))]
+pub fn specs_follow_grammar(_bytes: &[u8], _part: Part, _room: u32)
+    ensures { (meant : _)
+        → (specs_of _part _room _bytes.now ≡ meant) ↔ SpecsMean _part _room _bytes.now meant }
+{}

@@ -1,6 +1,6 @@
 ghost use Rattle.std.specs.Prelude.{◌<◌, ◌^◌, length};
 
-use crate::reading::read_specs;
+use crate::reading::{read_specs, specs_follow_grammar};
 use crate::spec::Decision;
 use crate::spec_fault::{SpecFault, SpecWhy};
 use label_base::{EntryKind, Fault, LinesWhy, Part, RefusedLine};
@@ -12,6 +12,7 @@ const PROC: &[u8] =
 
 #[test]
 fn reads_lines(rt: HostRuntime) -> Result<(), Fail> {
+    specs_follow_grammar(PROC, Part::Local, 2);
     let specs = read_specs(rt.alloc(), PROC, Part::Local, 2)?;
     assert_eq!(rt; specs.len(), 2);
     let root = specs.get(0);
