@@ -6,6 +6,7 @@ use Rattle.pattern_syntax.specs.Reading.{positions, depth_behind, ends_piece, re
 use Rattle.pattern_syntax.specs.Grammar.{Spells, Choice, cut_of}
 use Rattle.pattern_syntax.specs.declared.pattern_fault.PatternWhy.{PatternWhy}
 use Rattle.pattern_syntax.specs.declared.pattern_fault.PatternWhy.TheVariants.{Syntax, TooDeep, TooManyPositions}
+use Rattle.pattern_syntax.specs.declared.limits.TheConstants.{MOST_GROUPS, MOST_POSITIONS}
 
 -- how many groups are open behind tokens, where so many were open before them
 abbrev pub open_behind : ℕ → List Token → ℕ
@@ -15,10 +16,10 @@ open_behind depth tokens = fold (λ (d : ℕ) (token : Token). depth_behind toke
 abbrev pub takes_repeat : Bool → List Token → Bool
 takes_repeat before tokens = fold (λ (b : Bool) (token : Token). ends_piece token) before tokens
 
--- nowhere are more than 50 groups open
+-- nowhere are more groups open than may be
 abbrev pub IsShallow : ℕ → List Token → Type 0
 IsShallow depth [] = Unit {0}
-IsShallow depth (token ∷ tokens) = (depth_behind token depth ≤ 50) × IsShallow (depth_behind token depth) tokens
+IsShallow depth (token ∷ tokens) = (depth_behind token depth ≤ MOST_GROUPS) × IsShallow (depth_behind token depth) tokens
 
 -- some pattern begins with the tokens
 abbrev pub Begins : List Token → Type 0
@@ -26,7 +27,7 @@ Begins tokens = (more : List Token) × (tree : Tree) × Spells Choice (tokens ++
 
 -- ---- patterns
 
--- the text is cut into tokens, none refused, that are a choice with this tree, and nowhere are more than 50 groups open
+-- the text is cut into tokens, none refused, that are a choice with this tree, and nowhere too many groups are open
 pub record IsCutInto (text : List ℕ) (tree : Tree) : Type 0 where
   pub tokens : List Token
   pub cut : map cut_of (tokens_from 0 0 text) ≡ map Ok tokens
@@ -34,17 +35,17 @@ pub record IsCutInto (text : List ℕ) (tree : Tree) : Type 0 where
   pub shallow : IsShallow 0 tokens
 
 abbrev pub IsPatternText : List ℕ → Tree → Type 0
-IsPatternText text tree = IsCutInto text tree × (positions tree ≤ 2000)
+IsPatternText text tree = IsCutInto text tree × (positions tree ≤ MOST_POSITIONS)
 
 abbrev pub HasTooManyPositions : List ℕ → Type 0
-HasTooManyPositions text = (tree : Tree) × IsCutInto text tree × (2000 < positions tree)
+HasTooManyPositions text = (tree : Tree) × IsCutInto text tree × (MOST_POSITIONS < positions tree)
 
 -- ---- faults
 
 -- the token may not stand at this place, where so many groups are open, and a repeat may follow or not
 abbrev pub IsMisplaced : (depth : ℕ) (after_piece : Bool) (place : ℕ) → Token → PatternWhy → Type 0
 IsMisplaced depth after_piece place Close why = (depth ≡ 0) × (why ≡ Syntax place)
-IsMisplaced depth after_piece place Open why = (50 ≤ depth) × (why ≡ TooDeep place)
+IsMisplaced depth after_piece place Open why = (MOST_GROUPS ≤ depth) × (why ≡ TooDeep place)
 IsMisplaced depth after_piece place (Times least most) why = (after_piece ≡ false) × (why ≡ Syntax place)
 IsMisplaced depth after_piece place (Bytes bytes) why = ⊥
 IsMisplaced depth after_piece place Bar why = ⊥
