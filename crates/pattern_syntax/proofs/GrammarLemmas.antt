@@ -1,28 +1,27 @@
 -- What is read without a fault is what the grammar says, and the grammar gives one tree.
-use Rattle.std.proofs.Common.{◌≡◌, ◌∙◌, sym, refl, ap, subst, ℕ, suc, ◌<◌, ◌==◌, leb, ◌⊎◌, inl, inr, ⊎_elim, Bool, true, false, cond, List, [], ◌∷◌, ◌++◌, length, map, append_assoc, append-nil, arith}
-use Rattle.std.specs.Prelude.{Option, Some, None, Result, Ok, Err, is_some, fold, nat_le}
-use Rattle.std.proofs.lemmas.Bool.Decides.{nat_tests}
+use Rattle.std.proofs.Common.{◌≡◌, ◌∙◌, sym, refl, ap, subst, ℕ, suc, ◌==◌, leb, ◌⊎◌, inl, inr, Bool, true, false, cond, List, [], ◌∷◌, ◌++◌, length, map, append_assoc, append-nil}
+use Rattle.std.specs.Prelude.{Option, Some, None, Result, Ok, Err, is_some, fold}
 use Rattle.pattern_syntax.specs.Tree.{Tree, Set, Nothing, Both, Either, Repeat}
-use Rattle.pattern_syntax.specs.Tokens.{Token, Bytes, Open, Close, Bar, Anchor, Times, Placed, tokens_from}
-use Rattle.pattern_syntax.specs.Reading.{Reading, Level, new_level, new_reading, sequence_of, choice_of, with_last, with_side, with_piece, with_bar, with_repeat, settled, after_token, after_placed, tree_after, first_fault, first_fault_of, structure_fault, depth_behind, ends_piece, refused_at, read_as, reads_as, pattern_of, positions}
-use Rattle.pattern_syntax.specs.Grammar.{Part, Item, Piece, Sequence, Choice, Spells, set, group, once, times, empty, more, anchored, only, or, cut_of, ReadsAs, Accepts, HasTooMany}
+use Rattle.pattern_syntax.specs.Tokens.{Token, Bytes, Open, Close, Bar, Anchor, Times, Placed}
+use Rattle.pattern_syntax.specs.Reading.{Reading, Level, new_level, new_reading, sequence_of, choice_of, with_last, with_side, with_piece, with_bar, with_repeat, settled, after_token, after_placed, tree_after, first_fault, first_fault_of, structure_fault, depth_behind, ends_piece, refused_at}
+use Rattle.pattern_syntax.specs.Grammar.{Part, Item, Piece, Sequence, Choice, Spells, set, group, once, times, empty, more, anchored, only, or, cut_of}
 use Rattle.pattern_syntax.specs.declared.refusal.Refusal.{Refusal}
 use Rattle.pattern_syntax.specs.declared.refusal.Refusal.TheVariants as refusals
 use Rattle.pattern_syntax.specs.declared.pattern_fault.PatternWhy.{PatternWhy}
 use Rattle.pattern_syntax.specs.declared.pattern_fault.PatternWhy.TheVariants.{Syntax, UnsupportedPattern, TooDeep, TooManyPositions}
-use Rattle.pattern_syntax.proofs.ReadingLemmas.{behind_is, no_zero, is_zero}
+use Rattle.pattern_syntax.proofs.ReadingLemmas.{behind_is, no_zero}
 
 -- ---- from what is read to the grammar
 
-abbrev SpellsSides : List Token → Option Tree → Type 0
+abbrev pub SpellsSides : List Token → Option Tree → Type 0
 SpellsSides ts None = ts ≡ []
 SpellsSides ts (Some sides) = (front : List Token) × (ts ≡ front ++ Bar ∷ []) × Spells Choice front sides
 
-abbrev SpellsItem : List Token → Option Tree → Type 0
+abbrev pub SpellsItem : List Token → Option Tree → Type 0
 SpellsItem ts None = ts ≡ []
 SpellsItem ts (Some piece) = Spells Item ts piece
 
-record SpellsLevel (ts : List Token) (level : Level) : Type 0 where
+pub record SpellsLevel (ts : List Token) (level : Level) : Type 0 where
   sides_ts : List Token
   sequence_ts : List Token
   piece_ts : List Token
@@ -31,14 +30,14 @@ record SpellsLevel (ts : List Token) (level : Level) : Type 0 where
   sequence : Spells Sequence sequence_ts level.sequence
   piece : SpellsItem piece_ts level.piece
 
-abbrev SpellsOuter : List Token → List Level → Type 0
+abbrev pub SpellsOuter : List Token → List Level → Type 0
 SpellsOuter ts [] = ts ≡ []
 SpellsOuter ts (around ∷ outer) = (outer_ts level_ts : List Token) × (ts ≡ outer_ts ++ (level_ts ++ Open ∷ [])) × SpellsLevel level_ts around × SpellsOuter outer_ts outer
 
-abbrev SpellsReading : List Token → Reading → Type 0
+abbrev pub SpellsReading : List Token → Reading → Type 0
 SpellsReading ts read = (outer_ts level_ts : List Token) × (ts ≡ outer_ts ++ level_ts) × SpellsLevel level_ts read.level × SpellsOuter outer_ts read.outer
 
-along : (part : Part) (ts us : List Token) (tree : Tree) → ts ≡ us → Spells part ts tree → Spells part us tree
+pub along : (part : Part) (ts us : List Token) (tree : Tree) → ts ≡ us → Spells part ts tree → Spells part us tree
 along part ts us tree e h = subst (λ l. Spells part l tree) e h
 
 last_spelled : (front back : List Token) (sequence : Tree) (piece : Option Tree) → Spells Sequence front sequence → SpellsItem back piece → Spells Sequence (front ++ back) (with_last sequence piece)
@@ -53,7 +52,7 @@ side_spelled front back (Some sides) sequence h k =
 sequence_spelled : (ts : List Token) (level : Level) (h : SpellsLevel ts level) → Spells Sequence (h.sequence_ts ++ h.piece_ts) (sequence_of level)
 sequence_spelled ts level h = last_spelled h.sequence_ts h.piece_ts level.sequence level.piece h.sequence h.piece
 
-choice_spelled : (ts : List Token) (level : Level) → SpellsLevel ts level → Spells Choice ts (choice_of level)
+pub choice_spelled : (ts : List Token) (level : Level) → SpellsLevel ts level → Spells Choice ts (choice_of level)
 choice_spelled ts level h =
     along Choice (h.sides_ts ++ (h.sequence_ts ++ h.piece_ts)) ts (choice_of level) (sym h.whole) (side_spelled h.sides_ts (h.sequence_ts ++ h.piece_ts) level.sides (sequence_of level) h.sides (sequence_spelled ts level h))
 
@@ -120,7 +119,7 @@ repeat_spelled ts sides sequence tree least most h = record {
 level_step : (ts us : List Token) (read : Reading) (level : Level) (token : Token) → (h : SpellsReading ts read) → SpellsLevel (h.1 ++ token ∷ []) level → SpellsReading (ts ++ token ∷ []) (record { level = level; outer = read.outer })
 level_step ts us read level token h k = (h.0, h.1 ++ token ∷ [], ap (λ l. l ++ token ∷ []) h.2 ∙ append_assoc h.0 h.1 (token ∷ []), k, h.4)
 
-token_spelled : (ts : List Token) (read : Reading) (at : ℕ) (token : Token) → SpellsReading ts read → structure_fault (length read.outer) (is_some read.level.piece) at token ≡ None → SpellsReading (ts ++ token ∷ []) (after_token read token)
+pub token_spelled : (ts : List Token) (read : Reading) (at : ℕ) (token : Token) → SpellsReading ts read → structure_fault (length read.outer) (is_some read.level.piece) at token ≡ None → SpellsReading (ts ++ token ∷ []) (after_token read token)
 token_spelled ts read at (Bytes bytes) h e = level_step ts [] read (with_piece read.level (Set bytes)) (Bytes bytes) h (piece_spelled h.1 (Bytes bytes ∷ []) read.level (Set bytes) h.3 (set bytes))
 token_spelled ts read at Open h e =
     (h.0 ++ (h.1 ++ Open ∷ []), [], ap (λ l. l ++ Open ∷ []) h.2 ∙ append_assoc h.0 h.1 (Open ∷ []) ∙ sym (append-nil (h.0 ++ (h.1 ++ Open ∷ []))), new_spelled, (h.0, h.1, refl, settled_spelled h.1 read.level h.3, h.4))
@@ -151,10 +150,10 @@ pub no_fault_later : (a b : Option PatternWhy) → first_fault_of a b ≡ None �
 no_fault_later None b h = h
 no_fault_later (Some why) b h = absurd (let f : Some why ≡ None = h in cc)
 
-abbrev Spelled : List Token → List Placed → Tree → Type 0
+abbrev pub Spelled : List Token → List Placed → Tree → Type 0
 Spelled before placed tree = (tokens : List Token) × (map cut_of placed ≡ map Ok tokens) × Spells Choice (before ++ tokens) tree
 
-sound : (end : ℕ) (placed : List Placed) (read : Reading) (before : List Token) → SpellsReading before read
+pub sound : (end : ℕ) (placed : List Placed) (read : Reading) (before : List Token) → SpellsReading before read
     → first_fault end (length read.outer) (is_some read.level.piece) placed ≡ None → Spelled before placed (tree_after read placed)
 unfolding first_fault
 sound end [] read before h e = ended read.outer h e
@@ -172,48 +171,31 @@ sound end ((place, Ok token) ∷ placed) read before h e =
     let rest = sound end placed (after_token read token) (before ++ token ∷ []) (token_spelled before read place token h a) c in
     (token ∷ rest.0, ap (λ (l : List (Result Token Refusal)). Ok token ∷ l) rest.1, along Choice ((before ++ token ∷ []) ++ rest.0) (before ++ token ∷ rest.0) (tree_after (after_token read token) placed) (append_assoc before (token ∷ []) rest.0) rest.2)
 
-new_reading_spelled : SpellsReading [] new_reading
+pub new_reading_spelled : SpellsReading [] new_reading
 new_reading_spelled = ([], [], refl, new_spelled, refl)
-
-read_without_fault : (fault : Option PatternWhy) (found tree : Tree) → read_as fault found ≡ Ok tree → (fault ≡ None) × (found ≡ tree)
-read_without_fault (Some why) found tree e = absurd (let f : Err why ≡ Ok tree = e in cc)
-read_without_fault None found tree e = (refl, chosen (nat_le (positions found) 2000) e)
-  where
-    chosen : (small : Bool) → cond small (Ok found) (Err TooManyPositions) ≡ Ok tree → found ≡ tree
-    chosen true e = let f : Ok found ≡ Ok tree = e in cc
-    chosen false e = absurd (let f : Err TooManyPositions ≡ Ok tree = e in cc)
-
--- what is read is what the grammar says
-pub read_is_grammar : (text : List ℕ) (tree : Tree) → pattern_of text ≡ Ok tree → ReadsAs text tree
-unfolding pattern_of reads_as
-read_is_grammar text tree e =
-    let placed = tokens_from 0 0 text in
-    let r = read_without_fault (first_fault (length text) 0 false placed) (tree_after new_reading placed) tree e in
-    let s = sound (length text) placed new_reading [] new_reading_spelled r.0 in
-    (s.0, s.1, subst (λ (t : Tree). Spells Choice s.0 t) r.1 s.2)
 
 -- ---- from the grammar to what is read
 
-abbrev reading : Level → List Level → Reading
+abbrev pub reading : Level → List Level → Reading
 reading level outer = record { level = level; outer = outer }
 
-abbrev level_of : Option Tree → Level
+abbrev pub level_of : Option Tree → Level
 level_of sides = record { sides = sides; sequence = Nothing; piece = None }
 
-abbrev read_on : Reading → List Token → Reading
+abbrev pub read_on : Reading → List Token → Reading
 read_on read tokens = fold after_token read tokens
 
-abbrev Means : Part → List Token → Tree → Type 0
+abbrev pub Means : Part → List Token → Tree → Type 0
 Means Item ts tree = (level : Level) (outer : List Level) → read_on (reading level outer) ts ≡ reading (with_piece level tree) outer
 Means Piece ts tree = (level : Level) (outer : List Level) → (l : Level) × (read_on (reading level outer) ts ≡ reading l outer) × (l.sides ≡ level.sides) × (sequence_of l ≡ Both (sequence_of level) tree)
 Means Sequence ts tree = (sides : Option Tree) (outer : List Level) → (l : Level) × (read_on (reading (level_of sides) outer) ts ≡ reading l outer) × (l.sides ≡ sides) × (sequence_of l ≡ tree)
 Means Choice ts tree = (outer : List Level) → (l : Level) × (read_on (reading new_level outer) ts ≡ reading l outer) × (choice_of l ≡ tree)
 
-read_append : (read : Reading) (xs ys : List Token) → read_on read (xs ++ ys) ≡ read_on (read_on read xs) ys
+pub read_append : (read : Reading) (xs ys : List Token) → read_on read (xs ++ ys) ≡ read_on (read_on read xs) ys
 read_append read [] ys = refl
 read_append read (x ∷ xs) ys = read_append (after_token read x) xs ys
 
-complete : (part : Part) (ts : List Token) (tree : Tree) → Spells part ts tree → Means part ts tree
+pub complete : (part : Part) (ts : List Token) (tree : Tree) → Spells part ts tree → Means part ts tree
 complete Item ts tree (set bytes) = λ level outer. refl
 complete Item ts tree (group tokens t h) = λ (level : Level) (outer : List Level).
     let k = complete Choice tokens t h (settled level ∷ outer) in
@@ -251,21 +233,24 @@ placed_tokens ((place, Ok token) ∷ ps) (t ∷ ts) read e =
     let k : map cut_of ps ≡ map Ok ts = cc in
     ap (λ (u : Token). fold after_placed (after_token read u) ps) g ∙ placed_tokens ps ts (after_token read t) k
 
-grammar_tree : (text : List ℕ) (tree : Tree) → ReadsAs text tree → tree_after new_reading (tokens_from 0 0 text) ≡ tree
-grammar_tree text tree h =
-    let k = complete Choice h.0 tree h.2 [] in
-    ap (λ (r : Reading). choice_of r.level) (placed_tokens (tokens_from 0 0 text) h.0 new_reading h.1 ∙ k.1) ∙ k.2
+pub grammar_tree : (placed : List Placed) (tokens : List Token) (tree : Tree) → map cut_of placed ≡ map Ok tokens → Spells Choice tokens tree → tree_after new_reading placed ≡ tree
+grammar_tree placed tokens tree e h =
+    let k = complete Choice tokens tree h [] in
+    ap (λ (r : Reading). choice_of r.level) (placed_tokens placed tokens new_reading e ∙ k.1) ∙ k.2
 
--- the grammar gives a text one tree
-pub grammar_single : (text : List ℕ) (a b : Tree) → ReadsAs text a → ReadsAs text b → a ≡ b
-grammar_single text a b h k = sym (grammar_tree text a h) ∙ grammar_tree text b k
+-- the grammar gives tokens one tree
+pub grammar_single : (tokens : List Token) (a b : Tree) → Spells Choice tokens a → Spells Choice tokens b → a ≡ b
+grammar_single tokens a b h k =
+    let c = complete Choice tokens a h [] in
+    let d = complete Choice tokens b k [] in
+    sym c.2 ∙ ap (λ (r : Reading). choice_of r.level) (sym c.1 ∙ d.1) ∙ d.2
 
 -- ---- what the grammar spells has no fault but open groups
 
-abbrev IsFine : ℕ → Option PatternWhy → Type 0
+abbrev pub IsFine : ℕ → Option PatternWhy → Type 0
 IsFine at fault = (fault ≡ None) ⊎ (fault ≡ Some (TooDeep at))
 
-abbrev AreFine : Reading → List Token → Type 0
+abbrev pub AreFine : Reading → List Token → Type 0
 AreFine read [] = Unit {0}
 AreFine read (t ∷ ts) = ((at : ℕ) → IsFine at (structure_fault (length read.outer) (is_some read.level.piece) at t)) × AreFine (after_token read t) ts
 
@@ -283,7 +268,7 @@ fine_open depth at = opened (leb 50 depth)
 fine_close : (depth at : ℕ) → IsFine at (cond (suc depth == 0) (Some (Syntax at)) None)
 fine_close depth at = inl (ap (λ t. cond t (Some (Syntax at)) None) (no_zero depth))
 
-abbrev Fine : Part → List Token → Type 0
+abbrev pub Fine : Part → List Token → Type 0
 Fine Item ts = (level : Level) (outer : List Level) → AreFine (reading level outer) ts
 Fine Piece ts = (level : Level) (outer : List Level) → AreFine (reading level outer) ts
 Fine Sequence ts = (sides : Option Tree) (outer : List Level) → AreFine (reading (level_of sides) outer) ts
@@ -292,7 +277,7 @@ Fine Choice ts = (outer : List Level) → AreFine (reading new_level outer) ts
 fine_last : (read next : Reading) (ts : List Token) (t : Token) → AreFine read ts → read_on read ts ≡ next → ((at : ℕ) → IsFine at (structure_fault (length next.outer) (is_some next.level.piece) at t)) → AreFine read (ts ++ t ∷ [])
 fine_last read next ts t h e k = fine_append read ts (t ∷ []) h (subst (λ (r : Reading). AreFine r (t ∷ [])) (sym e) (k, tt))
 
-fine : (part : Part) (ts : List Token) (tree : Tree) → Spells part ts tree → Fine part ts
+pub fine : (part : Part) (ts : List Token) (tree : Tree) → Spells part ts tree → Fine part ts
 fine Item ts tree (set bytes) = λ (level : Level) (outer : List Level). (λ (at : ℕ). inl refl, tt)
 fine Item ts tree (group tokens t h) = λ (level : Level) (outer : List Level).
     let k = complete Choice tokens t h (settled level ∷ outer) in
@@ -313,70 +298,8 @@ fine Choice ts tree (or front back left right h k) = λ (outer : List Level).
     fine_append (reading new_level outer) front (Bar ∷ back) (fine Choice front left h outer)
     (subst (λ (r : Reading). AreFine r (Bar ∷ back)) (sym a.1) (λ (at : ℕ). inl refl, fine Sequence back right k (Some (choice_of a.0)) outer))
 
-abbrev OnlyDeep : Option PatternWhy → Type 0
-OnlyDeep fault = (fault ≡ None) ⊎ ((at : ℕ) × (fault ≡ Some (TooDeep at)))
-
-fine_faults : (end : ℕ) (placed : List Placed) (tokens : List Token) (read : Reading) → map cut_of placed ≡ map Ok tokens → AreFine read tokens → length (read_on read tokens).outer ≡ 0
-    → OnlyDeep (first_fault end (length read.outer) (is_some read.level.piece) placed)
-unfolding first_fault
-fine_faults end [] [] read e h k = inl (ap (λ t. cond t None (Some (Syntax end))) (is_zero (length read.outer) k))
-fine_faults end [] (t ∷ ts) read e h k = absurd (let f : map cut_of [] ≡ Ok t ∷ map Ok ts = e in cc)
-fine_faults end (p ∷ ps) [] read e h k = absurd (let f : p.1 ∷ map cut_of ps ≡ [] = e in cc)
-fine_faults end ((place, Err refusal) ∷ ps) (t ∷ ts) read e h k = absurd (let f : Err refusal ∷ map cut_of ps ≡ Ok t ∷ map Ok ts = e in cc)
-fine_faults end ((place, Ok token) ∷ ps) (t ∷ ts) read e h k =
-    let f : Ok token ∷ map cut_of ps ≡ Ok t ∷ map Ok ts = e in
-    let g : t ≡ token = cc in
-    let m : map cut_of ps ≡ map Ok ts = cc in
-    let later = first_fault end (depth_behind token (length read.outer)) (ends_piece token) ps in
-    ⊎_elim
-    (λ (n : structure_fault (length read.outer) (is_some read.level.piece) place t ≡ None).
-    let a = ap (λ (u : Token). structure_fault (length read.outer) (is_some read.level.piece) place u) (sym g) ∙ n in
-    let behind = behind_is read place token a in
-    let rest = fine_faults end ps ts (after_token read t) m h.1 k in
-    let r = subst (λ (u : Token). OnlyDeep (first_fault end (length (after_token read u).outer) (is_some (after_token read u).level.piece) ps)) g rest in
-    let s = subst (λ (d : ℕ). OnlyDeep (first_fault end d (is_some (after_token read token).level.piece) ps)) (sym behind.0) r in
-    let q = subst (λ (b : Bool). OnlyDeep (first_fault end (depth_behind token (length read.outer)) b ps)) (sym behind.1) s in
-    subst (λ (o : Option PatternWhy). OnlyDeep (first_fault_of o later)) (sym a) q)
-    (λ (n : structure_fault (length read.outer) (is_some read.level.piece) place t ≡ Some (TooDeep place)).
-    let a = ap (λ (u : Token). structure_fault (length read.outer) (is_some read.level.piece) place u) (sym g) ∙ n in
-    inr (place, ap (λ (o : Option PatternWhy). first_fault_of o later) a))
-    (h.0 place)
-
-leb_false : (n : ℕ) → nat_le n 2000 ≡ false → 2000 < n
-leb_false n h = grind (arith, nat_tests)
-
-accepts_read : (fault : Option PatternWhy) (found tree : Tree) → OnlyDeep fault → found ≡ tree → Accepts (read_as fault found) tree
-accepts_read fault found tree h e =
-    ⊎_elim
-    (λ (n : fault ≡ None). subst (λ (o : Option PatternWhy). Accepts (read_as o found) tree) (sym n) (small (nat_le (positions found) 2000) refl))
-    (λ (n : (at : ℕ) × (fault ≡ Some (TooDeep at))). subst (λ (o : Option PatternWhy). Accepts (read_as o found) tree) (sym n.1) tt)
-    h
-  where
-    small : (b : Bool) → nat_le (positions found) 2000 ≡ b → Accepts (cond b (Ok found) (Err TooManyPositions)) tree
-    small true k = e
-    small false k = subst (λ (t : Tree). 2000 < positions t) e (leb_false (positions found) k)
-
--- a text of the grammar is accepted, unless it has too many positions or open groups
-pub grammar_accepted : (text : List ℕ) (tree : Tree) → ReadsAs text tree → Accepts (pattern_of text) tree
-unfolding pattern_of reads_as
-grammar_accepted text tree h =
-    let k = complete Choice h.0 tree h.2 [] in
-    accepts_read (first_fault (length text) 0 false (tokens_from 0 0 text)) (tree_after new_reading (tokens_from 0 0 text)) tree
-    (fine_faults (length text) (tokens_from 0 0 text) h.0 new_reading h.1 (fine Choice h.0 tree h.2 []) (ap (λ (r : Reading). length r.outer) k.1)) (grammar_tree text tree h)
-
-abbrev no_why : Option PatternWhy
-no_why = None
-
-too_many : (fault : Option PatternWhy) (found : Tree) → read_as fault found ≡ Err TooManyPositions → ((fault ≡ None) × (2000 < positions found)) ⊎ (fault ≡ Some TooManyPositions)
-too_many (Some why) found e = inr (let f : Err why ≡ Err TooManyPositions = e in let g : why ≡ TooManyPositions = cc in ap (λ (w : PatternWhy). Some w) g)
-too_many None found e = large (nat_le (positions found) 2000) refl e
-  where
-    large : (b : Bool) → nat_le (positions found) 2000 ≡ b → cond b (Ok found) (Err TooManyPositions) ≡ Err TooManyPositions → ((no_why ≡ None) × (2000 < positions found)) ⊎ (no_why ≡ Some TooManyPositions)
-    large true k e = absurd (let f : Ok found ≡ Err TooManyPositions = e in cc)
-    large false k e = inl (refl, leb_false (positions found) k)
-
 -- each fault of tokens has a place
-abbrev HasPlace : Option PatternWhy → Type 0
+abbrev pub HasPlace : Option PatternWhy → Type 0
 HasPlace None = Unit {0}
 HasPlace (Some (Syntax place)) = Unit {0}
 HasPlace (Some (UnsupportedPattern place)) = Unit {0}
@@ -407,23 +330,10 @@ place_structure depth after_piece place Bar = tt
 place_structure depth after_piece place Anchor = tt
 place_structure depth after_piece place (Times least most) = place_unless after_piece (Syntax place) tt
 
-fault_has_place : (end depth : ℕ) (after_piece : Bool) (placed : List Placed) → HasPlace (first_fault end depth after_piece placed)
+pub fault_has_place : (end depth : ℕ) (after_piece : Bool) (placed : List Placed) → HasPlace (first_fault end depth after_piece placed)
 unfolding first_fault
 fault_has_place end depth after_piece [] = place_unless (depth == 0) (Syntax end) tt
 fault_has_place end depth after_piece ((place, Err refusal) ∷ placed) = place_refused place refusal
 fault_has_place end depth after_piece ((place, Ok token) ∷ placed) =
     place_first (structure_fault depth after_piece place token) (first_fault end (depth_behind token depth) (ends_piece token) placed) (place_structure depth after_piece place token)
     (fault_has_place end (depth_behind token depth) (ends_piece token) placed)
-
--- too many positions is the refusal of texts of the grammar that have them
-pub many_is_grammar : (text : List ℕ) → pattern_of text ≡ Err TooManyPositions → HasTooMany text
-unfolding pattern_of reads_as
-many_is_grammar text e =
-    let placed = tokens_from 0 0 text in
-    let fault = first_fault (length text) 0 false placed in
-    ⊎_elim
-    (λ (n : (fault ≡ None) × (2000 < positions (tree_after new_reading placed))).
-    let s = sound (length text) placed new_reading [] new_reading_spelled n.0 in
-    (tree_after new_reading placed, (s.0, s.1, s.2), n.1))
-    (λ (n : fault ≡ Some TooManyPositions). absurd (let h = subst HasPlace n (fault_has_place (length text) 0 false placed) in h))
-    (too_many fault (tree_after new_reading placed) e)

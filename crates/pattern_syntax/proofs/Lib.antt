@@ -7,6 +7,7 @@ pub mod BuildingLemmas
 pub mod ReadingLemmas
 pub mod ShapeLemmas
 pub mod GrammarLemmas
+pub mod FaultLemmas
 pub mod LiteralLemmas
 pub mod PartsLemmas
 pub mod RestLemmas

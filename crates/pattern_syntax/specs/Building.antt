@@ -15,10 +15,11 @@ use Rattle.pattern_syntax.specs.declared.pattern_fault.PatternFault.{PatternFaul
 use Rattle.pattern_syntax.specs.declared.node.Node.{Node}
 use Rattle.pattern_syntax.specs.declared.builder.Level.{Level}
 use Rattle.pattern_syntax.specs.declared.builder.Builder.{Builder}
+use Rattle.pattern_syntax.specs.declared.limits.TheConstants.{MOST_POSITIONS}
 
 -- positions are counted up to one more than a pattern may have
 abbrev pub capped : ℕ → ℕ
-capped n = min 2001 n
+capped n = min (MOST_POSITIONS + 1) n
 
 abbrev pub count_of : Tree → ℕ
 count_of tree = capped (positions tree)

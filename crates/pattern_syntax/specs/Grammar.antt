@@ -1,12 +1,9 @@
 -- The grammar of patterns over their tokens: a choice is sequences parted by bars; a sequence is a run of pieces, in which
 -- anchors leave nothing; a piece is an item, which a repeat may follow; an item is a byte, a set or a group.
-use Rattle.std.specs.Prelude.{◌≡◌, ℕ, ◌<◌, List, [], ◌∷◌, ◌++◌, map, Option, Result, Ok, Err}
+use Rattle.std.specs.Prelude.{ℕ, List, [], ◌∷◌, ◌++◌, Option, Result}
 use Rattle.pattern_syntax.specs.Tree.{Tree, Set, Nothing, Both, Either, Repeat}
-use Rattle.pattern_syntax.specs.Tokens.{Token, Bytes, Open, Close, Bar, Anchor, Times, Placed, tokens_from}
-use Rattle.pattern_syntax.specs.Reading.{positions}
+use Rattle.pattern_syntax.specs.Tokens.{Token, Bytes, Open, Close, Bar, Anchor, Times, Placed}
 use Rattle.pattern_syntax.specs.declared.refusal.Refusal.{Refusal}
-use Rattle.pattern_syntax.specs.declared.pattern_fault.PatternWhy.{PatternWhy}
-use Rattle.pattern_syntax.specs.declared.pattern_fault.PatternWhy.TheVariants.{Syntax, UnsupportedPattern, TooDeep, TooManyPositions}
 
 pub data Part : Type 0 where
   Item : Part
@@ -28,19 +25,3 @@ pub data Spells : Part → List Token → Tree → Type 0 where
 
 abbrev pub cut_of : Placed → Result Token Refusal
 cut_of placed = placed.1
-
--- the text is cut into tokens, none refused, that are a choice with this tree
-abbrev pub ReadsAs : List ℕ → Tree → Type 0
-ReadsAs text tree = (tokens : List Token) × (map cut_of (tokens_from 0 0 text) ≡ map Ok tokens) × Spells Choice tokens tree
-
--- a text of the grammar is refused for its positions or for its open groups alone
-abbrev pub Accepts : Result Tree PatternWhy → Tree → Type 0
-Accepts (Ok found) tree = found ≡ tree
-Accepts (Err TooManyPositions) tree = 2000 < positions tree
-Accepts (Err (TooDeep place)) tree = Unit {0}
-Accepts (Err (Syntax place)) tree = ⊥
-Accepts (Err (UnsupportedPattern place)) tree = ⊥
-
--- it has a tree, of too many positions
-abbrev pub HasTooMany : List ℕ → Type 0
-HasTooMany text = (tree : Tree) × ReadsAs text tree × (2000 < positions tree)

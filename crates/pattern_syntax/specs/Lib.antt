@@ -13,5 +13,6 @@ pub mod Exact
 pub mod Shape
 pub mod Building
 pub mod Grammar
+pub mod Faults
 pub mod Literal
 pub mod Parts

@@ -6,6 +6,7 @@ use Rattle.pattern_syntax.specs.declared.refusal.Refusal.{Refusal}
 use Rattle.pattern_syntax.specs.declared.refusal.Refusal.TheVariants as refusal
 use Rattle.pattern_syntax.specs.declared.pattern_fault.PatternWhy.{PatternWhy}
 use Rattle.pattern_syntax.specs.declared.pattern_fault.PatternWhy.TheVariants.{Syntax, UnsupportedPattern, TooDeep, TooManyPositions}
+use Rattle.pattern_syntax.specs.declared.limits.TheConstants.{MOST_GROUPS, MOST_POSITIONS}
 
 -- ---- faults
 
@@ -38,7 +39,7 @@ depth_behind (Times least most) depth = depth
 -- the fault of structure of a token, where so many groups are open and a piece ends right before it, or doesn't
 abbrev pub structure_fault : (depth : ℕ) (after_piece : Bool) (place : ℕ) → Token → Option PatternWhy
 structure_fault depth after_piece place Close = if depth == 0 then Some (Syntax place) else None
-structure_fault depth after_piece place Open = if nat_le 50 depth then Some (TooDeep place) else None
+structure_fault depth after_piece place Open = if nat_le MOST_GROUPS depth then Some (TooDeep place) else None
 structure_fault depth after_piece place (Times least most) = if after_piece then None else Some (Syntax place)
 structure_fault depth after_piece place (Bytes bytes) = None
 structure_fault depth after_piece place Bar = None
@@ -140,10 +141,10 @@ positions (Both first second) = positions first + positions second
 positions (Either left right) = positions left + positions right
 positions (Repeat least most piece) = positions piece * factor least most
 
--- the fault, or the tree where it has at most 2,000 positions
+-- the fault, or the tree where it has no more positions than it may
 abbrev pub read_as : Option PatternWhy → Tree → Result Tree PatternWhy
 read_as (Some why) tree = Err why
-read_as None tree = if nat_le (positions tree) 2000 then Ok tree else Err TooManyPositions
+read_as None tree = if nat_le (positions tree) MOST_POSITIONS then Ok tree else Err TooManyPositions
 
 -- what tokens read as
 unfoldable pub reads_as : (end : ℕ) → Reading → List Placed → Result Tree PatternWhy

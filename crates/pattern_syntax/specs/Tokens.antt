@@ -7,6 +7,7 @@ use Rattle.pattern_syntax.specs.Escapes.{Item, One, Class, escape_at}
 use Rattle.pattern_syntax.specs.Brackets.{set_at}
 use Rattle.pattern_syntax.specs.declared.refusal.Refusal.{Refusal}
 use Rattle.pattern_syntax.specs.declared.refusal.Refusal.TheVariants.{Syntax, Unsupported}
+use Rattle.pattern_syntax.specs.declared.limits.TheConstants.{MOST_TIMES}
 
 -- a byte or set, as its bytes; an anchor, which has no effect; a repeat
 pub data Token : Type 0 where
@@ -21,13 +22,13 @@ pub data Token : Type 0 where
 abbrev pub Cut : Type 0
 Cut = Result (Token × ℕ) Refusal
 
--- a number of times; beyond the greatest, 65,535, all are as one
+-- a number of times; beyond the greatest all are as one
 abbrev pub times_of : List ℕ → ℕ
-times_of digits = min 65536 (decimal 0 digits)
+times_of digits = min (MOST_TIMES + 1) (decimal 0 digits)
 
 -- one digit more
 abbrev pub times_more : ℕ → ℕ → ℕ
-times_more value b = min 65536 (value * 10 + (b - 48))
+times_more value b = min (MOST_TIMES + 1) (value * 10 + (b - 48))
 
 -- the digits at the beginning of a text, and what stands behind them
 abbrev pub digits_at : List ℕ → List ℕ
@@ -67,10 +68,10 @@ counts_after (d ∷ ds) rest = lower_counts (times_of (d ∷ ds)) (length (d ∷
 unfoldable pub counts_at : List ℕ → Counts
 counts_at text = counts_after (digits_at text) (behind_digits text)
 
--- a number above 65,535, or m above n
+-- a number that is too great, or m above n
 abbrev pub is_refused_count : ℕ → Option ℕ → Bool
-is_refused_count least None = nat_lt 65535 least
-is_refused_count least (Some most) = nat_lt 65535 most || nat_lt most least
+is_refused_count least None = nat_lt MOST_TIMES least
+is_refused_count least (Some most) = nat_lt MOST_TIMES most || nat_lt most least
 
 -- a repeat of this length, which takes a lazy mark and is refused before a +
 unfoldable pub marked_repeat : (least : ℕ) (most : Option ℕ) (length : ℕ) → List ℕ → Cut

@@ -8,14 +8,16 @@ ghost use Rattle.pattern_syntax.specs.Reading as reading;
 ghost use Rattle.pattern_syntax.specs.Building.{capped, level_counts, tree_on, outer_trees, Stands, Ends, Steps, Finishes, IsProperToken, IsSetNode, base_positions};
 ghost use Rattle.pattern_syntax.specs.Shape.{is_proper_set};
 ghost use Rattle.pattern_syntax.specs.Views.{token_of};
+ghost use Rattle.pattern_syntax.specs.declared.limits.TheConstants.{MOST_POSITIONS};
 
+use crate::limits::{MOST_GROUPS, MOST_POSITIONS};
 use crate::node::Node;
 use crate::pattern_fault::PatternFault;
 use crate::token::Token;
 use label_base::OutOfMemory;
 use std::alloc::Global;
 
-/// What is read of a choice, by its positions, counted up to 2,001: its sides before the last bar, the sequence since,
+/// What is read of a choice, by its positions, counted up to one more than a pattern may have: its sides before the last bar, the sequence since,
 /// and the piece that a repeat may follow.
 #[derive(Clone, Copy, Debug, PartialEq, Eq)]
 pub(crate) struct Level {
@@ -47,13 +49,13 @@ pub(crate) struct Builder {
 fn sum(a: u32, b: u32) -> u32
     ensures { result ≡ capped (a + b) }
 {
-    a.saturating_add(b).min(2001)
+    a.saturating_add(b).min(MOST_POSITIONS + 1)
 }
 
 fn product(a: u32, b: u32) -> u32
     ensures { result ≡ capped (a * b) }
 {
-    a.saturating_mul(b).min(2001)
+    a.saturating_mul(b).min(MOST_POSITIONS + 1)
 }
 
 fn factor(least: u32, most: Option<u32>) -> u32
@@ -160,7 +162,7 @@ impl Builder {
     fn open(&mut self, at: u32) -> Result<(), PatternFault>
         ensures { Steps result self.old self.new at tokens.Open }
     {
-        if self.outer.len() >= 50 {
+        if self.outer.len() >= MOST_GROUPS as usize {
             return Err(PatternFault::TooDeep { at });
         }
         let count = self.end_sequence()?;
@@ -247,7 +249,7 @@ impl Builder {
         if open_groups > 0 {
             return Err(PatternFault::Syntax { at });
         }
-        if count > 2000 {
+        if count > MOST_POSITIONS {
             return Err(PatternFault::TooManyPositions);
         }
         let Builder {
@@ -267,12 +269,12 @@ impl Builder {
 
     /// Whether no group is open, and the positions are too many, whatever follows.
     pub(crate) fn is_full(&self) -> bool
-        ensures { OnTrue result ((read : Reading) → Stands self.now read → (length read.outer ≡ 0) × (2000 < base_positions read.level)) }
+        ensures { OnTrue result ((read : Reading) → Stands self.now read → (length read.outer ≡ 0) × (MOST_POSITIONS < base_positions read.level)) }
     {
         let open_groups = self.outer.len();
         if open_groups > 0 {
             return false;
         }
-        sum(self.level.sides.unwrap_or(0), self.level.sequence) > 2000
+        sum(self.level.sides.unwrap_or(0), self.level.sequence) > MOST_POSITIONS
     }
 }

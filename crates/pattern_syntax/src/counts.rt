@@ -4,7 +4,9 @@ ghost use Rattle.pattern_syntax.specs.Tokens.{times_of, times_more, digits_at, b
 ghost use Rattle.pattern_syntax.specs.Classes.{is_digit};
 ghost use Rattle.pattern_syntax.specs.Views.{counts_of};
 
-/// The numbers of a repeat in braces, and its length with the braces. Numbers above 65,535 are all 65,536.
+use crate::limits::MOST_TIMES;
+
+/// The numbers of a repeat in braces, and its length with the braces. Numbers above the greatest are all as one.
 #[derive(Clone, Copy, Debug, PartialEq, Eq)]
 pub(crate) struct Counts {
     pub least: u32,
@@ -39,7 +41,7 @@ fn with_digit(value: u32, b: u8) -> u32
     ensures { result ≡ times_more value b }
 {
     let digit = u32::from(b.saturating_sub(b'0'));
-    value.saturating_mul(10).saturating_add(digit).min(65_536)
+    value.saturating_mul(10).saturating_add(digit).min(MOST_TIMES + 1)
 }
 
 #[tactic(auto, using(crate::proofs::TokenLemmas::fold_is_times))]
@@ -112,12 +114,12 @@ pub(crate) fn read_counts(text: &[u8]) -> Option<Counts>
     read_lower(number_of_times(digits), digits.len(), rest)
 }
 
-/// Whether a number is above 65,535, or the least above the greatest.
+/// Whether a number is too great, or the least above the greatest.
 pub(crate) fn is_refused(counts: &Counts) -> bool
     ensures { result ≡ is_refused_count counts.now.least counts.now.most }
 {
     match counts.most {
-        None => counts.least > 65_535,
-        Some(most) => most > 65_535 || most < counts.least,
+        None => counts.least > MOST_TIMES,
+        Some(most) => most > MOST_TIMES || most < counts.least,
     }
 }

@@ -10,6 +10,7 @@ mod cutting;
 mod escape;
 mod exact;
 mod item;
+mod limits;
 mod node;
 mod pattern;
 mod pattern_fault;
@@ -20,6 +21,7 @@ mod token;
 
 pub use byte_set::ByteSet;
 pub use exact::is_exact;
+pub use limits::{MOST_GROUPS, MOST_POSITIONS, MOST_TIMES};
 pub use node::Node;
 pub use pattern::Pattern;
 pub use pattern_fault::{PatternFault, PatternWhy};

@@ -89,8 +89,10 @@ impl Pattern {
     ghost use Rattle.pattern_syntax.specs.PatternCause.{pattern_cause};
     ghost use Rattle.pattern_syntax.specs.Reading.{pattern_of};
     ghost use Rattle.pattern_syntax.specs.Shape.{HasNoEmptySet, is_proper};
-    ghost use Rattle.pattern_syntax.specs.Grammar.{ReadsAs, Accepts, HasTooMany};
-    ghost use Rattle.pattern_syntax.specs.declared.pattern_fault.PatternWhy.TheVariants.{TooManyPositions};
+    ghost use Rattle.pattern_syntax.specs.Grammar.{Spells, Choice};
+    ghost use Rattle.pattern_syntax.specs.Tokens.{Token};
+    ghost use Rattle.pattern_syntax.specs.Faults.{IsPatternText, IsRefusedFor};
+    ghost use Rattle.pattern_syntax.specs.declared.pattern_fault.PatternWhy.{PatternWhy};
     ghost use Rattle.pattern_syntax.specs.Tree.{Tree};
     ghost use Rattle.pattern_syntax.specs.Language.{In};
     ghost use Rattle.pattern_syntax.specs.Literal.{literal_start_of};
@@ -157,14 +159,14 @@ impl Pattern {
         let _start = &self.start;
     }
 
-    /// A law on every text: what is read is what the grammar of tokens says, and that gives a text one tree. A text of the
-    /// grammar is refused for too many positions or open groups alone, and for too many positions only where its tree has them.
-    #[tactic(auto, using(crate::proofs::GrammarLemmas::read_is_grammar, crate::proofs::GrammarLemmas::grammar_accepted, crate::proofs::GrammarLemmas::many_is_grammar))]
+    /// A law on every text. It is read where it is a pattern of the grammar within the limits, and its tree is the only one.
+    /// It is refused for what stands amiss at the first place where anything does, and for too many positions where nothing
+    /// stands amiss and the tree has them.
+    #[tactic(auto, using(crate::proofs::FaultLemmas::reads_as_grammar, crate::proofs::FaultLemmas::refuses_as_grammar, crate::proofs::GrammarLemmas::grammar_single))]
     pub fn follows_grammar(_bytes: &[u8])
-        ensures sound { (tree : Tree) → pattern_of _bytes.now ≡ Ok tree → ReadsAs _bytes.now tree }
-        ensures single { (a b : Tree) → ReadsAs _bytes.now a → ReadsAs _bytes.now b → a ≡ b }
-        ensures accepted { (tree : Tree) → ReadsAs _bytes.now tree → Accepts (pattern_of _bytes.now) tree }
-        ensures many { pattern_of _bytes.now ≡ Err TooManyPositions → HasTooMany _bytes.now }
+        ensures read { (tree : Tree) → pattern_of _bytes.now ≡ Ok tree ↔ IsPatternText _bytes.now tree }
+        ensures single { (tokens : List Token) (a b : Tree) → Spells Choice tokens a → Spells Choice tokens b → a ≡ b }
+        ensures refused { (why : PatternWhy) → pattern_of _bytes.now ≡ Err why ↔ IsRefusedFor _bytes.now why }
     {}
 
     /// A copy of the start. Every text of the pattern's language begins with it.

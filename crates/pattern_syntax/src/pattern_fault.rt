@@ -27,6 +27,23 @@ pub enum PatternFault {
     OutOfMemory,
 }
 
+impl PatternFault {
+    ghost use Rattle.pattern_syntax.specs.PatternCause.{pattern_cause};
+
+    /// What is wrong with the text; nothing where memory ran out.
+    pub fn why(&self) -> Option<PatternWhy>
+        ensures { result ≡ pattern_cause self.now }
+    {
+        match *self {
+            PatternFault::Syntax { at } => Some(PatternWhy::Syntax { at }),
+            PatternFault::UnsupportedPattern { at } => Some(PatternWhy::UnsupportedPattern { at }),
+            PatternFault::TooDeep { at } => Some(PatternWhy::TooDeep { at }),
+            PatternFault::TooManyPositions => Some(PatternWhy::TooManyPositions),
+            PatternFault::OutOfMemory => None,
+        }
+    }
+}
+
 impl From<OutOfMemory> for PatternFault {
     ghost from_gives = { λ _ e. e ≡ faults.OutOfMemory };
 

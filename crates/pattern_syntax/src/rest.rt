@@ -4,8 +4,10 @@ ghost use Rattle.pattern_syntax.specs.PatternCause.{pattern_cause};
 ghost use Rattle.pattern_syntax.specs.Reading.{structure_fault, depth_behind, ends_piece, first_fault};
 ghost use Rattle.pattern_syntax.specs.Tokens.{tokens_from};
 ghost use Rattle.pattern_syntax.specs.Views.{token_of};
+ghost use Rattle.pattern_syntax.specs.declared.limits.TheConstants.{MOST_GROUPS};
 ghost use Rattle.pattern_syntax.specs.declared.pattern_fault.PatternWhy.TheVariants.{TooManyPositions};
 
+use crate::limits::MOST_GROUPS;
 use crate::pattern_fault::PatternFault;
 use crate::placed::token_from;
 use crate::token::Token;
@@ -15,7 +17,7 @@ fn find_fault(depth: u32, after_piece: bool, at: u32, token: &Token) -> Option<P
     ensures { MatchOption result (structure_fault depth after_piece at (token_of token.now) ≡ None) (λ fault. (pattern_cause fault ≡ structure_fault depth after_piece at (token_of token.now)) × (is_some (pattern_cause fault) ≡ true)) }
 {
     match token {
-        Token::Open => (depth >= 50).then_some(PatternFault::TooDeep { at }),
+        Token::Open => (depth >= MOST_GROUPS).then_some(PatternFault::TooDeep { at }),
         Token::Close => (depth == 0).then_some(PatternFault::Syntax { at }),
         Token::Times { .. } => (!after_piece).then_some(PatternFault::Syntax { at }),
         _ => None,
@@ -24,7 +26,7 @@ fn find_fault(depth: u32, after_piece: bool, at: u32, token: &Token) -> Option<P
 
 /// How many groups are open behind a token.
 fn depth_after(token: &Token, depth: u32) -> u32
-    requires { depth ≤ 50 }
+    requires { depth ≤ MOST_GROUPS }
     ensures { result ≡ depth_behind (token_of token.now) depth }
 {
     match token {

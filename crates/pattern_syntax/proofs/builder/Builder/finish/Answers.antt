@@ -8,8 +8,8 @@ pub returns-then-open_groups-gt0 : goal.returns-then-open_groups-gt0
 returns-then-open_groups-gt0 c = λ (read : Reading) (s : Stands c.args.self read).
     finish_open c.args.self c.end_choice.new.self read c.args.at s c.in_ok-count.ensures.outer (omega arith)
 
-pub returns-then-count-gt2000 : goal.returns-then-count-gt2000
-returns-then-count-gt2000 c = λ (read : Reading) (s : Stands c.args.self read).
+pub returns-then-count-gt-MOST_POSITIONS : goal.returns-then-count-gt-MOST_POSITIONS
+returns-then-count-gt-MOST_POSITIONS c = λ (read : Reading) (s : Stands c.args.self read).
     finish_many c.args.self c.end_choice.new.self read c.args.at c.in_ok-count.count s c.in_ok-count.ensures.outer (omega arith) (c.in_ok-count.ensures.ends read s) (omega arith)
 
 pub returns : goal.returns

@@ -5,8 +5,8 @@ use Rattle.pattern_syntax.specs.Building.{Stands}
 use Rattle.pattern_syntax.proofs.BuildingLemmas.{outer_length, is_deep, open_stands}
 use Rattle.pattern_syntax.proofs.builder.Builder.open.Goals as goal
 
-pub returns-then-len-ge50 : goal.returns-then-len-ge50
-returns-then-len-ge50 c = λ (read : Reading) (s : Stands c.args.self.now read).
+pub returns-then-len : goal.returns-then-len
+returns-then-len c = λ (read : Reading) (s : Stands c.args.self.now read).
     let e = ap length s.outer ∙ outer_length read.outer in
     is_deep (length read.outer) c.args.at (omega (arith, e))
 
