@@ -1,16 +1,16 @@
 -- The nodes of a pattern begin with its literal start, and so does each text of its language.
-use Rattle.std.proofs.Common.{◌≡◌, ◌∙◌, sym, refl, ap, subst, ℕ, suc, zero, ◌+◌, ◌==◌, ◌<◌, ◌≤◌, Bool, true, false, ◌&&◌, ◌||◌, List, [], ◌∷◌, ◌++◌, length, map, drop, get_or, append_assoc, append-nil, arith}
+use Rattle.std.proofs.Common.{◌≡◌, ◌∙◌, sym, refl, ap, subst, ℕ, suc, zero, ◌+◌, ◌*◌, ◌==◌, ◌<◌, ◌≤◌, Bool, true, false, ◌&&◌, ◌||◌, List, [], ◌∷◌, ◌++◌, length, map, drop, take, ◌-◌, get_or, append_assoc, append-nil, arith}
 use Rattle.std.specs.Prelude.{Option, Some, None, unwrap_or}
 use Rattle.std.specs.List.{list_any}
-use Rattle.std.proofs.lemmas.List.{drop_more, length-drop, length-map, length_push, get_or_push}
+use Rattle.std.proofs.lemmas.List.{drop_more, take_all, length-drop, length-map, length_push, get_or_push}
 use Rattle.std.proofs.lemmas.Bool.Decides.{nat_tests}
-use Rattle.pattern_syntax.specs.ByteSet.{only_of}
+use Rattle.pattern_syntax.specs.ByteSet.{has_byte, bytes_with, only_of}
 use Rattle.pattern_syntax.specs.Tree as tree
 use Rattle.pattern_syntax.specs.Tree.{Tree, TreeNode, tree_nodes}
 use Rattle.pattern_syntax.specs.Language.{In}
 use Rattle.pattern_syntax.specs.Nodes.{after_node, after_nodes, tree_of}
 use Rattle.pattern_syntax.specs.Shape.{is_proper, is_sequence, is_choice, tree_size, stack_size}
-use Rattle.pattern_syntax.specs.Literal.{single_byte, joined, single_bytes, literal_start_of, node_code, code_byte, leads, leading_bytes, led_byte, is_several}
+use Rattle.pattern_syntax.specs.Literal.{single_byte, joined, single_bytes, literal_start_of, node_code, code_byte, leads, leading_bytes, led_byte, is_several, with_bytes}
 use Rattle.pattern_syntax.specs.declared.node.Node.{Node}
 use Rattle.pattern_syntax.specs.declared.node.Node.TheVariants as node
 use Rattle.pattern_syntax.proofs.ShapeLemmas.{and_first, and_second}
@@ -352,3 +352,97 @@ text_begins t start e text h = let r = begins_with_start t text h in (r.0, r.1 �
 pub one_more : (ns : List Node) (start new : List ℕ) (at b : ℕ) (d : Node) → at + 1 < length ns → led_at ns at d ≡ Some b → leading_from 1 ns ≡ start ++ leading_from at ns → new ≡ start ++ b ∷ [] → leading_from 1 ns ≡ new ++ leading_from (at + 2) ns
 one_more ns start new at b d h e k f =
     k ∙ ap (λ (l : List ℕ). start ++ l) (leading_some ns at b d h e) ∙ sym (append_assoc start (b ∷ []) (leading_from (at + 2) ns)) ∙ ap (λ (l : List ℕ). l ++ leading_from (at + 2) ns) (sym f)
+
+joins_none : (o : Option ℕ) (rest bs : List ℕ) (b : ℕ) → leads o false rest ≡ b ∷ bs → ⊥
+joins_none (Some c) rest bs b h = cc
+joins_none None rest bs b h = cc
+
+-- two nodes that lead with a byte add it to a sequence
+led_nodes : (n m : Node) (t : Tree) (b : ℕ) (rest bs : List ℕ) → leads (code_byte (node_code n)) ((node_code m).0 == 2) rest ≡ b ∷ bs → (after_node m (after_node n (t ∷ [])) ≡ tree.Both t (tree.Set (b ∷ [])) ∷ []) × (rest ≡ bs)
+led_nodes (node.Byte c) node.Both t b rest bs h = let e : c ≡ b = cc in (rw e refl, cc)
+led_nodes (node.Set set) node.Both t b rest bs h = at (bytes_with (has_byte set)) h
+  where
+    at : (bytes : List ℕ) → leads (only_of bytes) true rest ≡ b ∷ bs → (tree.Both t (tree.Set bytes) ∷ [] ≡ tree.Both t (tree.Set (b ∷ [])) ∷ []) × (rest ≡ bs)
+    at [] h = cc
+    at (c ∷ []) h = let e : c ≡ b = cc in (rw e refl, cc)
+    at (c ∷ d ∷ more) h = cc
+led_nodes (node.Byte c) (node.Byte d) t b rest bs h = cc
+led_nodes (node.Byte c) (node.Set set) t b rest bs h = cc
+led_nodes (node.Byte c) node.Nothing t b rest bs h = cc
+led_nodes (node.Byte c) node.Either t b rest bs h = cc
+led_nodes (node.Byte c) (node.Repeat least most) t b rest bs h = cc
+led_nodes (node.Set set) (node.Byte d) t b rest bs h = absurd (joins_none (only_of (bytes_with (has_byte set))) rest bs b h)
+led_nodes (node.Set set) (node.Set other) t b rest bs h = absurd (joins_none (only_of (bytes_with (has_byte set))) rest bs b h)
+led_nodes (node.Set set) node.Nothing t b rest bs h = absurd (joins_none (only_of (bytes_with (has_byte set))) rest bs b h)
+led_nodes (node.Set set) node.Either t b rest bs h = absurd (joins_none (only_of (bytes_with (has_byte set))) rest bs b h)
+led_nodes (node.Set set) (node.Repeat least most) t b rest bs h = absurd (joins_none (only_of (bytes_with (has_byte set))) rest bs b h)
+led_nodes node.Nothing m t b rest bs h = cc
+led_nodes node.Both m t b rest bs h = cc
+led_nodes node.Either m t b rest bs h = cc
+led_nodes (node.Repeat least most) m t b rest bs h = cc
+
+-- the nodes that lead with bytes build a sequence of them
+led_front : (start : List ℕ) (ns : List Node) (t : Tree) → leading_bytes (map node_code ns) ≡ start → after_nodes (drop (2 * length start) ns) (with_bytes t start ∷ []) ≡ after_nodes ns (t ∷ [])
+led_front [] ns t h = refl
+led_front (b ∷ bs) [] t h = cc
+led_front (b ∷ bs) (n ∷ []) t h = cc
+led_front (b ∷ bs) (n ∷ m ∷ ns) t h =
+    let l = led_nodes n m t b (leading_bytes (map node_code ns)) bs h in
+    let e : 2 * length (b ∷ bs) ≡ suc (suc (2 * length bs)) = omega arith in
+    ap (λ k. after_nodes (drop k (n ∷ m ∷ ns)) (with_bytes (tree.Both t (tree.Set (b ∷ []))) bs ∷ [])) e ∙ led_front bs ns (tree.Both t (tree.Set (b ∷ []))) l.1 ∙ ap (after_nodes ns) (sym l.0)
+
+-- a sequence's nodes begin with the empty sequence
+first_nothing : (t : Tree) → is_proper t ≡ true → is_sequence t ≡ true → (rest : List TreeNode) × (tree_nodes t ≡ (1, ([], (0, None))) ∷ rest)
+first_nothing tree.Nothing p s = ([], refl)
+first_nothing (tree.Both f g) p s =
+    let r = first_nothing f (and_right (is_sequence f) (is_proper f) (is_proper g) p) (and_left (is_sequence f) _ p) in
+    (r.0 ++ (tree_nodes g ++ (2, ([], (0, None))) ∷ []), ap (λ (l : List TreeNode). l ++ (tree_nodes g ++ (2, ([], (0, None))) ∷ [])) r.1)
+  where
+    and_left : (x y : Bool) → (x && y) ≡ true → x ≡ true
+    and_left true y h = refl
+    and_left false y h = cc
+
+    and_right : (x y z : Bool) → (x && (y && z)) ≡ true → y ≡ true
+    and_right true true z h = refl
+    and_right true false z h = cc
+    and_right false y z h = cc
+first_nothing (tree.Set bytes) p s = cc
+first_nothing (tree.Either left right) p s = cc
+first_nothing (tree.Repeat least most piece) p s = cc
+
+is_nothing : (n : Node) → node_code n ≡ (1, ([], (0, None))) → n ≡ node.Nothing
+is_nothing (node.Byte b) h = absurd (let z : 0 ≡ 1 = ap (λ (x : TreeNode). x.0) h in omega arith)
+is_nothing (node.Set set) h = absurd (let z : 0 ≡ 1 = ap (λ (x : TreeNode). x.0) h in omega arith)
+is_nothing node.Nothing h = refl
+is_nothing node.Both h = absurd (let z : 2 ≡ 1 = ap (λ (x : TreeNode). x.0) h in omega arith)
+is_nothing node.Either h = absurd (let z : 3 ≡ 1 = ap (λ (x : TreeNode). x.0) h in omega arith)
+is_nothing (node.Repeat least most) h = absurd (let z : 4 ≡ 1 = ap (λ (x : TreeNode). x.0) h in omega arith)
+
+-- behind the nodes of the literal start
+pub behind_nodes : (ns : List Node) (t : Tree) → Keeps ns t → after_nodes ns [] ≡ t ∷ [] → is_several t ≡ false → after_nodes (drop (1 + 2 * length (literal_start_of t)) ns) (with_bytes tree.Nothing (literal_start_of t) ∷ []) ≡ t ∷ []
+behind_nodes [] t k b s = absurd (let n = k.nonempty in omega arith)
+behind_nodes (n ∷ ns) t k b s =
+    let q = not_several t s k.choice in
+    let f = first_nothing t k.proper q in
+    let e : n ≡ node.Nothing = is_nothing n (let h : node_code n ∷ map node_code ns ≡ (1, ([], (0, None))) ∷ f.0 = k.codes ∙ f.1 in cc) in
+    let l : leading_bytes (map node_code ns) ≡ literal_start_of t = leading_start (n ∷ ns) t k.codes k.proper q in
+    let m : 1 + 2 * length (literal_start_of t) ≡ suc (2 * length (literal_start_of t)) = omega arith in
+    ap (λ i. after_nodes (drop i (n ∷ ns)) (with_bytes tree.Nothing (literal_start_of t) ∷ [])) m ∙ led_front (literal_start_of t) ns tree.Nothing l ∙ sym (ap (λ x. after_nodes ns (after_node x [])) e) ∙ b
+
+pub behind_within : (ns : List Node) (t : Tree) → Keeps ns t → is_several t ≡ false → 1 + 2 * length (literal_start_of t) ≤ length ns
+behind_within ns t k s = within ns (leading_start ns t k.codes k.proper (not_several t s k.choice)) k.nonempty
+  where
+    leads_within : (start : List ℕ) (ns : List Node) → leading_bytes (map node_code ns) ≡ start → 2 * length start ≤ length ns
+    leads_within [] ns h = omega arith
+    leads_within (b ∷ bs) [] h = cc
+    leads_within (b ∷ bs) (n ∷ []) h = cc
+    leads_within (b ∷ bs) (n ∷ m ∷ ns) h = let r = leads_within bs ns (led_nodes n m tree.Nothing b (leading_bytes (map node_code ns)) bs h).1 in omega arith
+
+    within : (ns : List Node) → leading_from 1 ns ≡ literal_start_of t → 1 ≤ length ns → 1 + 2 * length (literal_start_of t) ≤ length ns
+    within [] h n = absurd (omega arith)
+    within (n ∷ ns) h p = let r = leads_within (literal_start_of t) ns h in omega arith
+
+pub rest_of_nodes : (ns : List Node) (t : Tree) (n : ℕ) (front : Tree) → n ≡ length (literal_start_of t) → after_nodes (drop (1 + 2 * length (literal_start_of t)) ns) (front ∷ []) ≡ t ∷ [] → after_nodes (take (length ns - (1 + 2 * n)) (drop (1 + 2 * n) ns)) (front ∷ []) ≡ t ∷ []
+rest_of_nodes ns t n front e h =
+    let d : length (drop (1 + 2 * n) ns) ≤ length ns - (1 + 2 * n) = let l = length-drop (1 + 2 * n) ns in omega (arith, l) in
+    ap (λ (l : List Node). after_nodes l (front ∷ [])) (take_all (length ns - (1 + 2 * n)) (drop (1 + 2 * n) ns) d) ∙ ap (λ m. after_nodes (drop (1 + 2 * m) ns) (front ∷ [])) e ∙ h

@@ -70,3 +70,8 @@ is_several (tree.Set bytes) = false
 is_several tree.Nothing = false
 is_several (tree.Both first second) = false
 is_several (tree.Repeat least most piece) = false
+
+-- a sequence with single bytes added at its end
+abbrev pub with_bytes : Tree → List ℕ → Tree
+with_bytes front [] = front
+with_bytes front (b ∷ bs) = with_bytes (tree.Both front (tree.Set (b ∷ []))) bs

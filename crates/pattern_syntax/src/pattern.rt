@@ -62,13 +62,14 @@ fn joined_byte(node: &Node, next: &Node) -> Option<u8>
 impl Pattern {
     ghost use Rattle.pattern_syntax.specs.PatternCause.{pattern_cause};
     ghost use Rattle.pattern_syntax.specs.Reading.{pattern_of};
-    ghost use Rattle.pattern_syntax.specs.Shape.{HasNoEmptySet, is_proper};
+    ghost use Rattle.pattern_syntax.specs.Shape.{HasNoEmptySet, is_proper, is_choice};
     ghost use Rattle.pattern_syntax.specs.Grammar.{ReadsAs, Accepts, HasTooMany};
     ghost use Rattle.pattern_syntax.specs.declared.pattern_fault.PatternWhy.TheVariants.{TooManyPositions};
     ghost use Rattle.pattern_syntax.specs.Tree.{Tree};
     ghost use Rattle.pattern_syntax.specs.Language.{In};
-    ghost use Rattle.pattern_syntax.specs.Literal.{literal_start_of};
-    ghost use Rattle.std.specs.Prelude.{ℕ, List, ◌++◌};
+    ghost use Rattle.pattern_syntax.specs.Literal.{literal_start_of, is_several, with_bytes};
+    ghost use Rattle.pattern_syntax.specs.Tree as tree;
+    ghost use Rattle.std.specs.Prelude.{ℕ, List, ◌++◌, false};
 
     /// Reads a pattern, in the dialect of pcrepattern(3) that selabel_file(5) needs: sets, groups, choices, repeats, and
     /// anchors at the ends. The fault at the least place decides; a pattern has at most 2,000 positions.
@@ -95,6 +96,25 @@ impl Pattern {
         ensures { after_nodes result.now [] ≡ self.now ∷ [] }
     {
         self.nodes.as_slice()
+    }
+
+    /// Whether a bar stands outside of all groups.
+    pub fn has_sides(&self) -> bool
+        ensures sides { result ≡ is_several self.now }
+        ensures choice { is_choice self.now ≡ true }
+    {
+        let nodes = self.nodes.as_slice();
+        is_either(&nodes[nodes.len() - 1])
+    }
+
+    /// The nodes behind those of the literal start, whose length is given: with a sequence of the start's single bytes
+    /// before them they build the pattern.
+    pub fn behind_start(&self, start: usize) -> &[Node]
+        requires sides { is_several self.now ≡ false }
+        requires start { start ≡ length (literal_start_of self.now) }
+        ensures { after_nodes result.now (with_bytes tree.Nothing (literal_start_of self.now) ∷ []) ≡ self.now ∷ [] }
+    {
+        &self.nodes.as_slice()[1 + 2 * start..]
     }
 
     /// A law on every pattern: each of its sets has a byte, and none of them 0; what stands before the last piece of a
