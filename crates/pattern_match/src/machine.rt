@@ -1,22 +1,23 @@
-ghost use Rattle.std.specs.Prelude.{◌≡◌, ◌++◌, ◌∷◌, ◌+◌, ◌/◌, ◌^◌, ◌<◌, ◌↔◌, ℕ, List, [], true, false, IfOk, IsTrue, length};
-ghost use Rattle.pattern_syntax.specs.Tree.{Tree};
-ghost use Rattle.pattern_syntax.specs.Language.{In, Opens, holds};
-ghost use Rattle.pattern_match.specs.States.{AreStatesOf, StandsFor, Below};
+ghost use Rattle.std.specs.Prelude.{◌≡◌, ◌∷◌, ◌+◌, ◌/◌, ◌↔◌, ℕ, List, [], true, false, IfOk, IsTrue};
+ghost use Rattle.pattern_syntax.specs.Language.{In};
+ghost use Rattle.pattern_syntax.specs.Nodes.{tree_of};
+ghost use Rattle.pattern_match.specs.States.{AreMarksOf, IsBehind, IsRead, is_bare};
 
 use crate::bits::{have_any, have_common};
 use crate::class::Class;
 use crate::compile::compiled;
-use crate::states::States;
+use crate::marks::Marks;
 use crate::tables::{accept_row, classes_of, follow_table};
-use label_base::{NormPath, OutOfMemory};
-use pattern_syntax::{Node, Pattern};
+use label_base::OutOfMemory;
+use pattern_syntax::Node;
 use std::alloc::Global;
 use std::marker::Model;
 
-/// A pattern made ready for matching, seen as the pattern.
+/// The automaton of a pattern, seen as the pattern. One that holds the empty text alone takes no memory for tables.
 #[derive(Debug, Drop)]
-pub struct Matcher {
+pub struct Machine {
     nodes: Vec<Node>,
+    is_bare: bool,
     // How many states there are, and in how many words they are kept.
     rows: usize,
     width: usize,
@@ -28,7 +29,7 @@ pub struct Matcher {
     classes: Vec<Class>,
 }
 
-impl Model for Matcher {
+impl Model for Machine {
     ghost use Rattle.pattern_syntax.specs.Tree.{Tree, tree_code};
 
     ghost Value = { Tree };
@@ -53,16 +54,28 @@ fn words_for(bits: usize) -> Result<usize, OutOfMemory>
     Ok((bits + 63) / 64)
 }
 
-impl Matcher {
-    /// Makes a pattern ready. There may be too little memory for its tables.
-    pub fn new(alloc: Global, pattern: &Pattern) -> Result<Matcher, OutOfMemory>
-        ensures { IfOk result (λ matcher. matcher ≡ pattern.now) }
+impl Machine {
+    /// The automaton of nodes in postfix order. There may be too little memory for its tables.
+    pub fn new(alloc: Global, nodes: Vec<Node>) -> Result<Machine, OutOfMemory>
+        ensures { IfOk result (λ machine. machine ≡ tree_of nodes.items) }
     {
-        let nodes = Vec::from_slice(alloc, pattern.nodes())?;
-        let positions = compiled(alloc, pattern.nodes())?.into_positions(alloc)?;
+        let fragment = compiled(alloc, nodes.as_slice())?;
+        if fragment.is_bare() {
+            return Ok(Machine {
+                nodes,
+                is_bare: true,
+                rows: 0,
+                width: 0,
+                follow: Vec::new(alloc),
+                accept: Vec::new(alloc),
+                classes: Vec::new(alloc),
+            });
+        }
+        let positions = fragment.into_positions(alloc)?;
         let width = words_for(positions.len())?;
-        Ok(Matcher {
+        Ok(Machine {
             nodes,
+            is_bare: false,
             rows: positions.len(),
             width,
             follow: follow_table(alloc, positions.as_slice(), width)?,
@@ -71,220 +84,95 @@ impl Matcher {
         })
     }
 
-    /// The states before the first byte of a text. Only they take memory, so later calls can't fail.
-    pub fn states(&self, alloc: Global) -> Result<States, OutOfMemory>
-        ensures made { IfOk result (λ states. AreStatesOf self.now states) }
-        ensures stands { IfOk result (λ states. StandsFor self.now states []) }
+    /// Whether the empty text is all that it holds.
+    pub fn is_bare(&self) -> bool
+        ensures { result ≡ is_bare self.now }
     {
-        let mut states = States::new(alloc, self.width)?;
-        states.restart(self.rows);
-        Ok(states)
+        self.is_bare
     }
 
-    /// Goes back to the states before the first byte.
-    pub fn restart(&self, states: &mut States)
-        requires { AreStatesOf self.now states.old }
-        ensures made { AreStatesOf self.now states.new }
-        ensures stands { StandsFor self.now states.new [] }
+    /// The marks before the first byte of a text.
+    pub fn marks(&self, alloc: Global) -> Result<Marks, OutOfMemory>
+        ensures made { IfOk result (λ marks. AreMarksOf self.now marks) }
+        ensures starts { IfOk result (λ marks. (text : List ℕ) → IsBehind self.now marks text ↔ In self.now text) }
     {
-        states.restart(self.rows);
+        let mut marks = Marks::new(alloc, self.width)?;
+        marks.restart(self.rows);
+        Ok(marks)
     }
 
-    /// Goes on by a byte: what the states stand for gets it at its end.
-    pub fn step(&self, states: &mut States, byte: u8)
-        requires { AreStatesOf self.now states.old }
-        ensures made { AreStatesOf self.now states.new }
-        ensures stands { (text : List ℕ) → StandsFor self.now states.old text → StandsFor self.now states.new (text ++ byte ∷ []) }
+    /// Goes back to the marks before the first byte.
+    pub fn restart(&self, marks: &mut Marks)
+        requires { AreMarksOf self.now marks.old }
+        ensures made { AreMarksOf self.now marks.new }
+        ensures starts { (text : List ℕ) → IsBehind self.now marks.new text ↔ In self.now text }
     {
-        states.step(self.follow.as_slice(), self.classes.as_slice(), byte);
+        marks.restart(self.rows);
     }
 
-    /// Whether the text that was read is in the language.
-    pub fn accepts(&self, states: &States) -> bool
-        requires { AreStatesOf self.now states.now }
-        ensures language { (text : List ℕ) → StandsFor self.now states.now text → IsTrue result ↔ In self.now text }
-        ensures value { (text : List ℕ) → StandsFor self.now states.now text → result ≡ holds self.now text }
+    /// Goes on by a byte.
+    pub fn step(&self, marks: &mut Marks, byte: u8)
+        requires some { is_bare self.now ≡ false }
+        requires made { AreMarksOf self.now marks.old }
+        ensures made { AreMarksOf self.now marks.new }
+        ensures behind { (text : List ℕ) → IsBehind self.now marks.old (byte ∷ text) ↔ IsBehind self.now marks.new text }
     {
-        have_common(states.as_slice(), self.accept.as_slice())
+        marks.step(self.follow.as_slice(), self.classes.as_slice(), byte);
     }
 
-    /// Whether some text of the language begins with the text that was read.
-    pub fn alive(&self, states: &States) -> bool
-        requires { AreStatesOf self.now states.now }
-        ensures { (text : List ℕ) → StandsFor self.now states.now text → IsTrue result ↔ Opens self.now text }
+    /// Whether a text may end here.
+    pub fn accepts(&self, marks: &Marks) -> bool
+        requires { AreMarksOf self.now marks.now }
+        ensures { IsTrue result ↔ IsBehind self.now marks.now [] }
     {
-        have_any(states.as_slice())
+        if self.is_bare {
+            return true;
+        }
+        have_common(marks.as_slice(), self.accept.as_slice())
     }
 
-    /// Makes the one set of states what the other is.
-    pub fn copy_states(&self, from: &States, to: &mut States)
-        requires from { AreStatesOf self.now from.now }
-        requires to { AreStatesOf self.now to.old }
-        ensures made { AreStatesOf self.now to.new }
-        ensures stands { (text : List ℕ) → StandsFor self.now from.now text → StandsFor self.now to.new text }
+    /// Whether some text is left.
+    pub fn alive(&self, marks: &Marks) -> bool
+        requires { AreMarksOf self.now marks.now }
+        ensures onto { (text : List ℕ) → IsBehind self.now marks.now text → result ≡ true }
+        ensures from { result ≡ true → (text : List ℕ) × IsBehind self.now marks.now text }
     {
-        to.copy_from(from);
+        if self.is_bare {
+            return true;
+        }
+        have_any(marks.as_slice())
     }
 
-    // Starts anew and reads a text. Where no text of the language begins so, it may stop early and say false.
-    fn read(&self, states: &mut States, text: &[u8]) -> bool
-        requires { AreStatesOf self.now states.old }
-        ensures made { AreStatesOf self.now states.new }
-        ensures stands { result ≡ true → StandsFor self.now states.new text.now }
-        ensures dead { result ≡ false → Opens self.now text.now → ⊥ }
+    // Starts anew and reads a text. Where nothing is left it may stop early and say false.
+    fn read(&self, marks: &mut Marks, text: &[u8]) -> bool
+        requires some { is_bare self.now ≡ false }
+        requires made { AreMarksOf self.now marks.old }
+        ensures made { AreMarksOf self.now marks.new }
+        ensures read { result ≡ true → IsRead self.now marks.new text.now }
+        ensures dead { result ≡ false → In self.now text.now → ⊥ }
     {
-        self.restart(states);
+        self.restart(marks);
         for byte in text {
-            if !self.alive(states) {
+            if !self.alive(marks) {
                 return false;
             }
-            self.step(states, *byte);
+            self.step(marks, *byte);
         }
         true
     }
 
-    /// Whether the text is in the language. The states are used anew.
-    pub fn matches(&self, states: &mut States, text: &[u8]) -> bool
-        requires { AreStatesOf self.now states.old }
-        ensures made { AreStatesOf self.now states.new }
+    /// Whether the text is in the language. The marks are used anew.
+    pub fn matches(&self, marks: &mut Marks, text: &[u8]) -> bool
+        requires { AreMarksOf self.now marks.old }
+        ensures made { AreMarksOf self.now marks.new }
         ensures language { IsTrue result ↔ In self.now text.now }
-        ensures value { result ≡ holds self.now text.now }
     {
-        if !self.read(states, text) {
+        if self.is_bare {
+            return text.is_empty();
+        }
+        if !self.read(marks, text) {
             return false;
         }
-        self.accepts(states)
-    }
-
-    /// Whether the language holds the path's text or a text below it: one that begins with the path and a slash, or for
-    /// `/` one that begins with a slash. The states are used anew.
-    pub fn alive_below(&self, states: &mut States, path: &NormPath) -> bool
-        requires { AreStatesOf self.now states.old }
-        ensures made { AreStatesOf self.now states.new }
-        ensures below { IsTrue result ↔ Below self.now path.now }
-    {
-        if !self.read(states, path.as_text()) {
-            return false;
-        }
-        if path.names() == 0 {
-            return self.alive(states);
-        }
-        if self.accepts(states) {
-            return true;
-        }
-        self.step(states, b'/');
-        self.alive(states)
-    }
-}
-
-/// The law that the test by every cut, by which clauses compute, is membership in the language.
-pub fn every_cut_is_membership()
-    ensures { (tree : Tree) (text : List ℕ) → IsTrue (holds tree text) ↔ In tree text }
-{}
-
-#[cfg(test)]
-mod tests {
-    use super::*;
-    use std::test::Fail;
-
-    fn matched(alloc: Global, pattern: &Pattern, text: &[u8]) -> Result<bool, OutOfMemory> {
-        let matcher = Matcher::new(alloc, pattern)?;
-        let mut states = matcher.states(alloc)?;
-        Ok(matcher.matches(&mut states, text))
-    }
-
-    fn lies_below(alloc: Global, pattern: &Pattern, path: &NormPath) -> Result<bool, OutOfMemory> {
-        let matcher = Matcher::new(alloc, pattern)?;
-        let mut states = matcher.states(alloc)?;
-        Ok(matcher.alive_below(&mut states, path))
-    }
-
-    // Whether the pattern's language holds the text, or nothing for what is no pattern.
-    fn held(alloc: Global, pattern: &[u8], text: &[u8]) -> Option<bool>
-        requires { length pattern.now < 2 ^ 32 }
-    {
-        let pattern = Pattern::read(alloc, pattern).ok()?;
-        matched(alloc, &pattern, text).ok()
-    }
-
-    // Whether the pattern's language holds the path or something below it.
-    fn below(alloc: Global, pattern: &[u8], path: &[u8]) -> Option<bool>
-        requires { length pattern.now < 2 ^ 32 }
-    {
-        let pattern = Pattern::read(alloc, pattern).ok()?;
-        let path = NormPath::read(alloc, path).ok()?;
-        lies_below(alloc, &pattern, &path).ok()
-    }
-
-    #[test]
-    fn texts_of_patterns(rt: HostRuntime) {
-        let alloc = rt.alloc();
-        assert_eq!(rt;
-            held(alloc, b"/usr/lib(64)?(/.*)?", b"/usr/lib64/x"),
-            Some(true)
-        );
-        assert_eq!(rt;
-            held(alloc, b"/usr/lib(64)?(/.*)?", b"/usr/lib6"),
-            Some(false)
-        );
-        assert_eq!(rt; held(alloc, b"/dev/[shmx]d[^/]*", b"/dev/sda1"), Some(true));
-        assert_eq!(rt;
-            held(alloc, b"/dev/[shmx]d[^/]*", b"/dev/sd/a"),
-            Some(false)
-        );
-        assert_eq!(rt; held(alloc, b"[]a]", b"]"), Some(true));
-        assert_eq!(rt; held(alloc, b"[]a]", b"a"), Some(true));
-        assert_eq!(rt; held(alloc, b"a{,3}", b"a{,3}"), Some(true));
-        assert_eq!(rt; held(alloc, b"a{,3}", b"aa"), Some(false));
-        assert_eq!(rt; held(alloc, b"^/a$", b"/a"), Some(true));
-        assert_eq!(rt; held(alloc, b"^/a$", b"/a/b"), Some(false));
-        assert_eq!(rt; held(alloc, b"a**", b"a"), None);
-    }
-
-    #[test]
-    fn repeats(rt: HostRuntime) {
-        let alloc = rt.alloc();
-        assert_eq!(rt; held(alloc, b"(ab?){2,3}", b"aba"), Some(true));
-        assert_eq!(rt; held(alloc, b"(ab?){2,3}", b"ab"), Some(false));
-        assert_eq!(rt; held(alloc, b"(ab?){2,3}", b"aaaa"), Some(false));
-        assert_eq!(rt; held(alloc, b"(a?){3,}b", b"aaaaab"), Some(true));
-        assert_eq!(rt; held(alloc, b"(a?){3,}b", b"b"), Some(true));
-        assert_eq!(rt; held(alloc, b".{70}", &[b'x'; 70]), Some(true));
-        assert_eq!(rt; held(alloc, b".{70}", &[b'x'; 69]), Some(false));
-    }
-
-    #[test]
-    fn below_paths(rt: HostRuntime) {
-        let alloc = rt.alloc();
-        assert_eq!(rt; below(alloc, b"/usr/lib(/.*)?", b"/"), Some(true));
-        assert_eq!(rt; below(alloc, b"/usr/lib(/.*)?", b"/usr"), Some(true));
-        assert_eq!(rt; below(alloc, b"/usr/lib(/.*)?", b"/usr/lib"), Some(true));
-        assert_eq!(rt; below(alloc, b"/usr/lib(/.*)?", b"/us"), Some(false));
-        assert_eq!(rt; below(alloc, b"/usr/libx", b"/usr/lib"), Some(false));
-        assert_eq!(rt; below(alloc, b"x", b"/"), Some(false));
-    }
-
-    #[test]
-    fn states_of_a_text(rt: HostRuntime) -> Result<(), Fail> {
-        let alloc = rt.alloc();
-        let Ok(pattern) = Pattern::read(alloc, b"/ab?") else {
-            panic!(rt; "a pattern")
-        };
-        let matcher = Matcher::new(alloc, &pattern)?;
-        let mut states = matcher.states(alloc)?;
-        let mut kept = matcher.states(alloc)?;
-        matcher.step(&mut states, b'/');
-        assert!(rt; matcher.alive(&states));
-        assert!(rt; !matcher.accepts(&states));
-        matcher.step(&mut states, b'a');
-        assert!(rt; matcher.accepts(&states));
-        matcher.copy_states(&states, &mut kept);
-        matcher.step(&mut states, b'c');
-        assert!(rt; !matcher.alive(&states));
-        assert!(rt; matcher.accepts(&kept));
-        matcher.restart(&mut kept);
-        assert!(rt; !matcher.accepts(&kept));
-        every_cut_is_membership();
-        Ok(())
+        self.accepts(marks)
     }
 }

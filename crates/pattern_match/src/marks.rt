@@ -10,15 +10,15 @@ use label_base::OutOfMemory;
 use std::alloc::Global;
 use std::marker::Model;
 
-/// The states that a matcher is in behind a text, seen as bits of words.
+/// The marked states of an automaton, seen as bits of words.
 #[derive(Debug, Drop)]
-pub struct States {
+pub struct Marks {
     marks: Vec<u64>,
     // Where the next marks are gathered.
     reached: Vec<u64>,
 }
 
-impl Model for States {
+impl Model for Marks {
     ghost use Rattle.std.specs.Prelude.{List, ℕ, ◌≡◌, length};
 
     ghost Value = { List ℕ };
@@ -28,12 +28,12 @@ impl Model for States {
     ghost invariant = { λ s. length s.reached.items ≡ length s.marks.items };
 }
 
-impl States {
+impl Marks {
     /// So many words without a state.
-    pub(crate) fn new(alloc: Global, width: usize) -> Result<States, OutOfMemory>
-        ensures { IfOk result (λ states. length states ≡ width) }
+    pub(crate) fn new(alloc: Global, width: usize) -> Result<Marks, OutOfMemory>
+        ensures { IfOk result (λ marks. length marks ≡ width) }
     {
-        Ok(States {
+        Ok(Marks {
             marks: no_bits(alloc, width)?,
             reached: no_bits(alloc, width)?,
         })
@@ -69,8 +69,8 @@ impl States {
         keep_taking(&mut self.marks, self.reached.as_slice(), classes, byte);
     }
 
-    /// Takes over the states of another.
-    pub(crate) fn copy_from(&mut self, from: &States)
+    /// Takes over the marks of another.
+    pub(crate) fn copy_from(&mut self, from: &Marks)
         requires { length from.now ≡ length self.old }
         ensures { self.new ≡ from.now }
     {

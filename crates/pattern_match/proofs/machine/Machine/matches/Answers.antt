@@ -1,7 +1,7 @@
-use Rattle.std.proofs.Common.{refl}
-use Rattle.pattern_syntax.specs.Language.{holds}
-use Rattle.pattern_match.proofs.Reading.{not_holds}
-use Rattle.pattern_match.proofs.matcher.Matcher.matches.Goals as goal
+use Rattle.std.proofs.Common.{◌≡◌, ◌∙◌, ap, sym, true}
+use Rattle.pattern_match.specs.States.{is_bare}
+use Rattle.pattern_match.proofs.Ready.{bare_matches}
+use Rattle.pattern_match.proofs.machine.Machine.matches.Goals as goal
 
-pub returns-then-not-read-clause-value : goal.returns-then-not-read-clause-value
-returns-then-not-read-clause-value c = not_holds c.args.self.now c.args.text.now (holds c.args.self.now c.args.text.now) refl (c.if-not-read.ensures.dead refl)
+pub returns-then-self-clause-language : goal.returns-then-self-clause-language
+returns-then-self-clause-language c = bare_matches c.args.self.now c.args.text.now c.is_empty.result (ap is_bare (sym c.self.view_is) ∙ sym c.self.invariant.bare ∙ c.if-self.true) c.is_empty.ensures

@@ -1,6 +1,6 @@
 use Rattle.std.proofs.Common.{take}
-use Rattle.pattern_match.specs.States.{AreStatesOf, StandsFor}
-use Rattle.pattern_match.proofs.matcher.Matcher.read.Given as goal
+use Rattle.pattern_match.specs.States.{AreMarksOf, IsRead}
+use Rattle.pattern_match.proofs.machine.Machine.read.Given as goal
 
 abbrev pub invariant-loop-byte : goal.invariant-loop-byte
-invariant-loop-byte l = AreStatesOf l.self l.states × StandsFor l.self l.states (take l.byte-index l.text)
+invariant-loop-byte l = AreMarksOf l.self l.marks × IsRead l.self l.marks (take l.byte-index l.text)

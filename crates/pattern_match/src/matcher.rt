@@ -1,0 +1,328 @@
+ghost use Rattle.std.specs.Prelude.{◌≡◌, ◌++◌, ◌∷◌, ◌+◌, ◌/◌, ◌^◌, ◌<◌, ◌↔◌, ℕ, List, [], true, false, IfOk, IsTrue, length};
+ghost use Rattle.pattern_syntax.specs.Tree.{Tree};
+ghost use Rattle.pattern_syntax.specs.Language.{In, Opens, holds};
+ghost use Rattle.pattern_syntax.specs.Literal.{literal_start_of};
+ghost use Rattle.pattern_syntax.specs.Nodes.{tree_of};
+ghost use Rattle.pattern_syntax.specs.declared.node.Node.TheVariants as node;
+ghost use Rattle.pattern_match.specs.Starts.{Parts};
+ghost use Rattle.pattern_match.specs.States.{AreStatesOf, StandsFor, Below};
+
+use crate::machine::Machine;
+use crate::states::States;
+use label_base::{Bytes, NormPath, OutOfMemory};
+use pattern_syntax::{Node, Pattern};
+use std::alloc::Global;
+use std::marker::Model;
+
+/// A pattern made ready for matching, seen as the pattern.
+#[derive(Debug, Drop)]
+pub struct Matcher {
+    start: Bytes,
+    // The automaton of what stands behind the literal start.
+    machine: Machine,
+}
+
+impl Model for Matcher {
+    ghost use Rattle.std.specs.Prelude.{◌≡◌};
+    ghost use Rattle.pattern_syntax.specs.Tree.{Tree, tree_code};
+
+    ghost Value = { Tree };
+
+    ghost coded = { tree_code };
+
+    ghost use Rattle.pattern_syntax.specs.Literal.{literal_start_of};
+    ghost use Rattle.pattern_match.specs.Starts.{behind_start, with_start};
+
+    ghost view = { λ m. with_start m.start m.machine };
+
+    ghost invariant = { λ m. record {
+      start : m.start ≡ literal_start_of (with_start m.start m.machine);
+      behind : m.machine ≡ behind_start (with_start m.start m.machine);
+    } };
+}
+
+// The nodes behind a start, as a sequence of their own.
+fn sequence(alloc: Global, rest: &[Node]) -> Result<Vec<Node>, OutOfMemory>
+    ensures { IfOk result (λ nodes. tree_of nodes.items ≡ tree_of (node.Nothing ∷ rest.now)) }
+{
+    let mut nodes = Vec::new(alloc);
+    if rest.is_empty() {
+        return Ok(nodes);
+    }
+    nodes.reserve(rest.len() + 1)?;
+    nodes.push(Node::Nothing)?;
+    nodes.extend_from_slice(rest)?;
+    Ok(nodes)
+}
+
+// The nodes of what stands behind the literal start, whose length is given.
+fn nodes_behind(alloc: Global, pattern: &Pattern, start: usize) -> Result<Vec<Node>, OutOfMemory>
+    requires { start ≡ length (literal_start_of pattern.now) }
+    ensures { IfOk result (λ nodes. Parts pattern.now (literal_start_of pattern.now) (tree_of nodes.items)) }
+{
+    pattern.has_no_empty_set();
+    if pattern.has_sides() {
+        return Ok(Vec::from_slice(alloc, pattern.nodes())?);
+    }
+    let nodes = sequence(alloc, pattern.behind_start(start))?;
+    Ok(nodes)
+}
+
+impl Matcher {
+    /// Makes a pattern ready. There may be too little memory for its tables.
+    pub fn new(alloc: Global, pattern: &Pattern) -> Result<Matcher, OutOfMemory>
+        ensures { IfOk result (λ matcher. matcher ≡ pattern.now) }
+    {
+        let start = pattern.literal_start(alloc)?;
+        let nodes = nodes_behind(alloc, pattern, start.len())?;
+        Ok(Matcher {
+            start,
+            machine: Machine::new(alloc, nodes)?,
+        })
+    }
+
+    /// The states before the first byte of a text. Only they take memory, so later calls can't fail.
+    pub fn states(&self, alloc: Global) -> Result<States, OutOfMemory>
+        ensures made { IfOk result (λ states. AreStatesOf self.now states) }
+        ensures stands { IfOk result (λ states. StandsFor self.now states []) }
+    {
+        Ok(States {
+            seen: 0,
+            marks: self.machine.marks(alloc)?,
+        })
+    }
+
+    /// Goes back to the states before the first byte.
+    pub fn restart(&self, states: &mut States)
+        requires { AreStatesOf self.now states.old }
+        ensures made { AreStatesOf self.now states.new }
+        ensures stands { StandsFor self.now states.new [] }
+    {
+        states.seen = 0;
+        self.machine.restart(&mut states.marks);
+    }
+
+    /// Goes on by a byte: what the states stand for gets it at its end.
+    pub fn step(&self, states: &mut States, byte: u8)
+        requires { AreStatesOf self.now states.old }
+        ensures made { AreStatesOf self.now states.new }
+        ensures stands { (text : List ℕ) → StandsFor self.now states.old text → StandsFor self.now states.new (text ++ byte ∷ []) }
+    {
+        let seen = states.seen;
+        let start = self.start.as_slice();
+        if seen > start.len() {
+            return;
+        }
+        if seen < start.len() {
+            if start[seen] == byte {
+                states.seen = seen + 1;
+                return;
+            }
+            states.seen = start.len() + 1;
+            return;
+        }
+        if self.machine.is_bare() {
+            states.seen = start.len() + 1;
+            return;
+        }
+        self.machine.step(&mut states.marks, byte);
+    }
+
+    /// Whether the text that was read is in the language.
+    pub fn accepts(&self, states: &States) -> bool
+        requires { AreStatesOf self.now states.now }
+        ensures language { (text : List ℕ) → StandsFor self.now states.now text → IsTrue result ↔ In self.now text }
+        ensures value { (text : List ℕ) → StandsFor self.now states.now text → result ≡ holds self.now text }
+    {
+        if states.seen != self.start.len() {
+            return false;
+        }
+        self.machine.accepts(&states.marks)
+    }
+
+    /// Whether some text of the language begins with the text that was read.
+    pub fn alive(&self, states: &States) -> bool
+        requires { AreStatesOf self.now states.now }
+        ensures { (text : List ℕ) → StandsFor self.now states.now text → IsTrue result ↔ Opens self.now text }
+    {
+        if states.seen > self.start.len() {
+            return false;
+        }
+        self.machine.alive(&states.marks)
+    }
+
+    /// Makes the one set of states what the other is.
+    pub fn copy_states(&self, from: &States, to: &mut States)
+        requires from { AreStatesOf self.now from.now }
+        requires to { AreStatesOf self.now to.old }
+        ensures made { AreStatesOf self.now to.new }
+        ensures stands { (text : List ℕ) → StandsFor self.now from.now text → StandsFor self.now to.new text }
+    {
+        to.seen = from.seen;
+        to.marks.copy_from(&from.marks);
+    }
+
+    // Starts anew and reads a text. Where no text of the language begins so, it may stop early and say false.
+    fn read(&self, states: &mut States, text: &[u8]) -> bool
+        requires { AreStatesOf self.now states.old }
+        ensures made { AreStatesOf self.now states.new }
+        ensures stands { result ≡ true → StandsFor self.now states.new text.now }
+        ensures dead { result ≡ false → Opens self.now text.now → ⊥ }
+    {
+        self.restart(states);
+        for byte in text {
+            if !self.alive(states) {
+                return false;
+            }
+            self.step(states, *byte);
+        }
+        true
+    }
+
+    /// Whether the text is in the language. The states are used anew.
+    pub fn matches(&self, states: &mut States, text: &[u8]) -> bool
+        requires { AreStatesOf self.now states.old }
+        ensures made { AreStatesOf self.now states.new }
+        ensures language { IsTrue result ↔ In self.now text.now }
+        ensures value { result ≡ holds self.now text.now }
+    {
+        let start = self.start.as_slice();
+        if !text.starts_with(start) {
+            return false;
+        }
+        self.machine
+            .matches(&mut states.marks, &text[start.len()..])
+    }
+
+    /// Whether the language holds the path's text or a text below it: one that begins with the path and a slash, or for
+    /// `/` one that begins with a slash. The states are used anew.
+    pub fn alive_below(&self, states: &mut States, path: &NormPath) -> bool
+        requires { AreStatesOf self.now states.old }
+        ensures made { AreStatesOf self.now states.new }
+        ensures below { IsTrue result ↔ Below self.now path.now }
+    {
+        if !self.read(states, path.as_text()) {
+            return false;
+        }
+        if path.names() == 0 {
+            return self.alive(states);
+        }
+        if self.accepts(states) {
+            return true;
+        }
+        self.step(states, b'/');
+        self.alive(states)
+    }
+}
+
+/// The law that the test by every cut, by which clauses compute, is membership in the language.
+pub fn every_cut_is_membership()
+    ensures { (tree : Tree) (text : List ℕ) → IsTrue (holds tree text) ↔ In tree text }
+{}
+
+#[cfg(test)]
+mod tests {
+    use super::*;
+    use std::test::Fail;
+
+    fn matched(alloc: Global, pattern: &Pattern, text: &[u8]) -> Result<bool, OutOfMemory> {
+        let matcher = Matcher::new(alloc, pattern)?;
+        let mut states = matcher.states(alloc)?;
+        Ok(matcher.matches(&mut states, text))
+    }
+
+    fn lies_below(alloc: Global, pattern: &Pattern, path: &NormPath) -> Result<bool, OutOfMemory> {
+        let matcher = Matcher::new(alloc, pattern)?;
+        let mut states = matcher.states(alloc)?;
+        Ok(matcher.alive_below(&mut states, path))
+    }
+
+    // Whether the pattern's language holds the text, or nothing for what is no pattern.
+    fn held(alloc: Global, pattern: &[u8], text: &[u8]) -> Option<bool>
+        requires { length pattern.now < 2 ^ 32 }
+    {
+        let pattern = Pattern::read(alloc, pattern).ok()?;
+        matched(alloc, &pattern, text).ok()
+    }
+
+    // Whether the pattern's language holds the path or something below it.
+    fn below(alloc: Global, pattern: &[u8], path: &[u8]) -> Option<bool>
+        requires { length pattern.now < 2 ^ 32 }
+    {
+        let pattern = Pattern::read(alloc, pattern).ok()?;
+        let path = NormPath::read(alloc, path).ok()?;
+        lies_below(alloc, &pattern, &path).ok()
+    }
+
+    #[test]
+    fn texts_of_patterns(rt: HostRuntime) {
+        let alloc = rt.alloc();
+        assert_eq!(rt;
+            held(alloc, b"/usr/lib(64)?(/.*)?", b"/usr/lib64/x"),
+            Some(true)
+        );
+        assert_eq!(rt;
+            held(alloc, b"/usr/lib(64)?(/.*)?", b"/usr/lib6"),
+            Some(false)
+        );
+        assert_eq!(rt; held(alloc, b"/dev/[shmx]d[^/]*", b"/dev/sda1"), Some(true));
+        assert_eq!(rt;
+            held(alloc, b"/dev/[shmx]d[^/]*", b"/dev/sd/a"),
+            Some(false)
+        );
+        assert_eq!(rt; held(alloc, b"[]a]", b"]"), Some(true));
+        assert_eq!(rt; held(alloc, b"[]a]", b"a"), Some(true));
+        assert_eq!(rt; held(alloc, b"a{,3}", b"a{,3}"), Some(true));
+        assert_eq!(rt; held(alloc, b"a{,3}", b"aa"), Some(false));
+        assert_eq!(rt; held(alloc, b"^/a$", b"/a"), Some(true));
+        assert_eq!(rt; held(alloc, b"^/a$", b"/a/b"), Some(false));
+        assert_eq!(rt; held(alloc, b"a**", b"a"), None);
+    }
+
+    #[test]
+    fn repeats(rt: HostRuntime) {
+        let alloc = rt.alloc();
+        assert_eq!(rt; held(alloc, b"(ab?){2,3}", b"aba"), Some(true));
+        assert_eq!(rt; held(alloc, b"(ab?){2,3}", b"ab"), Some(false));
+        assert_eq!(rt; held(alloc, b"(ab?){2,3}", b"aaaa"), Some(false));
+        assert_eq!(rt; held(alloc, b"(a?){3,}b", b"aaaaab"), Some(true));
+        assert_eq!(rt; held(alloc, b"(a?){3,}b", b"b"), Some(true));
+        assert_eq!(rt; held(alloc, b".{70}", &[b'x'; 70]), Some(true));
+        assert_eq!(rt; held(alloc, b".{70}", &[b'x'; 69]), Some(false));
+    }
+
+    #[test]
+    fn below_paths(rt: HostRuntime) {
+        let alloc = rt.alloc();
+        assert_eq!(rt; below(alloc, b"/usr/lib(/.*)?", b"/"), Some(true));
+        assert_eq!(rt; below(alloc, b"/usr/lib(/.*)?", b"/usr"), Some(true));
+        assert_eq!(rt; below(alloc, b"/usr/lib(/.*)?", b"/usr/lib"), Some(true));
+        assert_eq!(rt; below(alloc, b"/usr/lib(/.*)?", b"/us"), Some(false));
+        assert_eq!(rt; below(alloc, b"/usr/libx", b"/usr/lib"), Some(false));
+        assert_eq!(rt; below(alloc, b"x", b"/"), Some(false));
+    }
+
+    #[test]
+    fn states_of_a_text(rt: HostRuntime) -> Result<(), Fail> {
+        let alloc = rt.alloc();
+        let Ok(pattern) = Pattern::read(alloc, b"/ab?") else {
+            panic!(rt; "a pattern")
+        };
+        let matcher = Matcher::new(alloc, &pattern)?;
+        let mut states = matcher.states(alloc)?;
+        let mut kept = matcher.states(alloc)?;
+        matcher.step(&mut states, b'/');
+        assert!(rt; matcher.alive(&states));
+        assert!(rt; !matcher.accepts(&states));
+        matcher.step(&mut states, b'a');
+        assert!(rt; matcher.accepts(&states));
+        matcher.copy_states(&states, &mut kept);
+        matcher.step(&mut states, b'c');
+        assert!(rt; !matcher.alive(&states));
+        assert!(rt; matcher.accepts(&kept));
+        matcher.restart(&mut kept);
+        assert!(rt; !matcher.accepts(&kept));
+        every_cut_is_membership();
+        Ok(())
+    }
+}
