@@ -6,10 +6,14 @@ mod bits;
 mod class;
 mod compile;
 mod fragment;
+mod machine;
+mod marks;
 mod matcher;
 mod position;
+mod skipping;
 mod states;
 mod tables;
+mod taking;
 
 pub use matcher::{Matcher, every_cut_is_membership};
 pub use states::States;

@@ -1,5 +1,4 @@
 ghost use Rattle.std.specs.Prelude.{◌≡◌};
-ghost use Rattle.pattern_syntax.specs.PatternCause.{pattern_cause};
 ghost use Rattle.pattern_syntax.specs.declared.pattern_fault.PatternFault.TheVariants as faults;
 
 use label_base::OutOfMemory;
@@ -49,22 +48,5 @@ impl From<OutOfMemory> for PatternFault {
 
     fn from(_refused: OutOfMemory) -> PatternFault {
         PatternFault::OutOfMemory
-    }
-}
-
-impl PatternFault {
-    /// What is wrong with the text, or none where memory was wanting.
-    pub fn why(&self) -> Option<PatternWhy>
-        ensures { result ≡ pattern_cause self.now }
-    {
-        match self {
-            PatternFault::Syntax { at } => Some(PatternWhy::Syntax { at: *at }),
-            PatternFault::UnsupportedPattern { at } => Some(PatternWhy::UnsupportedPattern {
-                at: *at,
-            }),
-            PatternFault::TooDeep { at } => Some(PatternWhy::TooDeep { at: *at }),
-            PatternFault::TooManyPositions => Some(PatternWhy::TooManyPositions),
-            PatternFault::OutOfMemory => None,
-        }
     }
 }

@@ -1,0 +1,219 @@
+-- A matcher's tables and what its calls do to sets of states.
+use Rattle.std.proofs.Common.{◌≡◌, refl, sym, ◌∙◌, ap, subst, ℕ, zero, suc, ◌+◌, ◌-◌, ◌*◌, ◌/◌, ◌<◌, ◌≤◌, ◌==◌, Bool, true, false, List, [], ◌∷◌, length, map, None, ◌⊎◌, inl, inr, arith}
+use Rattle.std.specs.Prelude.{◌&&◌, slice_get, nat_lt}
+use Rattle.std.proofs.lemmas.List.{length-map}
+use Rattle.std.specs.List.{list_any}
+use Rattle.pattern_syntax.specs.Tree.{Tree}
+use Rattle.pattern_match.specs.Class.{class_bytes, takes_at}
+use Rattle.pattern_match.specs.declared.class.Class.{Class}
+use Rattle.pattern_match.proofs.Classes.{class_takes}
+use Rattle.pattern_match.specs.Residuals.{all_residuals, has_texts}
+use Rattle.pattern_match.specs.Automaton.{Place, automaton, all_places}
+use Rattle.pattern_match.specs.States.{bit, width_of, AreMarks}
+use Rattle.pattern_match.specs.Tables.{AreTables, leads, ends, has, any_below, bytes_in}
+use Rattle.pattern_match.proofs.Language.{and_first, and_second, and_both, or_either, or_left, or_right}
+use Rattle.pattern_match.proofs.WordBits.{bit_within}
+use Rattle.pattern_match.proofs.Rows.{get_past, row_within}
+use Rattle.pattern_match.proofs.LowestBits.{any_past}
+use Rattle.pattern_match.proofs.Stepping.{IsStep, IsEnd, IsStart, Starts, as_many, starts}
+
+any_from : (test : ℕ → Bool) (n : ℕ) → any_below test n ≡ true → (p : ℕ) × (p < n) × (test p ≡ true)
+any_from test zero h = cc
+any_from test (suc n) h = at (or_either (any_below test n) _ h) (any_from test n)
+  where
+    at : (any_below test n ≡ true) ⊎ (test n ≡ true) → (any_below test n ≡ true → (p : ℕ) × (p < n) × (test p ≡ true)) → (p : ℕ) × (p < suc n) × (test p ≡ true)
+    at (inl g) ih = let r = ih g in (r.0, omega arith, r.2)
+    at (inr g) ih = (n, omega arith, g)
+
+last_or_before : (p n : ℕ) → p < suc n → (p < n) ⊎ (p ≡ n)
+last_or_before p n h = grind arith
+
+any_to : (test : ℕ → Bool) (n p : ℕ) → p < n → test p ≡ true → any_below test n ≡ true
+any_to test zero p l h = absurd (omega arith)
+any_to test (suc n) p l h = at (last_or_before p n l) (any_to test n p)
+  where
+    at : (p < n) ⊎ (p ≡ n) → (p < n → test p ≡ true → any_below test n ≡ true) → any_below test (suc n) ≡ true
+    at (inl g) ih = or_left _ _ (ih g h)
+    at (inr g) ih = or_right (any_below test n) _ (subst (λ m. test m ≡ true) g h)
+
+within_or_past : (k n : ℕ) → (k < n) ⊎ (n ≤ k)
+within_or_past k n = grind arith
+
+leads_within : (ps : List Place) (p q : ℕ) → leads (slice_get ps p) q ≡ true → p < length ps
+leads_within ps p q h = at (within_or_past p (length ps))
+  where
+    at : (p < length ps) ⊎ (length ps ≤ p) → p < length ps
+    at (inl l) = l
+    at (inr l) = let e : leads (slice_get ps p) q ≡ false = (let n : slice_get ps p ≡ None = get_past ps p l in rw n refl) in let d : true ≡ false = sym h ∙ e in cc
+
+has_within : (ps : List Place) (p b : ℕ) → has (slice_get ps p) b ≡ true → p < length ps
+has_within ps p b h = at (within_or_past p (length ps))
+  where
+    at : (p < length ps) ⊎ (length ps ≤ p) → p < length ps
+    at (inl l) = l
+    at (inr l) = let e : has (slice_get ps p) b ≡ false = (let n : slice_get ps p ≡ None = get_past ps p l in rw n refl) in let d : true ≡ false = sym h ∙ e in cc
+
+ends_within : (ps : List Place) (p : ℕ) → ends (slice_get ps p) ≡ true → p < length ps
+ends_within ps p h = at (within_or_past p (length ps))
+  where
+    at : (p < length ps) ⊎ (length ps ≤ p) → p < length ps
+    at (inl l) = l
+    at (inr l) = let e : ends (slice_get ps p) ≡ false = (let n : slice_get ps p ≡ None = get_past ps p l in rw n refl) in let d : true ≡ false = sym h ∙ e in cc
+
+first_is : (n k : ℕ) → suc k ≡ n → nat_lt 0 n ≡ true
+first_is n k e = grind arith
+
+last_is : (n k : ℕ) → suc k ≡ n → (n - 1 == k) ≡ true
+last_is n k e = let f : n - 1 ≡ k = omega arith in grind arith
+
+is_last : (n k : ℕ) → nat_lt 0 n ≡ true → (n - 1 == k) ≡ true → suc k ≡ n
+is_last n k a b = let f : n - 1 ≡ k = grind arith in let g : 0 < n = grind arith in omega arith
+
+same_bytes : (classes : List Class) (ps : List Place) (q b : ℕ) → b < 256 → map class_bytes classes ≡ map bytes_in ps → takes_at classes q b ≡ has (slice_get ps q) b
+same_bytes [] [] q b m e = refl
+same_bytes [] (p ∷ ps) q b m e = cc
+same_bytes (c ∷ cs) [] q b m e = cc
+same_bytes (c ∷ cs) (p ∷ ps) zero b m e = let f : class_bytes c ≡ p.bytes = cc in class_takes c b m ∙ ap (list_any (λ n. n == b)) f
+same_bytes (c ∷ cs) (p ∷ ps) (suc q) b m e = same_bytes cs ps q b m (let f : map class_bytes cs ≡ map bytes_in ps = cc in f)
+
+module _ (ps : List Place) (width : ℕ) (follow accept : List ℕ) (classes : List Class) (t : AreTables width follow accept classes ps) where
+  rows_fit : length ps ≤ 64 * width
+  rows_fit = let w : width ≡ (length ps + 63) / 64 = t.wide in omega arith
+
+  taken : (b q : ℕ) → b < 256 → takes_at classes q b ≡ has (slice_get ps q) b
+  taken b q m = same_bytes classes ps q b m t.bytes
+
+  machine_steps : (old new : List ℕ) (b : ℕ) → b < 256 → length old ≡ width → length new ≡ length old → ((k : ℕ) → k < 64 * length old → bit new k ≡ (any_below (λ p. bit old p && bit follow (64 * (p * length old) + k)) (length ps) && takes_at classes k b)) → IsStep ps old new b
+  machine_steps old new b m n o h = record {
+    onto = λ p q u v w.
+        let lp = leads_within ps p q v in
+        let lq = has_within ps q b w in
+        let f = rows_fit in
+        let r : bit follow (64 * (p * width) + q) ≡ true = t.follows p q lp (omega arith) ∙ v in
+        let s : takes_at classes q b ≡ true = taken b q m ∙ w in
+        h q (omega arith) ∙ and_both _ _ (any_to (λ p. bit old p && bit follow (64 * (p * length old) + q)) (length ps) p lp (and_both _ _ u (rw n r))) s;
+    from = λ q u.
+        let lq = bit_within new q u in
+        let f = rows_fit in
+        let e = sym (h q (omega arith)) ∙ u in
+        let a = any_from (λ p. bit old p && bit follow (64 * (p * length old) + q)) (length ps) (and_first (any_below (λ p. bit old p && bit follow (64 * (p * length old) + q)) (length ps)) _ e) in
+        let d : takes_at classes q b ≡ true = and_second (any_below (λ p. bit old p && bit follow (64 * (p * length old) + q)) (length ps)) _ e in
+        let u2 : bit follow (64 * (a.0 * length old) + q) ≡ true = and_second (bit old a.0) _ a.2 in
+        let g : bit follow (64 * (a.0 * width) + q) ≡ true = subst (λ w. bit follow (64 * (a.0 * w) + q) ≡ true) n u2 in
+        (sym (taken b q m) ∙ d, (a.0, and_first (bit old a.0) _ a.2, sym (t.follows a.0 q a.1 (omega arith)) ∙ g));
+  }
+
+  machine_ends : (states : List ℕ) (v : Bool) → length states ≡ width → ((k : ℕ) → bit states k ≡ true → bit accept k ≡ true → v ≡ true) → (v ≡ true → (k : ℕ) × (bit states k ≡ true) × (bit accept k ≡ true)) → IsEnd ps states v
+  machine_ends states v n f g = record {
+    onto = λ p u w.
+        let l = ends_within ps p w in
+        let r = rows_fit in
+        f p u (t.last p (omega arith) ∙ w);
+    from = λ e.
+        let r = g e in
+        let l = bit_within states r.0 r.1 in
+        (r.0, r.1, sym (t.last r.0 (omega arith)) ∙ r.2);
+  }
+
+  machine_starts : (states : List ℕ) → length states ≡ width → ((k : ℕ) → k < 64 * length states → bit states k ≡ (nat_lt 0 (length ps) && (length ps - 1 == k))) → IsStart ps states
+  machine_starts states n h = record {
+    onto = λ k e. let r = rows_fit in h k (omega arith) ∙ and_both (nat_lt 0 (length ps)) (length ps - 1 == k) (first_is (length ps) k e) (last_is (length ps) k e);
+    from = λ k u.
+        let l = bit_within states k u in
+        let e = sym (h k l) ∙ u in
+        is_last (length ps) k (and_first (nat_lt 0 (length ps)) (length ps - 1 == k) e) (and_second (nat_lt 0 (length ps)) (length ps - 1 == k) e);
+  }
+
+-- the states stay a matcher's
+pub stepped_states : (t : Tree) (old new : List ℕ) (b : ℕ) → AreMarks t old → length new ≡ length old → IsStep (all_places (automaton t)) old new b → AreMarks t new
+stepped_states t old new b a n s = record {
+  words = n ∙ a.words;
+  none_past = λ k l. at k l (bit new k) refl;
+}
+  where
+    at : (k : ℕ) → length (all_residuals t) ≤ k → (v : Bool) → bit new k ≡ v → bit new k ≡ false
+    at k l false e = e
+    at k l true e = let w = has_within (all_places (automaton t)) k b (s.from k e).0 in let m = as_many t in absurd (omega arith)
+
+pub started_states : (t : Tree) (states : List ℕ) → length states ≡ width_of t → IsStart (all_places (automaton t)) states → AreMarks t states
+started_states t states n s = record {
+  words = n;
+  none_past = λ k l. at k l (bit states k) refl;
+}
+  where
+    at : (k : ℕ) → length (all_residuals t) ≤ k → (v : Bool) → bit states k ≡ v → bit states k ≡ false
+    at k l false e = e
+    at k l true e = let w = s.from k e in let m = as_many t in absurd (omega arith)
+
+-- the tables of a pattern
+pub record IsMachine (t : Tree) (rows width : ℕ) (follow accept : List ℕ) (classes : List Class) : Type 0 where
+  pub rows_is : rows ≡ length (all_places (automaton t))
+  pub tables : AreTables width follow accept classes (all_places (automaton t))
+
+module _ (t : Tree) (rows width : ℕ) (follow accept : List ℕ) (classes : List Class) (m : IsMachine t rows width follow accept classes) where
+  width_is : width ≡ width_of t
+  width_is = let w : width ≡ (length (all_places (automaton t)) + 63) / 64 = m.tables.wide in let n = as_many t in omega arith
+
+  pub start_is : (new : List ℕ) → length new ≡ width → ((k : ℕ) → k < 64 * length new → bit new k ≡ (nat_lt 0 rows && (rows - 1 == k))) → IsStart (all_places (automaton t)) new
+  start_is new n h = let F : ℕ → Type 0 = λ r. (k : ℕ) → k < 64 * length new → bit new k ≡ (nat_lt 0 r && (r - 1 == k)) in machine_starts (all_places (automaton t)) width follow accept classes m.tables new n (subst F m.rows_is h)
+
+  pub start_made : (new : List ℕ) → length new ≡ width → ((k : ℕ) → k < 64 * length new → bit new k ≡ (nat_lt 0 rows && (rows - 1 == k))) → AreMarks t new
+  start_made new n h = started_states t new (n ∙ width_is) (start_is new n h)
+
+  pub start_stands : (new : List ℕ) → length new ≡ width → ((k : ℕ) → k < 64 * length new → bit new k ≡ (nat_lt 0 rows && (rows - 1 == k))) → Starts t new
+  start_stands new n h = starts t new (has_texts t) refl (start_is new n h)
+
+  pub wide : (old : List ℕ) → AreMarks t old → length old ≡ width
+  wide old a = a.words ∙ sym width_is
+
+  pub rows_in : (old : List ℕ) → AreMarks t old → rows ≤ 64 * length old
+  rows_in old a =
+      let w : width ≡ (length (all_places (automaton t)) + 63) / 64 = m.tables.wide in
+      let n = wide old a in
+      let r = m.rows_is in
+      omega arith
+
+  pub follow_in : (old : List ℕ) → AreMarks t old → rows * length old ≤ length follow
+  follow_in old a = let n = wide old a in let r = m.rows_is in let f = m.tables.rows in rw (n, r, f) (omega arith)
+
+  pub marked_in : (old : List ℕ) → AreMarks t old → (p : ℕ) → bit old p ≡ true → p * length old + length old ≤ length follow
+  marked_in old a p h = at (within_or_past p rows)
+    where
+      at : (p < rows) ⊎ (rows ≤ p) → p * length old + length old ≤ length follow
+      at (inl l) = let f = follow_in old a in let w = row_within p rows (length old) l in omega arith
+      at (inr l) = let n = as_many t in let r = m.rows_is in let e : bit old p ≡ false = a.none_past p (omega arith) in let d : true ≡ false = sym h ∙ e in cc
+
+  -- no state stands past the rows
+  pub all_rows : (old : List ℕ) (test : ℕ → Bool) → AreMarks t old → any_below (λ p. bit old p && test p) (64 * length old) ≡ any_below (λ p. bit old p && test p) rows
+  all_rows old test a = any_past (λ p. bit old p && test p) rows (64 * length old) (rows_in old a) (λ p l. let n = as_many t in let r = m.rows_is in let e : bit old p ≡ false = a.none_past p (omega arith) in ap (λ v. v && test p) e)
+
+  pub step_is : (old new : List ℕ) (b : ℕ) → b < 256 → AreMarks t old → length new ≡ length old → ((k : ℕ) → k < 64 * length old → bit new k ≡ (any_below (λ p. bit old p && bit follow (64 * (p * length old) + k)) rows && takes_at classes k b)) → IsStep (all_places (automaton t)) old new b
+  step_is old new b l a n h =
+      let F : ℕ → Type 0 = λ r. (k : ℕ) → k < 64 * length old → bit new k ≡ (any_below (λ p. bit old p && bit follow (64 * (p * length old) + k)) r && takes_at classes k b) in
+      machine_steps (all_places (automaton t)) width follow accept classes m.tables old new b l (wide old a) n (subst F m.rows_is h)
+
+  pub accept_in : (states : List ℕ) → AreMarks t states → length states ≡ length accept
+  accept_in states a = wide states a ∙ sym m.tables.accepts
+
+  pub end_is : (states : List ℕ) (v : Bool) → AreMarks t states → ((k : ℕ) → bit states k ≡ true → bit accept k ≡ true → v ≡ true) → (v ≡ true → (k : ℕ) × (bit states k ≡ true) × (bit accept k ≡ true)) → IsEnd (all_places (automaton t)) states v
+  end_is states v a f g = machine_ends (all_places (automaton t)) width follow accept classes m.tables states v (wide states a) f g
+
+  pub step_at : (old new shown : List ℕ) (kept : List Class) (b : ℕ) → shown ≡ follow → kept ≡ classes → b < 256 → AreMarks t old → length new ≡ length old → ((k : ℕ) → k < 64 * length old → bit new k ≡ (any_below (λ p. bit old p && bit shown (64 * (p * length old) + k)) (64 * length old) && takes_at kept k b)) → IsStep (all_places (automaton t)) old new b
+  step_at old new shown kept b e f l a n h =
+      let F : List ℕ → Type 0 = λ s. (k : ℕ) → k < 64 * length old → bit new k ≡ (any_below (λ p. bit old p && bit s (64 * (p * length old) + k)) (64 * length old) && takes_at kept k b) in
+      let G : List Class → Type 0 = λ s. (k : ℕ) → k < 64 * length old → bit new k ≡ (any_below (λ p. bit old p && bit follow (64 * (p * length old) + k)) (64 * length old) && takes_at s k b) in
+      step_is old new b l a n (λ k u. subst G f (subst F e h) k u ∙ ap (λ v. v && takes_at classes k b) (all_rows old (λ p. bit follow (64 * (p * length old) + k)) a))
+
+  pub end_at : (states shown kept : List ℕ) (v : Bool) → shown ≡ states → kept ≡ accept → AreMarks t states → ((k : ℕ) → bit shown k ≡ true → bit kept k ≡ true → v ≡ true) → (v ≡ true → (k : ℕ) × (bit shown k ≡ true) × (bit kept k ≡ true)) → IsEnd (all_places (automaton t)) states v
+  end_at states shown kept v e f a g h =
+      end_is states v a
+      (λ k u w. g k (subst (λ (s : List ℕ). bit s k ≡ true) (sym e) u) (subst (λ (s : List ℕ). bit s k ≡ true) (sym f) w))
+      (λ i. let r = h i in (r.0, subst (λ (s : List ℕ). bit s r.0 ≡ true) e r.1, subst (λ (s : List ℕ). bit s r.0 ≡ true) f r.2))
+
+  -- the words have no more bits than there are classes, but for those of one word
+  pub room : (old : List ℕ) → AreMarks t old → 64 * length old < length classes + 64
+  room old a =
+      let n = wide old a in
+      let w : width ≡ (length (all_places (automaton t)) + 63) / 64 = m.tables.wide in
+      let l : length classes ≡ length (all_places (automaton t)) = sym (length-map classes class_bytes) ∙ ap length m.tables.bytes ∙ length-map (all_places (automaton t)) bytes_in in
+      omega arith
