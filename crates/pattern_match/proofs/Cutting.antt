@@ -1,21 +1,18 @@
 -- A pattern's language is its literal start, and behind it the language of the rest.
 use Rattle.std.proofs.Common.{◌≡◌, refl, sym, ◌∙◌, ap, subst, ℕ, zero, suc, ◌+◌, ◌<◌, ◌≤◌, ◌==◌, Bool, true, false, List, [], ◌∷◌, ◌++◌, length, Option, Some, None, ◌⊎◌, inl, inr, arith, append_assoc, append-nil, length-append}
-use Rattle.std.specs.Prelude.{◌&&◌, ◌||◌, unwrap_or}
+use Rattle.std.specs.Prelude.{◌&&◌, ◌||◌, fold, unwrap_or}
 use Rattle.std.specs.List.{list_any}
 use Rattle.pattern_syntax.specs.ByteSet.{only_of}
 use Rattle.pattern_syntax.specs.Tree.{Tree, tree_from, Set, Nothing, Both, Either, Repeat}
 use Rattle.pattern_syntax.specs.Language.{In}
 use Rattle.pattern_syntax.specs.Shape.{is_proper, is_sequence, is_choice}
-use Rattle.pattern_syntax.specs.Literal.{single_byte, single_bytes, joined, literal_start_of, with_bytes, is_several}
+use Rattle.pattern_syntax.specs.Literal.{single_byte, single_bytes, joined, literal_start_of, is_several}
+use Rattle.pattern_syntax.specs.Parts.{bytes_tree, with_byte, Follows}
 use Rattle.pattern_syntax.specs.Nodes.{after_node, after_nodes, tree_of}
 use Rattle.pattern_syntax.specs.declared.node.Node.{Node}
 use Rattle.pattern_syntax.specs.declared.node.Node.TheVariants as node
 use Rattle.pattern_match.specs.Starts.{unless_literal, behind_start, in_front, with_start, Parts}
 use Rattle.pattern_match.proofs.Language.{and_first, and_second}
-
--- a text that goes on behind a front into a language
-abbrev pub Follows : List ℕ → Tree → List ℕ → Type 0
-Follows front tree text = (rest : List ℕ) × (text ≡ front ++ rest) × In tree rest
 
 only_byte : (bytes : List ℕ) (b : ℕ) → only_of bytes ≡ Some b → bytes ≡ b ∷ []
 only_byte [] b h = cc
@@ -174,14 +171,14 @@ behind_front front start (Both f g) e s p h = at (joined (single_bytes (in_front
         let m : length bytes ≡ length start = ap length h in
         absurd (omega arith)
 
-bytes_literal : (t : Tree) (start bytes : List ℕ) → single_bytes t ≡ Some start → single_bytes (with_bytes t bytes) ≡ Some (start ++ bytes)
+bytes_literal : (t : Tree) (start bytes : List ℕ) → single_bytes t ≡ Some start → single_bytes (fold with_byte t bytes) ≡ Some (start ++ bytes)
 bytes_literal t start [] h = h ∙ ap Some (sym (append-nil start))
 bytes_literal t start (b ∷ bs) h =
     let e : joined (single_bytes t) (Some b) ≡ Some (start ++ b ∷ []) = rw h refl in
     bytes_literal (Both t (Set (b ∷ []))) (start ++ b ∷ []) bs e ∙ ap Some (append_assoc start (b ∷ []) bs)
 
 -- a start as a sequence
-pub start_literal : (start : List ℕ) → single_bytes (with_bytes Nothing start) ≡ Some start
+pub start_literal : (start : List ℕ) → single_bytes (bytes_tree start) ≡ Some start
 start_literal start = bytes_literal Nothing [] start refl
 
 sequence_behind : (front t : Tree) → is_sequence (in_front front t) ≡ true → is_sequence t ≡ true
@@ -192,9 +189,9 @@ sequence_behind front (Either l r) h = h
 sequence_behind front (Repeat least most x) h = h
 
 -- the nodes behind the literal start are what stands behind it
-pub sequence_parts : (t : Tree) (ns : List Node) → is_proper t ≡ true → is_sequence t ≡ true → after_nodes ns (with_bytes Nothing (literal_start_of t) ∷ []) ≡ t ∷ [] → Parts t (literal_start_of t) (tree_of (node.Nothing ∷ ns))
+pub sequence_parts : (t : Tree) (ns : List Node) → is_proper t ≡ true → is_sequence t ≡ true → after_nodes ns (bytes_tree (literal_start_of t) ∷ []) ≡ t ∷ [] → Parts t (literal_start_of t) (tree_of (node.Nothing ∷ ns))
 sequence_parts t ns p s h =
-    let front = with_bytes Nothing (literal_start_of t) in
+    let front = bytes_tree (literal_start_of t) in
     let u = front_before front ns t h in
     let e : tree_of (node.Nothing ∷ ns) ≡ u.0 = ap tree_from u.1 in
     let q : is_sequence u.0 ≡ true = sequence_behind front u.0 (ap is_sequence u.2 ∙ s) in
@@ -214,9 +211,10 @@ choice_parts Nothing ns s h = cc
 choice_parts (Both f g) ns s h = cc
 choice_parts (Repeat least most x) ns s h = cc
 
-pub not_several : (t : Tree) → is_several t ≡ false → is_choice t ≡ true → is_sequence t ≡ true
-not_several (Set bytes) h k = k
-not_several Nothing h k = refl
-not_several (Both f g) h k = refl
-not_several (Either l r) h k = absurd (let f : true ≡ false = h in cc)
-not_several (Repeat least most x) h k = k
+-- the nodes behind the literal start of a pattern are what stands behind it
+pub pattern_parts : (t : Tree) (ns : List Node) → is_proper t ≡ true → is_choice t ≡ true → after_nodes ns (bytes_tree (literal_start_of t) ∷ []) ≡ t ∷ [] → Parts t (literal_start_of t) (tree_of (node.Nothing ∷ ns))
+pattern_parts (Either l r) ns p c h = choice_parts (Either l r) (node.Nothing ∷ ns) refl h
+pattern_parts (Both f s) ns p c h = sequence_parts (Both f s) ns p refl h
+pattern_parts Nothing ns p c h = sequence_parts Nothing ns p refl h
+pattern_parts (Set bytes) ns p c h = sequence_parts (Set bytes) ns p c h
+pattern_parts (Repeat least most x) ns p c h = sequence_parts (Repeat least most x) ns p c h

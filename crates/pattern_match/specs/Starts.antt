@@ -1,7 +1,8 @@
 -- A pattern cut behind the bytes that it begins with.
 use Rattle.std.specs.Prelude.{◌≡◌, ℕ, List, Option, Some, None}
 use Rattle.pattern_syntax.specs.Tree.{Tree, Set, Nothing, Both, Either, Repeat}
-use Rattle.pattern_syntax.specs.Literal.{single_byte, single_bytes, joined, with_bytes}
+use Rattle.pattern_syntax.specs.Literal.{single_byte, single_bytes, joined}
+use Rattle.pattern_syntax.specs.Parts.{bytes_tree}
 
 -- nothing is left of a sequence of single bytes alone
 abbrev pub unless_literal : Option (List ℕ) → Tree → Tree
@@ -26,7 +27,7 @@ in_front front (Repeat least most piece) = Repeat least most (in_front front pie
 
 -- what stands behind single bytes, with them
 abbrev pub with_start : List ℕ → Tree → Tree
-with_start start tree = in_front (with_bytes Nothing start) tree
+with_start start tree = in_front (bytes_tree start) tree
 
 -- a pattern is its start and what stands behind it
 pub record Parts (tree : Tree) (start : List ℕ) (rest : Tree) : Type 0 where

@@ -55,16 +55,13 @@ fn sequence(alloc: Global, rest: &[Node]) -> Result<Vec<Node>, OutOfMemory>
     Ok(nodes)
 }
 
-// The nodes of what stands behind the literal start, whose length is given.
-fn nodes_behind(alloc: Global, pattern: &Pattern, start: usize) -> Result<Vec<Node>, OutOfMemory>
-    requires { start ≡ length (literal_start_of pattern.now) }
+// The nodes of what stands behind the literal start.
+fn nodes_behind(alloc: Global, pattern: &Pattern) -> Result<Vec<Node>, OutOfMemory>
     ensures { IfOk result (λ nodes. Parts pattern.now (literal_start_of pattern.now) (tree_of nodes.items)) }
 {
     pattern.has_no_empty_set();
-    if pattern.has_sides() {
-        return Ok(Vec::from_slice(alloc, pattern.nodes())?);
-    }
-    let nodes = sequence(alloc, pattern.behind_start(start))?;
+    let (_, rest) = pattern.parts();
+    let nodes = sequence(alloc, rest)?;
     Ok(nodes)
 }
 
@@ -73,10 +70,9 @@ impl Matcher {
     pub fn new(alloc: Global, pattern: &Pattern) -> Result<Matcher, OutOfMemory>
         ensures { IfOk result (λ matcher. matcher ≡ pattern.now) }
     {
-        let start = pattern.literal_start(alloc)?;
-        let nodes = nodes_behind(alloc, pattern, start.len())?;
+        let nodes = nodes_behind(alloc, pattern)?;
         Ok(Matcher {
-            start,
+            start: Bytes::copy_of(alloc, pattern.start())?,
             machine: Machine::new(alloc, nodes)?,
         })
     }

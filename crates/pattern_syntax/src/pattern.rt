@@ -88,7 +88,7 @@ fn leading_bytes(alloc: Global, nodes: &[Node]) -> Result<Bytes, OutOfMemory>
 impl Pattern {
     ghost use Rattle.pattern_syntax.specs.PatternCause.{pattern_cause};
     ghost use Rattle.pattern_syntax.specs.Reading.{pattern_of};
-    ghost use Rattle.pattern_syntax.specs.Shape.{HasNoEmptySet, is_proper};
+    ghost use Rattle.pattern_syntax.specs.Shape.{HasNoEmptySet, is_choice, is_proper};
     ghost use Rattle.pattern_syntax.specs.Grammar.{Spells, Choice};
     ghost use Rattle.pattern_syntax.specs.Tokens.{Token};
     ghost use Rattle.pattern_syntax.specs.Faults.{IsPatternText, IsRefusedFor};
@@ -150,11 +150,12 @@ impl Pattern {
     }
 
     /// A law on every pattern: each of its sets has a byte, and none of them 0; what stands before the last piece of a
-    /// sequence is a sequence.
+    /// sequence is a sequence; and it is a choice of one or more sequences.
     #[tactic(auto, using(crate::proofs::ShapeLemmas::no_empty_set))]
     pub fn has_no_empty_set(&self)
         ensures nonempty { HasNoEmptySet self.now }
         ensures proper { is_proper self.now ≡ true }
+        ensures choice { is_choice self.now ≡ true }
     {
         let _start = &self.start;
     }
