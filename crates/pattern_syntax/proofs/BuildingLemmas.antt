@@ -21,6 +21,7 @@ use Rattle.pattern_syntax.specs.declared.pattern_fault.PatternWhy.TheVariants.{S
 use Rattle.pattern_syntax.specs.declared.node.Node.TheVariants as node
 use Rattle.pattern_syntax.specs.Nodes.{after_node, after_nodes, trees_behind, rest_tree}
 use Rattle.pattern_syntax.specs.declared.node.Node.{Node}
+use Rattle.pattern_syntax.specs.declared.limits.TheConstants.{MOST_GROUPS, MOST_POSITIONS}
 
 after_append : (ns : List Node) (n : Node) (stack : List Tree) → after_nodes (ns ++ n ∷ []) stack ≡ after_node n (after_nodes ns stack)
 after_append [] n stack = refl
@@ -37,21 +38,21 @@ pub no_open_group : (items : List Level) (outer : List reading.Level) (at : ℕ)
 no_open_group items [] at e h = refl
 no_open_group items (around ∷ outer) at e h = absurd (let l = outer_length (around ∷ outer) in let g : length items ≡ length (outer_counts (around ∷ outer)) = ap length e in omega (arith, l, g, h))
 
-pub is_deep : (depth at : ℕ) → 50 ≤ depth → cond (leb 50 depth) (Some (TooDeep at)) None ≡ Some (TooDeep at)
+pub is_deep : (depth at : ℕ) → MOST_GROUPS ≤ depth → cond (leb MOST_GROUPS depth) (Some (TooDeep at)) None ≡ Some (TooDeep at)
 is_deep depth at h = grind (arith, nat_tests)
 
-pub is_not_deep : (depth at : ℕ) → depth < 50 → cond {A = Option PatternWhy} (leb 50 depth) (Some (TooDeep at)) None ≡ None
+pub is_not_deep : (depth at : ℕ) → depth < MOST_GROUPS → cond {A = Option PatternWhy} (leb MOST_GROUPS depth) (Some (TooDeep at)) None ≡ None
 is_not_deep depth at h = grind (arith, nat_tests)
 
 capped_product : (x k : ℕ) → capped (capped x * k) ≡ capped (x * k)
 capped_product x zero = let p : capped x * 0 ≡ 0 = omega arith in let q : x * 0 ≡ 0 = omega arith in ap capped (p ∙ sym q)
 capped_product x (suc k) =
-    ⊎_elim (λ (h : x < 2001). ap (λ n. capped (n * suc k)) (let e : capped x ≡ x = omega arith in e))
-    (λ h. let e : capped x ≡ 2001 = omega arith in
-    let a : 2001 ≤ 2001 * suc k = omega arith in
-    let b : 2001 * suc k ≤ x * suc k = mul-le-mul_right (suc k) h in
-    ap (λ n. capped (n * suc k)) e ∙ (let g : capped (2001 * suc k) ≡ capped (x * suc k) = omega (arith, a, b) in g))
-    (cases_lt x 2001)
+    ⊎_elim (λ (h : x < (MOST_POSITIONS + 1)). ap (λ n. capped (n * suc k)) (let e : capped x ≡ x = omega arith in e))
+    (λ h. let e : capped x ≡ (MOST_POSITIONS + 1) = omega arith in
+    let a : (MOST_POSITIONS + 1) ≤ (MOST_POSITIONS + 1) * suc k = omega arith in
+    let b : (MOST_POSITIONS + 1) * suc k ≤ x * suc k = mul-le-mul_right (suc k) h in
+    ap (λ n. capped (n * suc k)) e ∙ (let g : capped ((MOST_POSITIONS + 1) * suc k) ≡ capped (x * suc k) = omega (arith, a, b) in g))
+    (cases_lt x (MOST_POSITIONS + 1))
 
 pub sequence_proper : (sequence : Tree) (piece : Option Tree) → is_sequence sequence ≡ true → is_proper sequence ≡ true → IsProperIfAny piece
     → (is_sequence (with_last sequence piece) ≡ true) × (is_proper (with_last sequence piece) ≡ true)
@@ -66,7 +67,7 @@ open_outer old read count s e =
     ∙ ap (λ (n : ℕ). outer_counts read.outer ++ record { sides = old.level.sides; sequence = n; piece = None } ∷ []) e
     ∙ ap (λ (o : Option ℕ). outer_counts read.outer ++ record { sides = o; sequence = count_of (sequence_of read.level); piece = None } ∷ []) side
 
-pub open_stands : (old new : Builder) (read : Reading) (count at : ℕ) → Stands old read → length old.outer.items < 50 → count ≡ count_of (sequence_of read.level)
+pub open_stands : (old new : Builder) (read : Reading) (count at : ℕ) → Stands old read → length old.outer.items < MOST_GROUPS → count ≡ count_of (sequence_of read.level)
     → trees_behind new.nodes.items ≡ tree.Nothing ∷ (sequence_of read.level ∷ tree_on read.level.sides (outer_trees read.outer))
     → new.level ≡ level_counts new_level
     → new.outer.items ≡ old.outer.items ++ record { sides = old.level.sides; sequence = count; piece = None } ∷ []
@@ -132,7 +133,7 @@ finish_open old new read at s e h =
     ends_open at read (omega (arith, l, g))
 
 pub finish_many : (old new : Builder) (read : Reading) (at count : ℕ) → Stands old read → new.outer ≡ old.outer → length new.outer.items ≡ 0
-    → Ends new (outer_trees read.outer) (choice_of read.level) count → 2000 < count → reads_as at read [] ≡ Err TooManyPositions
+    → Ends new (outer_trees read.outer) (choice_of read.level) count → MOST_POSITIONS < count → reads_as at read [] ≡ Err TooManyPositions
 finish_many old new read at count s e h ends k =
     let l = ap length s.outer ∙ outer_length read.outer in
     let g : length old.outer.items ≡ 0 = rw e at h in
@@ -168,7 +169,7 @@ no_levels [] h = refl
 no_levels (around ∷ outer) h = absurd (omega arith)
 
 pub finish_whole : (old new : Builder) (read : Reading) (at count : ℕ) → Stands old read → new.outer ≡ old.outer → length new.outer.items ≡ 0
-    → Ends new (outer_trees read.outer) (choice_of read.level) count → count ≤ 2000
+    → Ends new (outer_trees read.outer) (choice_of read.level) count → count ≤ MOST_POSITIONS
     → (reads_as at read [] ≡ Ok (rest_tree new.nodes.items)) × IsWhole new.nodes.items
 finish_whole old new read at count s e h ends k =
     let l = ap length s.outer ∙ outer_length read.outer in

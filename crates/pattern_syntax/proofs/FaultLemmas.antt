@@ -14,6 +14,7 @@ use Rattle.pattern_syntax.specs.declared.pattern_fault.PatternWhy.{PatternWhy}
 use Rattle.pattern_syntax.specs.declared.pattern_fault.PatternWhy.TheVariants.{Syntax, UnsupportedPattern, TooDeep, TooManyPositions}
 use Rattle.pattern_syntax.proofs.ReadingLemmas.{behind_is, no_zero, is_zero}
 use Rattle.pattern_syntax.proofs.GrammarLemmas.{SpellsReading, new_reading_spelled, token_spelled, choice_spelled, along, sound, reading, read_on, complete, grammar_tree, AreFine, IsFine, fine, HasPlace, fault_has_place, no_fault_first, no_fault_later}
+use Rattle.pattern_syntax.specs.declared.limits.TheConstants.{MOST_GROUPS, MOST_POSITIONS}
 
 -- ---- a token and its fault
 
@@ -21,9 +22,9 @@ misplaced_from : (depth : ℕ) (after_piece : Bool) (place : ℕ) (token : Token
 misplaced_from depth after_piece place (Bytes bytes) why e = absurd (let f : None ≡ Some why = e in cc)
 misplaced_from depth after_piece place Bar why e = absurd (let f : None ≡ Some why = e in cc)
 misplaced_from depth after_piece place Anchor why e = absurd (let f : None ≡ Some why = e in cc)
-misplaced_from depth after_piece place Open why e = opened (leb 50 depth) refl e
+misplaced_from depth after_piece place Open why e = opened (leb MOST_GROUPS depth) refl e
   where
-    opened : (b : Bool) → leb 50 depth ≡ b → cond b (Some (TooDeep place)) None ≡ Some why → (50 ≤ depth) × (why ≡ TooDeep place)
+    opened : (b : Bool) → leb MOST_GROUPS depth ≡ b → cond b (Some (TooDeep place)) None ≡ Some why → (MOST_GROUPS ≤ depth) × (why ≡ TooDeep place)
     opened true h e = (grind (arith, nat_tests), let f : Some (TooDeep place) ≡ Some why = e in cc)
     opened false h e = absurd (let f : None ≡ Some why = e in cc)
 misplaced_from depth after_piece place Close why e = closed (depth == 0) refl e
@@ -34,7 +35,7 @@ misplaced_from depth after_piece place Close why e = closed (depth == 0) refl e
 misplaced_from depth true place (Times least most) why e = absurd (let f : None ≡ Some why = e in cc)
 misplaced_from depth false place (Times least most) why e = (refl, let f : Some (Syntax place) ≡ Some why = e in cc)
 
-deep_test : (depth : ℕ) → 50 ≤ depth → leb 50 depth ≡ true
+deep_test : (depth : ℕ) → MOST_GROUPS ≤ depth → leb MOST_GROUPS depth ≡ true
 deep_test depth h = grind (arith, nat_tests)
 
 misplaced_to : (depth : ℕ) (after_piece : Bool) (place : ℕ) (token : Token) (why : PatternWhy) → IsMisplaced depth after_piece place token why → structure_fault depth after_piece place token ≡ Some why
@@ -46,25 +47,25 @@ misplaced_to depth after_piece place Close why h = ap (λ (b : Bool). cond b (So
 misplaced_to depth after_piece place (Times least most) why h = ap (λ (b : Bool). cond b None (Some (Syntax place))) h.0 ∙ ap (λ (w : PatternWhy). Some w) (sym h.1)
 
 -- a token without a fault leaves no more groups open than may be
-stays_shallow : (depth : ℕ) (after_piece : Bool) (place : ℕ) (token : Token) → depth ≤ 50 → structure_fault depth after_piece place token ≡ None → depth_behind token depth ≤ 50
+stays_shallow : (depth : ℕ) (after_piece : Bool) (place : ℕ) (token : Token) → depth ≤ MOST_GROUPS → structure_fault depth after_piece place token ≡ None → depth_behind token depth ≤ MOST_GROUPS
 stays_shallow depth after_piece place (Bytes bytes) h e = h
 stays_shallow depth after_piece place Bar h e = h
 stays_shallow depth after_piece place Anchor h e = h
 stays_shallow depth after_piece place (Times least most) h e = h
 stays_shallow depth after_piece place Close h e = omega arith
-stays_shallow depth after_piece place Open h e = opened (leb 50 depth) refl e
+stays_shallow depth after_piece place Open h e = opened (leb MOST_GROUPS depth) refl e
   where
-    opened : (b : Bool) → leb 50 depth ≡ b → cond b (Some (TooDeep place)) None ≡ None → depth + 1 ≤ 50
+    opened : (b : Bool) → leb MOST_GROUPS depth ≡ b → cond b (Some (TooDeep place)) None ≡ None → depth + 1 ≤ MOST_GROUPS
     opened true k e = absurd (let f : Some (TooDeep place) ≡ None = e in cc)
     opened false k e = grind (arith, nat_tests)
 
-not_deep : (depth : ℕ) (after_piece : Bool) (place : ℕ) (token : Token) → depth_behind token depth ≤ 50 → IsFine place (structure_fault depth after_piece place token) → structure_fault depth after_piece place token ≡ None
+not_deep : (depth : ℕ) (after_piece : Bool) (place : ℕ) (token : Token) → depth_behind token depth ≤ MOST_GROUPS → IsFine place (structure_fault depth after_piece place token) → structure_fault depth after_piece place token ≡ None
 not_deep depth after_piece place token h k =
     ⊎_elim (λ (n : structure_fault depth after_piece place token ≡ None). n)
     (λ (n : structure_fault depth after_piece place token ≡ Some (TooDeep place)). absurd (deep token h (misplaced_from depth after_piece place token (TooDeep place) n)))
     k
   where
-    deep : (token : Token) → depth_behind token depth ≤ 50 → IsMisplaced depth after_piece place token (TooDeep place) → ⊥
+    deep : (token : Token) → depth_behind token depth ≤ MOST_GROUPS → IsMisplaced depth after_piece place token (TooDeep place) → ⊥
     deep (Bytes bytes) h m = m
     deep Bar h m = m
     deep Anchor h m = m
@@ -74,11 +75,11 @@ not_deep depth after_piece place token h k =
 
 -- ---- from a fault to what is amiss
 
-shallow_push : (depth : ℕ) (tokens : List Token) (token : Token) → IsShallow depth tokens → depth_behind token (open_behind depth tokens) ≤ 50 → IsShallow depth (tokens ++ token ∷ [])
+shallow_push : (depth : ℕ) (tokens : List Token) (token : Token) → IsShallow depth tokens → depth_behind token (open_behind depth tokens) ≤ MOST_GROUPS → IsShallow depth (tokens ++ token ∷ [])
 shallow_push depth [] token h k = (k, tt)
 shallow_push depth (t ∷ tokens) token h k = (h.0, shallow_push (depth_behind t depth) tokens token h.1 k)
 
-shallow_depth : (depth : ℕ) (tokens : List Token) → depth ≤ 50 → IsShallow depth tokens → open_behind depth tokens ≤ 50
+shallow_depth : (depth : ℕ) (tokens : List Token) → depth ≤ MOST_GROUPS → IsShallow depth tokens → open_behind depth tokens ≤ MOST_GROUPS
 shallow_depth depth [] h k = h
 shallow_depth depth (t ∷ tokens) h k = shallow_depth (depth_behind t depth) tokens k.0 k.1
 
@@ -101,11 +102,11 @@ stands_more : (tokens : List Token) (read : Reading) (place : ℕ) (token : Toke
 stands_more tokens read place token s e =
     let b = behind_is read place token e in
     let d = shallow_depth 0 tokens (omega arith) s.shallow in
-    let d : length read.outer ≤ 50 = subst (λ (n : ℕ). n ≤ 50) (sym s.depth) d in record {
+    let d : length read.outer ≤ MOST_GROUPS = subst (λ (n : ℕ). n ≤ MOST_GROUPS) (sym s.depth) d in record {
       spelled = token_spelled tokens read place token s.spelled e;
       depth = sym b.0 ∙ ap (λ (n : ℕ). depth_behind token n) s.depth ∙ sym (fold_push (λ (n : ℕ) (t : Token). depth_behind t n) 0 tokens token);
       piece = sym b.1 ∙ sym (fold_push (λ (n : Bool) (t : Token). ends_piece t) false tokens token);
-      shallow = shallow_push 0 tokens token s.shallow (subst (λ (n : ℕ). depth_behind token n ≤ 50) s.depth (stays_shallow (length read.outer) (is_some read.level.piece) place token d e));
+      shallow = shallow_push 0 tokens token s.shallow (subst (λ (n : ℕ). depth_behind token n ≤ MOST_GROUPS) s.depth (stays_shallow (length read.outer) (is_some read.level.piece) place token d e));
     }
 
 amiss_here : (end : ℕ) (all front rest : List Placed) (tokens : List Token) (read : Reading) (why : PatternWhy) → all ≡ front ++ rest → map cut_of front ≡ map Ok tokens → Stands tokens read → IsAmiss end tokens rest why → HasFault end all why
@@ -205,7 +206,7 @@ fault_is_first end placed why h =
 
 -- ---- texts of the grammar
 
-shallow_read : (end depth : ℕ) (after_piece : Bool) (placed : List Placed) (tokens : List Token) → depth ≤ 50 → first_fault end depth after_piece placed ≡ None → map cut_of placed ≡ map Ok tokens → IsShallow depth tokens
+shallow_read : (end depth : ℕ) (after_piece : Bool) (placed : List Placed) (tokens : List Token) → depth ≤ MOST_GROUPS → first_fault end depth after_piece placed ≡ None → map cut_of placed ≡ map Ok tokens → IsShallow depth tokens
 unfolding first_fault
 shallow_read end depth after_piece placed [] h e m = tt
 shallow_read end depth after_piece [] (t ∷ ts) h e m = absurd (let f : map cut_of [] ≡ Ok t ∷ map Ok ts = m in cc)
@@ -237,10 +238,10 @@ cut_is_faultless text tree h =
     let z : open_behind 0 h.tokens ≡ 0 = sym p.depth ∙ ap (λ (r : Reading). length r.outer) k.1 in
     ap (first_fault (length text) 0 false) (sym (append-nil (tokens_from 0 0 text))) ∙ p.faults ∙ ap (λ (b : Bool). cond b None (Some (Syntax (length text)))) (is_zero (open_behind 0 h.tokens) z)
 
-few_test : (n : ℕ) → n ≤ 2000 → nat_le n 2000 ≡ true
+few_test : (n : ℕ) → n ≤ MOST_POSITIONS → nat_le n MOST_POSITIONS ≡ true
 few_test n h = grind (arith, nat_tests)
 
-many_test : (n : ℕ) → 2000 < n → nat_le n 2000 ≡ false
+many_test : (n : ℕ) → MOST_POSITIONS < n → nat_le n MOST_POSITIONS ≡ false
 many_test n h = grind (arith, nat_tests)
 
 abbrev fault_in : List ℕ → Option PatternWhy
@@ -278,10 +279,10 @@ refused_from text TooManyPositions h = many_is_refused text h
 first_stands : Stands [] new_reading
 first_stands = record { spelled = new_reading_spelled; depth = refl; piece = refl; shallow = tt }
 
-few_is_true : (n : ℕ) → nat_le n 2000 ≡ true → n ≤ 2000
+few_is_true : (n : ℕ) → nat_le n MOST_POSITIONS ≡ true → n ≤ MOST_POSITIONS
 few_is_true n h = grind (arith, nat_tests)
 
-many_is_false : (n : ℕ) → nat_le n 2000 ≡ false → 2000 < n
+many_is_false : (n : ℕ) → nat_le n MOST_POSITIONS ≡ false → MOST_POSITIONS < n
 many_is_false n h = grind (arith, nat_tests)
 
 abbrev Says : List ℕ → Result Tree PatternWhy → Type 0
@@ -294,7 +295,7 @@ says_placed text (UnsupportedPattern place) p h = h
 says_placed text (TooDeep place) p h = h
 says_placed text TooManyPositions p h = absurd p
 
-says_tree : (text : List ℕ) (few : Bool) → IsCutInto text (tree_in text) → nat_le (positions (tree_in text)) 2000 ≡ few → Says text (cond few (Ok (tree_in text)) (Err TooManyPositions))
+says_tree : (text : List ℕ) (few : Bool) → IsCutInto text (tree_in text) → nat_le (positions (tree_in text)) MOST_POSITIONS ≡ few → Says text (cond few (Ok (tree_in text)) (Err TooManyPositions))
 says_tree text true h e = (h, few_is_true (positions (tree_in text)) e)
 says_tree text false h e = (tree_in text, h, many_is_false (positions (tree_in text)) e)
 
@@ -302,7 +303,7 @@ says_by : (text : List ℕ) (fault : Option PatternWhy) → fault_in text ≡ fa
 says_by text (Some why) e =
     says_placed text why (subst HasPlace e (fault_has_place (length text) 0 false (tokens_from 0 0 text)))
     (first_amiss (length text) (tokens_from 0 0 text) [] (tokens_from 0 0 text) [] new_reading why refl refl first_stands e)
-says_by text None e = says_tree text (nat_le (positions (tree_in text)) 2000) (cut_without_fault text e) refl
+says_by text None e = says_tree text (nat_le (positions (tree_in text)) MOST_POSITIONS) (cut_without_fault text e) refl
 
 says : (text : List ℕ) → Says text (pattern_of text)
 says text = subst (λ (r : Result Tree PatternWhy). Says text r) (sym (reads_by text)) (says_by text (fault_in text) refl)

@@ -10,6 +10,7 @@ use Rattle.pattern_syntax.specs.declared.refusal.Refusal.TheVariants as refusals
 use Rattle.pattern_syntax.specs.declared.pattern_fault.PatternWhy.{PatternWhy}
 use Rattle.pattern_syntax.specs.declared.pattern_fault.PatternWhy.TheVariants.{Syntax, UnsupportedPattern, TooDeep, TooManyPositions}
 use Rattle.pattern_syntax.proofs.ReadingLemmas.{behind_is, no_zero}
+use Rattle.pattern_syntax.specs.declared.limits.TheConstants.{MOST_GROUPS}
 
 -- ---- from what is read to the grammar
 
@@ -258,8 +259,8 @@ fine_append : (read : Reading) (xs ys : List Token) → AreFine read xs → AreF
 fine_append read [] ys h k = k
 fine_append read (x ∷ xs) ys h k = (h.0, fine_append (after_token read x) xs ys h.1 k)
 
-fine_open : (depth at : ℕ) → IsFine at (cond (leb 50 depth) (Some (TooDeep at)) None)
-fine_open depth at = opened (leb 50 depth)
+fine_open : (depth at : ℕ) → IsFine at (cond (leb MOST_GROUPS depth) (Some (TooDeep at)) None)
+fine_open depth at = opened (leb MOST_GROUPS depth)
   where
     opened : (deep : Bool) → IsFine at (cond deep (Some (TooDeep at)) None)
     opened true = inr refl
@@ -324,7 +325,7 @@ place_unless false why h = h
 
 place_structure : (depth : ℕ) (after_piece : Bool) (place : ℕ) (token : Token) → HasPlace (structure_fault depth after_piece place token)
 place_structure depth after_piece place (Bytes bytes) = tt
-place_structure depth after_piece place Open = place_chosen (leb 50 depth) (TooDeep place) tt
+place_structure depth after_piece place Open = place_chosen (leb MOST_GROUPS depth) (TooDeep place) tt
 place_structure depth after_piece place Close = place_chosen (depth == 0) (Syntax place) tt
 place_structure depth after_piece place Bar = tt
 place_structure depth after_piece place Anchor = tt

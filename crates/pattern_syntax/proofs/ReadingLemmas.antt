@@ -8,6 +8,7 @@ use Rattle.pattern_syntax.specs.Reading.{Reading, Level, reads_as, read_as, firs
 use Rattle.pattern_syntax.specs.declared.refusal.Refusal.{Refusal}
 use Rattle.pattern_syntax.specs.declared.pattern_fault.PatternWhy.{PatternWhy}
 use Rattle.pattern_syntax.specs.declared.pattern_fault.PatternWhy.TheVariants.{Syntax, TooManyPositions}
+use Rattle.pattern_syntax.specs.declared.limits.TheConstants.{MOST_POSITIONS}
 
 skipped : (place skip : ℕ) (text : List ℕ) → tokens_from place skip text ≡ tokens_from (place + skip) 0 (drop skip text)
 unfolding tokens_from
@@ -74,10 +75,10 @@ reads_more end read at token rest e =
 pub no_zero : (n : ℕ) → (suc n == 0) ≡ false
 no_zero n = grind (arith, nat_tests)
 
-is_small : (n : ℕ) → n ≤ 2000 → leb n 2000 ≡ true
+is_small : (n : ℕ) → n ≤ MOST_POSITIONS → leb n MOST_POSITIONS ≡ true
 is_small n h = grind (arith, nat_tests)
 
-is_large : (n : ℕ) → 2000 < n → leb n 2000 ≡ false
+is_large : (n : ℕ) → MOST_POSITIONS < n → leb n MOST_POSITIONS ≡ false
 is_large n h = grind (arith, nat_tests)
 
 pub ends_open : (end : ℕ) (read : Reading) → 0 < length read.outer → reads_as end read [] ≡ Err (Syntax end)
@@ -91,14 +92,14 @@ ends_open end read h = ends_at read.outer h
 pub is_zero : (n : ℕ) → n ≡ 0 → (n == 0) ≡ true
 is_zero n h = grind (arith, nat_tests)
 
-pub ends_whole : (end : ℕ) (read : Reading) → length read.outer ≡ 0 → positions (choice_of read.level) ≤ 2000 → reads_as end read [] ≡ Ok (choice_of read.level)
+pub ends_whole : (end : ℕ) (read : Reading) → length read.outer ≡ 0 → positions (choice_of read.level) ≤ MOST_POSITIONS → reads_as end read [] ≡ Ok (choice_of read.level)
 unfolding reads_as first_fault
 ends_whole end read h k =
     ap (λ t. read_as (cond t None (Some (Syntax end))) (choice_of read.level)) (is_zero (length read.outer) h)
-    ∙ ap (λ t. cond t (Ok (choice_of read.level)) (Err TooManyPositions)) (let e : leb (positions (choice_of read.level)) 2000 ≡ true = is_small _ k in e)
+    ∙ ap (λ t. cond t (Ok (choice_of read.level)) (Err TooManyPositions)) (let e : leb (positions (choice_of read.level)) MOST_POSITIONS ≡ true = is_small _ k in e)
 
-pub ends_many : (end : ℕ) (read : Reading) → length read.outer ≡ 0 → 2000 < positions (choice_of read.level) → reads_as end read [] ≡ Err TooManyPositions
+pub ends_many : (end : ℕ) (read : Reading) → length read.outer ≡ 0 → MOST_POSITIONS < positions (choice_of read.level) → reads_as end read [] ≡ Err TooManyPositions
 unfolding reads_as first_fault
 ends_many end read h k =
     ap (λ t. read_as (cond t None (Some (Syntax end))) (choice_of read.level)) (is_zero (length read.outer) h)
-    ∙ ap (λ t. cond t (Ok (choice_of read.level)) (Err TooManyPositions)) (let e : leb (positions (choice_of read.level)) 2000 ≡ false = is_large _ k in e)
+    ∙ ap (λ t. cond t (Ok (choice_of read.level)) (Err TooManyPositions)) (let e : leb (positions (choice_of read.level)) MOST_POSITIONS ≡ false = is_large _ k in e)

@@ -16,6 +16,7 @@ use Rattle.pattern_syntax.specs.declared.pattern_fault.PatternWhy.{PatternWhy}
 use Rattle.pattern_syntax.specs.declared.pattern_fault.PatternWhy.TheVariants.{Syntax, TooDeep, TooManyPositions}
 use Rattle.pattern_syntax.proofs.ReadingLemmas.{behind_is, no_zero, tokens_none, tokens_refused, tokens_more}
 use Rattle.pattern_syntax.proofs.GrammarLemmas.{no_fault_first, no_fault_later}
+use Rattle.pattern_syntax.specs.declared.limits.TheConstants.{MOST_GROUPS, MOST_POSITIONS}
 
 abbrev base_of : Level → List Level → ℕ
 base_of level [] = base_positions level
@@ -73,11 +74,11 @@ tree_grows end ((place, Ok token) ∷ placed) read e =
     let h = tree_grows end placed (after_token read token) c in
     omega (arith, g, h)
 
-read_many : (fault : Option PatternWhy) (found : Tree) → (fault ≡ None → 2000 < positions found) → read_as fault found ≡ Err (unwrap_or fault TooManyPositions)
+read_many : (fault : Option PatternWhy) (found : Tree) → (fault ≡ None → MOST_POSITIONS < positions found) → read_as fault found ≡ Err (unwrap_or fault TooManyPositions)
 read_many (Some why) found h = refl
 read_many None found h = ap (λ t. cond t (Ok found) (Err TooManyPositions)) (is_large (positions found) (h refl))
   where
-    is_large : (n : ℕ) → 2000 < n → leb n 2000 ≡ false
+    is_large : (n : ℕ) → MOST_POSITIONS < n → leb n MOST_POSITIONS ≡ false
     is_large n h = grind (arith, nat_tests)
 
 outermost : (level : Level) (outer : List Level) → length outer ≡ 0 → base_of level outer ≡ base_positions level
@@ -86,7 +87,7 @@ outermost level (around ∷ outer) h = absurd (omega arith)
 
 -- where the positions outside of all groups are too many, the first fault of the rest decides
 pub rest_refused : (meant : Result Tree PatternWhy) (end : ℕ) (read : Reading) (after_piece : Bool) (placed : List Placed) → meant ≡ reads_as end read placed → length read.outer ≡ 0 → after_piece ≡ is_some read.level.piece
-    → 2000 < base_positions read.level → meant ≡ Err (unwrap_or (first_fault end 0 after_piece placed) TooManyPositions)
+    → MOST_POSITIONS < base_positions read.level → meant ≡ Err (unwrap_or (first_fault end 0 after_piece placed) TooManyPositions)
 unfolding reads_as
 rest_refused meant end read after_piece placed e z p h =
     e ∙ read_many (first_fault end (length read.outer) (is_some read.level.piece) placed) (tree_after read placed)
@@ -156,14 +157,14 @@ whole_cause fault end depth e h =
     let f : fault ≡ None = e ∙ ap (λ t. cond t None (Some (Syntax end))) z in
     ap (λ (o : Option PatternWhy). Some (unwrap_or o TooManyPositions)) (sym f)
 
-not_deep : (depth at : ℕ) → cond (leb 50 depth) (Some (TooDeep at)) None ≡ None → depth < 50
-not_deep depth at h = by_test (leb 50 depth) refl h
+not_deep : (depth at : ℕ) → cond (leb MOST_GROUPS depth) (Some (TooDeep at)) None ≡ None → depth < MOST_GROUPS
+not_deep depth at h = by_test (leb MOST_GROUPS depth) refl h
   where
-    by_test : (b : Bool) → leb 50 depth ≡ b → cond b (Some (TooDeep at)) None ≡ None → depth < 50
+    by_test : (b : Bool) → leb MOST_GROUPS depth ≡ b → cond b (Some (TooDeep at)) None ≡ None → depth < MOST_GROUPS
     by_test true k h = absurd (let f : Some (TooDeep at) ≡ None = h in cc)
     by_test false k h = grind (arith, nat_tests)
 
-pub stays_shallow : (depth : ℕ) (after_piece : Bool) (at : ℕ) (token : Token) → depth ≤ 50 → structure_fault depth after_piece at token ≡ None → depth_behind token depth ≤ 50
+pub stays_shallow : (depth : ℕ) (after_piece : Bool) (at : ℕ) (token : Token) → depth ≤ MOST_GROUPS → structure_fault depth after_piece at token ≡ None → depth_behind token depth ≤ MOST_GROUPS
 stays_shallow depth after_piece at (Bytes bytes) h e = h
 stays_shallow depth after_piece at Open h e = let k = not_deep depth at e in omega (arith, k)
 stays_shallow depth after_piece at Close h e = omega arith
@@ -185,7 +186,7 @@ sides_counted : (sides : Option Tree) → unwrap_or (option_map count_of sides) 
 sides_counted None = omega arith
 sides_counted (Some tree) = omega arith
 
-pub full_stands : (builder : Builder) (read : Reading) → Stands builder read → length builder.outer.items ≡ 0 → 2000 < capped (unwrap_or builder.level.sides 0 + builder.level.sequence) → (length read.outer ≡ 0) × (2000 < base_positions read.level)
+pub full_stands : (builder : Builder) (read : Reading) → Stands builder read → length builder.outer.items ≡ 0 → MOST_POSITIONS < capped (unwrap_or builder.level.sides 0 + builder.level.sequence) → (length read.outer ≡ 0) × (MOST_POSITIONS < base_positions read.level)
 full_stands builder read s z h =
     let l = ap length s.outer ∙ outer_length read.outer in
     let a = ap (λ (l : counts.Level). unwrap_or l.sides 0) s.level in
@@ -194,7 +195,7 @@ full_stands builder read s z h =
     (omega (arith, l, z), omega (arith, a, b, c, h))
 
 pub full_on_true : (builder : Builder) (sides n : ℕ) → length builder.outer.items ≡ 0 → sides ≡ unwrap_or builder.level.sides 0 → n ≡ capped (sides + builder.level.sequence)
-    → OnTrue (ltb 2000 n) ((read : Reading) → Stands builder read → (length read.outer ≡ 0) × (2000 < base_positions read.level))
+    → OnTrue (ltb MOST_POSITIONS n) ((read : Reading) → Stands builder read → (length read.outer ≡ 0) × (MOST_POSITIONS < base_positions read.level))
 full_on_true builder sides n z e h =
-    on_true (ltb 2000 n) ((read : Reading) → Stands builder read → (length read.outer ≡ 0) × (2000 < base_positions read.level))
-    (λ (t : ltb 2000 n ≡ true). λ (read : Reading) (s : Stands builder read). full_stands builder read s z (let k = ltb-true 2000 n t in omega (arith, k, e, h)))
+    on_true (ltb MOST_POSITIONS n) ((read : Reading) → Stands builder read → (length read.outer ≡ 0) × (MOST_POSITIONS < base_positions read.level))
+    (λ (t : ltb MOST_POSITIONS n ≡ true). λ (read : Reading) (s : Stands builder read). full_stands builder read s z (let k = ltb-true MOST_POSITIONS n t in omega (arith, k, e, h)))

@@ -41,7 +41,10 @@ fn with_digit(value: u32, b: u8) -> u32
     ensures { result ≡ times_more value b }
 {
     let digit = u32::from(b.saturating_sub(b'0'));
-    value.saturating_mul(10).saturating_add(digit).min(MOST_TIMES + 1)
+    value
+        .saturating_mul(10)
+        .saturating_add(digit)
+        .min(MOST_TIMES + 1)
 }
 
 #[tactic(auto, using(crate::proofs::TokenLemmas::fold_is_times))]
