@@ -8,6 +8,7 @@ pub mod Copies
 pub mod Stepping
 pub mod WordBits
 pub mod Marks
+pub mod Keeping
 pub mod Rows
 pub mod Machine
 pub mod Reading

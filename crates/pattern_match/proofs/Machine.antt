@@ -1,11 +1,16 @@
 -- A matcher's tables and what its calls do to sets of states.
-use Rattle.std.proofs.Common.{◌≡◌, refl, sym, ◌∙◌, ap, subst, ℕ, zero, suc, ◌+◌, ◌-◌, ◌*◌, ◌/◌, ◌<◌, ◌≤◌, ◌==◌, Bool, true, false, List, [], length, None, ◌⊎◌, inl, inr, arith}
+use Rattle.std.proofs.Common.{◌≡◌, refl, sym, ◌∙◌, ap, subst, ℕ, zero, suc, ◌+◌, ◌-◌, ◌*◌, ◌/◌, ◌<◌, ◌≤◌, ◌==◌, Bool, true, false, List, [], ◌∷◌, length, map, None, ◌⊎◌, inl, inr, arith}
 use Rattle.std.specs.Prelude.{◌&&◌, slice_get, nat_lt}
+use Rattle.std.proofs.lemmas.List.{length-map}
+use Rattle.std.specs.List.{list_any}
 use Rattle.pattern_syntax.specs.Tree.{Tree}
+use Rattle.pattern_match.specs.Class.{class_bytes, takes_at}
+use Rattle.pattern_match.specs.declared.class.Class.{Class}
+use Rattle.pattern_match.proofs.Classes.{class_takes}
 use Rattle.pattern_match.specs.Residuals.{all_residuals, has_texts}
 use Rattle.pattern_match.specs.Automaton.{Place, automaton, all_places}
 use Rattle.pattern_match.specs.States.{bit, width_of, AreStatesOf, StandsFor}
-use Rattle.pattern_match.specs.Tables.{AreTables, leads, ends, has, any_below}
+use Rattle.pattern_match.specs.Tables.{AreTables, leads, ends, has, any_below, bytes_in}
 use Rattle.pattern_match.proofs.Language.{and_first, and_second, and_both, or_either, or_left, or_right}
 use Rattle.pattern_match.proofs.WordBits.{bit_within}
 use Rattle.pattern_match.proofs.Rows.{get_past, row_within}
@@ -64,28 +69,38 @@ last_is n k e = let f : n - 1 ≡ k = omega arith in grind arith
 is_last : (n k : ℕ) → nat_lt 0 n ≡ true → (n - 1 == k) ≡ true → suc k ≡ n
 is_last n k a b = let f : n - 1 ≡ k = grind arith in let g : 0 < n = grind arith in omega arith
 
-module _ (ps : List Place) (width : ℕ) (follow accept bytes : List ℕ) (t : AreTables width follow accept bytes ps) where
+same_bytes : (classes : List Class) (ps : List Place) (q b : ℕ) → b < 256 → map class_bytes classes ≡ map bytes_in ps → takes_at classes q b ≡ has (slice_get ps q) b
+same_bytes [] [] q b m e = refl
+same_bytes [] (p ∷ ps) q b m e = cc
+same_bytes (c ∷ cs) [] q b m e = cc
+same_bytes (c ∷ cs) (p ∷ ps) zero b m e = let f : class_bytes c ≡ p.bytes = cc in class_takes c b m ∙ ap (list_any (λ n. n == b)) f
+same_bytes (c ∷ cs) (p ∷ ps) (suc q) b m e = same_bytes cs ps q b m (let f : map class_bytes cs ≡ map bytes_in ps = cc in f)
+
+module _ (ps : List Place) (width : ℕ) (follow accept : List ℕ) (classes : List Class) (t : AreTables width follow accept classes ps) where
   rows_fit : length ps ≤ 64 * width
   rows_fit = let w : width ≡ (length ps + 63) / 64 = t.wide in omega arith
 
-  machine_steps : (old new : List ℕ) (b : ℕ) → b < 256 → length old ≡ width → length new ≡ length old → ((k : ℕ) → k < 64 * length old → bit new k ≡ (any_below (λ p. bit old p && bit follow (64 * (p * length old) + k)) (length ps) && bit bytes (64 * (b * width) + k))) → IsStep ps old new b
+  taken : (b q : ℕ) → b < 256 → takes_at classes q b ≡ has (slice_get ps q) b
+  taken b q m = same_bytes classes ps q b m t.bytes
+
+  machine_steps : (old new : List ℕ) (b : ℕ) → b < 256 → length old ≡ width → length new ≡ length old → ((k : ℕ) → k < 64 * length old → bit new k ≡ (any_below (λ p. bit old p && bit follow (64 * (p * length old) + k)) (length ps) && takes_at classes k b)) → IsStep ps old new b
   machine_steps old new b m n o h = record {
     onto = λ p q u v w.
         let lp = leads_within ps p q v in
         let lq = has_within ps q b w in
         let f = rows_fit in
         let r : bit follow (64 * (p * width) + q) ≡ true = t.follows p q lp (omega arith) ∙ v in
-        let s : bit bytes (64 * (b * width) + q) ≡ true = t.taken b q m (omega arith) ∙ w in
+        let s : takes_at classes q b ≡ true = taken b q m ∙ w in
         h q (omega arith) ∙ and_both _ _ (any_to (λ p. bit old p && bit follow (64 * (p * length old) + q)) (length ps) p lp (and_both _ _ u (rw n r))) s;
     from = λ q u.
         let lq = bit_within new q u in
         let f = rows_fit in
         let e = sym (h q (omega arith)) ∙ u in
         let a = any_from (λ p. bit old p && bit follow (64 * (p * length old) + q)) (length ps) (and_first (any_below (λ p. bit old p && bit follow (64 * (p * length old) + q)) (length ps)) _ e) in
-        let d : bit bytes (64 * (b * width) + q) ≡ true = and_second (any_below (λ p. bit old p && bit follow (64 * (p * length old) + q)) (length ps)) _ e in
+        let d : takes_at classes q b ≡ true = and_second (any_below (λ p. bit old p && bit follow (64 * (p * length old) + q)) (length ps)) _ e in
         let u2 : bit follow (64 * (a.0 * length old) + q) ≡ true = and_second (bit old a.0) _ a.2 in
         let g : bit follow (64 * (a.0 * width) + q) ≡ true = subst (λ w. bit follow (64 * (a.0 * w) + q) ≡ true) n u2 in
-        (sym (t.taken b q m (omega arith)) ∙ d, (a.0, and_first (bit old a.0) _ a.2, sym (t.follows a.0 q a.1 (omega arith)) ∙ g));
+        (sym (taken b q m) ∙ d, (a.0, and_first (bit old a.0) _ a.2, sym (t.follows a.0 q a.1 (omega arith)) ∙ g));
   }
 
   machine_ends : (states : List ℕ) (v : Bool) → length states ≡ width → ((k : ℕ) → bit states k ≡ true → bit accept k ≡ true → v ≡ true) → (v ≡ true → (k : ℕ) × (bit states k ≡ true) × (bit accept k ≡ true)) → IsEnd ps states v
@@ -131,16 +146,16 @@ started_states t states n s = record {
     at k l true e = let w = s.from k e in let m = as_many t in absurd (omega arith)
 
 -- the tables of a pattern
-pub record IsMachine (t : Tree) (rows width : ℕ) (follow accept bytes : List ℕ) : Type 0 where
+pub record IsMachine (t : Tree) (rows width : ℕ) (follow accept : List ℕ) (classes : List Class) : Type 0 where
   pub rows_is : rows ≡ length (all_places (automaton t))
-  pub tables : AreTables width follow accept bytes (all_places (automaton t))
+  pub tables : AreTables width follow accept classes (all_places (automaton t))
 
-module _ (t : Tree) (rows width : ℕ) (follow accept bytes : List ℕ) (m : IsMachine t rows width follow accept bytes) where
+module _ (t : Tree) (rows width : ℕ) (follow accept : List ℕ) (classes : List Class) (m : IsMachine t rows width follow accept classes) where
   width_is : width ≡ width_of t
   width_is = let w : width ≡ (length (all_places (automaton t)) + 63) / 64 = m.tables.wide in let n = as_many t in omega arith
 
   pub start_is : (new : List ℕ) → length new ≡ width → ((k : ℕ) → k < 64 * length new → bit new k ≡ (nat_lt 0 rows && (rows - 1 == k))) → IsStart (all_places (automaton t)) new
-  start_is new n h = let F : ℕ → Type 0 = λ r. (k : ℕ) → k < 64 * length new → bit new k ≡ (nat_lt 0 r && (r - 1 == k)) in machine_starts (all_places (automaton t)) width follow accept bytes m.tables new n (subst F m.rows_is h)
+  start_is new n h = let F : ℕ → Type 0 = λ r. (k : ℕ) → k < 64 * length new → bit new k ≡ (nat_lt 0 r && (r - 1 == k)) in machine_starts (all_places (automaton t)) width follow accept classes m.tables new n (subst F m.rows_is h)
 
   pub start_made : (new : List ℕ) → length new ≡ width → ((k : ℕ) → k < 64 * length new → bit new k ≡ (nat_lt 0 rows && (rows - 1 == k))) → AreStatesOf t new
   start_made new n h = started_states t new (n ∙ width_is) (start_is new n h)
@@ -172,32 +187,33 @@ module _ (t : Tree) (rows width : ℕ) (follow accept bytes : List ℕ) (m : IsM
   pub all_rows : (old : List ℕ) (test : ℕ → Bool) → AreStatesOf t old → any_below (λ p. bit old p && test p) (64 * length old) ≡ any_below (λ p. bit old p && test p) rows
   all_rows old test a = any_past (λ p. bit old p && test p) rows (64 * length old) (rows_in old a) (λ p l. let n = as_many t in let r = m.rows_is in let e : bit old p ≡ false = a.none_past p (omega arith) in ap (λ v. v && test p) e)
 
-  pub byte_in : (old : List ℕ) (b : ℕ) → AreStatesOf t old → b < 256 → b * width + length old ≤ length bytes
-  byte_in old b a l = let n = wide old a in let f = m.tables.bytes in rw (n, f) (row_within b 256 width l)
-
-  pub row_fits : (b : ℕ) → b < 256 → b * width ≤ length bytes
-  row_fits b l = let f = m.tables.bytes in let g = row_within b 256 width l in rw f (omega arith)
-
-  pub step_is : (old new : List ℕ) (b : ℕ) → b < 256 → AreStatesOf t old → length new ≡ length old → ((k : ℕ) → k < 64 * length old → bit new k ≡ (any_below (λ p. bit old p && bit follow (64 * (p * length old) + k)) rows && bit bytes (64 * (b * width) + k))) → IsStep (all_places (automaton t)) old new b
+  pub step_is : (old new : List ℕ) (b : ℕ) → b < 256 → AreStatesOf t old → length new ≡ length old → ((k : ℕ) → k < 64 * length old → bit new k ≡ (any_below (λ p. bit old p && bit follow (64 * (p * length old) + k)) rows && takes_at classes k b)) → IsStep (all_places (automaton t)) old new b
   step_is old new b l a n h =
-      let F : ℕ → Type 0 = λ r. (k : ℕ) → k < 64 * length old → bit new k ≡ (any_below (λ p. bit old p && bit follow (64 * (p * length old) + k)) r && bit bytes (64 * (b * width) + k)) in
-      machine_steps (all_places (automaton t)) width follow accept bytes m.tables old new b l (wide old a) n (subst F m.rows_is h)
+      let F : ℕ → Type 0 = λ r. (k : ℕ) → k < 64 * length old → bit new k ≡ (any_below (λ p. bit old p && bit follow (64 * (p * length old) + k)) r && takes_at classes k b) in
+      machine_steps (all_places (automaton t)) width follow accept classes m.tables old new b l (wide old a) n (subst F m.rows_is h)
 
   pub accept_in : (states : List ℕ) → AreStatesOf t states → length states ≡ length accept
   accept_in states a = wide states a ∙ sym m.tables.accepts
 
   pub end_is : (states : List ℕ) (v : Bool) → AreStatesOf t states → ((k : ℕ) → bit states k ≡ true → bit accept k ≡ true → v ≡ true) → (v ≡ true → (k : ℕ) × (bit states k ≡ true) × (bit accept k ≡ true)) → IsEnd (all_places (automaton t)) states v
-  end_is states v a f g = machine_ends (all_places (automaton t)) width follow accept bytes m.tables states v (wide states a) f g
+  end_is states v a f g = machine_ends (all_places (automaton t)) width follow accept classes m.tables states v (wide states a) f g
 
-  pub step_at : (old new shown kept : List ℕ) (b from : ℕ) → shown ≡ follow → kept ≡ bytes → from ≡ b → b < 256 → AreStatesOf t old → length new ≡ length old → ((k : ℕ) → k < 64 * length old → bit new k ≡ (any_below (λ p. bit old p && bit shown (64 * (p * length old) + k)) (64 * length old) && bit kept (64 * (from * width) + k))) → IsStep (all_places (automaton t)) old new b
-  step_at old new shown kept b from e f g l a n h =
-      let F : List ℕ → Type 0 = λ s. (k : ℕ) → k < 64 * length old → bit new k ≡ (any_below (λ p. bit old p && bit s (64 * (p * length old) + k)) (64 * length old) && bit kept (64 * (from * width) + k)) in
-      let G : List ℕ → Type 0 = λ s. (k : ℕ) → k < 64 * length old → bit new k ≡ (any_below (λ p. bit old p && bit follow (64 * (p * length old) + k)) (64 * length old) && bit s (64 * (from * width) + k)) in
-      let H : ℕ → Type 0 = λ c. (k : ℕ) → k < 64 * length old → bit new k ≡ (any_below (λ p. bit old p && bit follow (64 * (p * length old) + k)) (64 * length old) && bit bytes (64 * (c * width) + k)) in
-      step_is old new b l a n (λ k u. subst H g (subst G f (subst F e h)) k u ∙ ap (λ v. v && bit bytes (64 * (b * width) + k)) (all_rows old (λ p. bit follow (64 * (p * length old) + k)) a))
+  pub step_at : (old new shown : List ℕ) (kept : List Class) (b : ℕ) → shown ≡ follow → kept ≡ classes → b < 256 → AreStatesOf t old → length new ≡ length old → ((k : ℕ) → k < 64 * length old → bit new k ≡ (any_below (λ p. bit old p && bit shown (64 * (p * length old) + k)) (64 * length old) && takes_at kept k b)) → IsStep (all_places (automaton t)) old new b
+  step_at old new shown kept b e f l a n h =
+      let F : List ℕ → Type 0 = λ s. (k : ℕ) → k < 64 * length old → bit new k ≡ (any_below (λ p. bit old p && bit s (64 * (p * length old) + k)) (64 * length old) && takes_at kept k b) in
+      let G : List Class → Type 0 = λ s. (k : ℕ) → k < 64 * length old → bit new k ≡ (any_below (λ p. bit old p && bit follow (64 * (p * length old) + k)) (64 * length old) && takes_at s k b) in
+      step_is old new b l a n (λ k u. subst G f (subst F e h) k u ∙ ap (λ v. v && takes_at classes k b) (all_rows old (λ p. bit follow (64 * (p * length old) + k)) a))
 
   pub end_at : (states shown kept : List ℕ) (v : Bool) → shown ≡ states → kept ≡ accept → AreStatesOf t states → ((k : ℕ) → bit shown k ≡ true → bit kept k ≡ true → v ≡ true) → (v ≡ true → (k : ℕ) × (bit shown k ≡ true) × (bit kept k ≡ true)) → IsEnd (all_places (automaton t)) states v
   end_at states shown kept v e f a g h =
       end_is states v a
       (λ k u w. g k (subst (λ (s : List ℕ). bit s k ≡ true) (sym e) u) (subst (λ (s : List ℕ). bit s k ≡ true) (sym f) w))
       (λ i. let r = h i in (r.0, subst (λ (s : List ℕ). bit s r.0 ≡ true) e r.1, subst (λ (s : List ℕ). bit s r.0 ≡ true) f r.2))
+
+  -- the words have no more bits than there are classes, but for those of one word
+  pub room : (old : List ℕ) → AreStatesOf t old → 64 * length old < length classes + 64
+  room old a =
+      let n = wide old a in
+      let w : width ≡ (length (all_places (automaton t)) + 63) / 64 = m.tables.wide in
+      let l : length classes ≡ length (all_places (automaton t)) = sym (length-map classes class_bytes) ∙ ap length m.tables.bytes ∙ length-map (all_places (automaton t)) bytes_in in
+      omega arith

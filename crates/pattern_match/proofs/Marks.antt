@@ -92,7 +92,7 @@ or_last a true false w e h = rw e refl
 or_last a false true w e h = rw e refl
 or_last a false false w e h = rw e (sym h)
 
-equal_or_not : (j k : ℕ) → (j ≡ k) ⊎ (j ≢ k)
+pub equal_or_not : (j k : ℕ) → (j ≡ k) ⊎ (j ≢ k)
 equal_or_not j k = grind arith
 
 pub same_below : (f g : ℕ → Bool) (n : ℕ) → ((j : ℕ) → j < n → f j ≡ g j) → any_below f n ≡ any_below g n
@@ -218,21 +218,20 @@ one_word marks follow n k e l =
     sym (same_below (λ p. bit marks p && bit follow (64 * (p * n) + k)) (λ j. (bit_at (get_or marks 0 0) j == 1) && (bit_at (get_or follow j 0) k == 1)) 64 (λ j u. ap (λ v. v && bit follow (64 * (j * n) + k)) (same_mark marks j u) ∙ ap (λ v. (bit_at (get_or marks 0 0) j == 1) && v) (same_row follow n j k e l))) ∙ ap (any_below (λ p. bit marks p && bit follow (64 * (p * n) + k))) w
 
 -- a step where the marks are one word
-word_step : (marks follow bytes : List ℕ) (reached start n k : ℕ) → n ≡ 1 → n ≡ length marks → k < 64 * n → ((i : ℕ) → (bit_at reached i == 1) ≡ any_bit (λ j. (bit_at (get_or marks 0 0) j == 1) && (bit_at (get_or follow j 0) i == 1))) → bit (set marks 0 (bit_and reached (get_or bytes start 0))) k ≡ (any_below (λ p. bit marks p && bit follow (64 * (p * n) + k)) (64 * n) && bit bytes (64 * start + k))
-word_step marks follow bytes reached start n k e f l h =
+word_step : (marks follow : List ℕ) (test : ℕ → Bool) (reached kept n k : ℕ) → n ≡ 1 → n ≡ length marks → k < 64 * n → ((i : ℕ) → (bit_at reached i == 1) ≡ any_bit (λ j. (bit_at (get_or marks 0 0) j == 1) && (bit_at (get_or follow j 0) i == 1))) → (bit_at kept k == 1) ≡ ((bit_at reached k == 1) && test k) → bit (set marks 0 kept) k ≡ (any_below (λ p. bit marks p && bit follow (64 * (p * n) + k)) (64 * n) && test k)
+word_step marks follow test reached kept n k e f l h t =
     let u : k < 64 = omega arith in
-    let g : get_or (set marks 0 (bit_and reached (get_or bytes start 0))) 0 0 ≡ bit_and reached (get_or bytes start 0) = get_or-set_same marks 0 (bit_and reached (get_or bytes start 0)) 0 (omega arith) in
-    same_mark (set marks 0 (bit_and reached (get_or bytes start 0))) k u
+    let g : get_or (set marks 0 kept) 0 0 ≡ kept = get_or-set_same marks 0 kept 0 (omega arith) in
+    same_mark (set marks 0 kept) k u
     ∙ ap (λ w. bit_at w k == 1) g
-    ∙ word_both reached (get_or bytes start 0) k
-    ∙ ap (λ v. v && (bit_at (get_or bytes start 0) k == 1)) (h k ∙ one_word marks follow n k e u)
-    ∙ ap (λ v. any_below (λ p. bit marks p && bit follow (64 * (p * n) + k)) (64 * n) && v) (sym (bit_in_word bytes start k u))
+    ∙ t
+    ∙ ap (λ v. v && test k) (h k ∙ one_word marks follow n k e u)
 
-pub step_word : (marks inner follow bytes : List ℕ) (word reached start k : ℕ) → inner ≡ marks → word ≡ get_or inner 0 0 → length inner ≡ 1 → k < 64 * length marks → ((i : ℕ) → (bit_at reached i == 1) ≡ any_bit (λ j. (bit_at word j == 1) && (bit_at (get_or follow j 0) i == 1))) → bit (set inner 0 (bit_and reached (get_or bytes start 0))) k ≡ (any_below (λ p. bit marks p && bit follow (64 * (p * length marks) + k)) (64 * length marks) && bit bytes (64 * start + k))
-step_word marks inner follow bytes word reached start k e w n l h =
+pub step_word : (marks inner follow : List ℕ) (test : ℕ → Bool) (word reached kept k : ℕ) → inner ≡ marks → word ≡ get_or inner 0 0 → length inner ≡ 1 → k < 64 * length marks → ((i : ℕ) → (bit_at reached i == 1) ≡ any_bit (λ j. (bit_at word j == 1) && (bit_at (get_or follow j 0) i == 1))) → (bit_at kept k == 1) ≡ ((bit_at reached k == 1) && test k) → bit (set inner 0 kept) k ≡ (any_below (λ p. bit marks p && bit follow (64 * (p * length marks) + k)) (64 * length marks) && test k)
+step_word marks inner follow test word reached kept k e w n l h t =
     let m : length marks ≡ 1 = ap length (sym e) ∙ n in
     let v : word ≡ get_or marks 0 0 = w ∙ ap (λ (s : List ℕ). get_or s 0 0) e in
-    rw e (word_step marks follow bytes reached start (length marks) k m refl l (subst (λ x. (i : ℕ) → (bit_at reached i == 1) ≡ any_bit (λ j. (bit_at x j == 1) && (bit_at (get_or follow j 0) i == 1))) v h))
+    rw e (word_step marks follow test reached kept (length marks) k m refl l (subst (λ x. (i : ℕ) → (bit_at reached i == 1) ≡ any_bit (λ j. (bit_at x j == 1) && (bit_at (get_or follow j 0) i == 1))) v h) t)
 
 pub marked_row : (marks inner : List ℕ) (word t j : ℕ) → inner ≡ marks → word ≡ get_or inner 0 0 → length inner ≡ 1 → ((p : ℕ) → bit marks p ≡ true → p * length marks + length marks ≤ t) → j < 64 → bit_at word j ≡ 1 → j < t
 marked_row marks inner word t j e w n h l b =

@@ -26,7 +26,7 @@ not_same : (j k : ℕ) → j ≢ k → (j == k) ≡ false
 not_same j k e = grind arith
 
 -- a bit set in a word
-word_bit : (w i j : ℕ) → i < 64 → j < 64 → (bit_at (bit_or w (1 * 2 ^ i % 18446744073709551616)) j == 1) ≡ ((bit_at w j == 1) || (j == i))
+pub word_bit : (w i j : ℕ) → i < 64 → j < 64 → (bit_at (bit_or w (1 * 2 ^ i % 18446744073709551616)) j == 1) ≡ ((bit_at w j == 1) || (j == i))
 word_bit w i j l m = at (same_or_not j i)
   where
     at : (j ≡ i) ⊎ (j ≢ i) → (bit_at (bit_or w (1 * 2 ^ i % 18446744073709551616)) j == 1) ≡ ((bit_at w j == 1) || (j == i))
@@ -143,9 +143,9 @@ none_any words h k b =
     let d : true ≡ false = sym b ∙ e in cc
 
 -- what is gathered and then kept
-pub step_bits : (marks gathered new shown kept follow bytes : List ℕ) (width start k : ℕ) → width ≡ length marks → shown ≡ marks → kept ≡ gathered → bit gathered k ≡ any_below (λ p. bit shown p && bit follow (64 * (p * width) + k)) (64 * width) → bit new k ≡ (bit kept k && bit bytes (64 * start + k)) → bit new k ≡ (any_below (λ p. bit marks p && bit follow (64 * (p * length marks) + k)) (64 * length marks) && bit bytes (64 * start + k))
-step_bits marks gathered new shown kept follow bytes width start k n e f g h =
+pub step_bits : (marks gathered new shown kept follow : List ℕ) (test : ℕ → Bool) (width k : ℕ) → width ≡ length marks → shown ≡ marks → kept ≡ gathered → bit gathered k ≡ any_below (λ p. bit shown p && bit follow (64 * (p * width) + k)) (64 * width) → bit new k ≡ (bit kept k && test k) → bit new k ≡ (any_below (λ p. bit marks p && bit follow (64 * (p * length marks) + k)) (64 * length marks) && test k)
+step_bits marks gathered new shown kept follow test width k n e f g h =
     let F : ℕ → Type 0 = λ w. bit gathered k ≡ any_below (λ p. bit shown p && bit follow (64 * (p * w) + k)) (64 * w) in
     let G : List ℕ → Type 0 = λ m. bit gathered k ≡ any_below (λ p. bit m p && bit follow (64 * (p * length marks) + k)) (64 * length marks) in
     let a : bit gathered k ≡ any_below (λ p. bit marks p && bit follow (64 * (p * length marks) + k)) (64 * length marks) = subst G e (subst F n g) in
-    h ∙ ap (λ v. v && bit bytes (64 * start + k)) (ap (λ (w : List ℕ). bit w k) f ∙ a)
+    h ∙ ap (λ v. v && test k) (ap (λ (w : List ℕ). bit w k) f ∙ a)

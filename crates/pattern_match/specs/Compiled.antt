@@ -8,4 +8,4 @@ use Rattle.pattern_match.specs.declared.matcher.Matcher.TheInside.{Inside}
 -- the tables are those of the nodes' automaton
 pub record IsCompiled (m : Inside) : Type 0 where
   pub rows : m.rows ≡ length (all_places (automaton (tree_of m.nodes.items)))
-  pub tables : AreTables m.width m.follow.items m.accept.items m.bytes.items (all_places (automaton (tree_of m.nodes.items)))
+  pub tables : AreTables m.width m.follow.items m.accept.items m.classes.items (all_places (automaton (tree_of m.nodes.items)))

@@ -1,8 +1,10 @@
 -- The tables of a matcher: what its automaton says, as bits.
-use Rattle.std.specs.Prelude.{◌≡◌, ℕ, zero, suc, ◌||◌, ◌+◌, ◌*◌, ◌/◌, ◌<◌, ◌==◌, Bool, false, List, length, Option, Some, None, slice_get}
+use Rattle.std.specs.Prelude.{◌≡◌, ℕ, zero, suc, ◌||◌, ◌+◌, ◌*◌, ◌/◌, ◌<◌, ◌==◌, Bool, false, List, length, map, Option, Some, None, slice_get}
 use Rattle.std.specs.List.{list_any}
 use Rattle.pattern_match.specs.Automaton.{Place}
+use Rattle.pattern_match.specs.Class.{class_bytes}
 use Rattle.pattern_match.specs.States.{bit}
+use Rattle.pattern_match.specs.declared.class.Class.{Class}
 
 -- the place may be followed by the one of this number
 abbrev pub leads : Option Place → ℕ → Bool
@@ -17,16 +19,18 @@ abbrev pub has : Option Place → ℕ → Bool
 has None b = false
 has (Some place) b = list_any (λ c. c == b) place.bytes
 
--- a row of so many words for each place, with the places that may follow it; the places that end a text; and a row for
--- each byte, with the places that take it
-pub record AreTables (width : ℕ) (follow accept masks : List ℕ) (places : List Place) : Type 0 where
+abbrev pub bytes_in : Place → List ℕ
+bytes_in place = place.bytes
+
+-- a row of so many words for each place, with the places that may follow it; the places that end a text; and the class of
+-- each place
+pub record AreTables (width : ℕ) (follow accept : List ℕ) (classes : List Class) (places : List Place) : Type 0 where
   pub wide : width ≡ (length places + 63) / 64
   pub rows : length follow ≡ length places * width
   pub accepts : length accept ≡ width
-  pub bytes : length masks ≡ 256 * width
   pub follows : (p q : ℕ) → p < length places → q < 64 * width → bit follow (64 * (p * width) + q) ≡ leads (slice_get places p) q
   pub last : (p : ℕ) → p < 64 * width → bit accept p ≡ ends (slice_get places p)
-  pub taken : (b q : ℕ) → b < 256 → q < 64 * width → bit masks (64 * (b * width) + q) ≡ has (slice_get places q) b
+  pub bytes : map class_bytes classes ≡ map bytes_in places
 
 -- some number below passes
 abbrev pub any_below : (ℕ → Bool) → ℕ → Bool

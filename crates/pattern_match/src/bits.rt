@@ -40,16 +40,15 @@ pub fn add_row(to: &mut Vec<u64>, table: &[u64], start: usize)
     }
 }
 
-/// Makes the bits those that both another list and the row that starts at a word have.
-pub fn keep_row(to: &mut Vec<u64>, from: &[u64], table: &[u64], start: usize)
-    requires room { start + length to.old.items ≤ length table.now }
-    requires words { length from.now ≡ length to.old.items }
-    ensures bits { (k : ℕ) → k < 64 * length to.old.items → bit to.new.items k ≡ (bit from.now k && bit table.now (64 * start + k)) }
-    ensures words { length to.new.items ≡ length to.old.items }
+/// The word, with bit k set too if it is wanted.
+pub fn with_bit_if(word: u64, k: usize, is_wanted: bool) -> u64
+    requires { k < 64 }
+    ensures { (j : ℕ) → j < 64 → (bit_at result j == 1) ≡ ((bit_at word j == 1) || (is_wanted && (j == k))) }
 {
-    for i in 0..to.len() {
-        to[i] = from[i] & table[start + i];
+    if is_wanted {
+        return word | 1 << k;
     }
+    word
 }
 
 /// Takes all bits out.

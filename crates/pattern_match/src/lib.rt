@@ -10,6 +10,7 @@ mod matcher;
 mod position;
 mod states;
 mod tables;
+mod taking;
 
 pub use matcher::{Matcher, every_cut_is_membership};
 pub use states::States;

@@ -4,9 +4,10 @@ ghost use Rattle.pattern_syntax.specs.Language.{In, Opens, holds};
 ghost use Rattle.pattern_match.specs.States.{AreStatesOf, StandsFor, Below};
 
 use crate::bits::{have_any, have_common};
+use crate::class::Class;
 use crate::compile::compiled;
 use crate::states::States;
-use crate::tables::{accept_row, byte_table, follow_table};
+use crate::tables::{accept_row, classes_of, follow_table};
 use label_base::{NormPath, OutOfMemory};
 use pattern_syntax::{Node, Pattern};
 use std::alloc::Global;
@@ -23,8 +24,8 @@ pub struct Matcher {
     follow: Vec<u64>,
     // The states behind which a text may end.
     accept: Vec<u64>,
-    // A row for each byte: the states to which it leads.
-    bytes: Vec<u64>,
+    // The bytes that lead to each state.
+    classes: Vec<Class>,
 }
 
 impl Model for Matcher {
@@ -66,7 +67,7 @@ impl Matcher {
             width,
             follow: follow_table(alloc, positions.as_slice(), width)?,
             accept: accept_row(alloc, positions.as_slice(), width)?,
-            bytes: byte_table(alloc, positions.as_slice(), width)?,
+            classes: classes_of(alloc, positions.as_slice())?,
         })
     }
 
@@ -95,11 +96,7 @@ impl Matcher {
         ensures made { AreStatesOf self.now states.new }
         ensures stands { (text : List ℕ) → StandsFor self.now states.old text → StandsFor self.now states.new (text ++ byte ∷ []) }
     {
-        states.step(
-            self.follow.as_slice(),
-            self.bytes.as_slice(),
-            usize::from(byte) * self.width,
-        );
+        states.step(self.follow.as_slice(), self.classes.as_slice(), byte);
     }
 
     /// Whether the text that was read is in the language.

@@ -1,5 +1,4 @@
-ghost use Rattle.std.specs.Prelude.{◌≡◌, ◌+◌, ◌==◌, ◌∷◌, true, IfOk, OnOk, []};
-ghost use Rattle.std.specs.List.{list_any};
+ghost use Rattle.std.specs.Prelude.{◌≡◌, ◌+◌, ◌∷◌, true, IfOk, OnOk, []};
 ghost use Rattle.pattern_match.specs.Automaton.{Place, moved, followed};
 
 use crate::class::Class;
@@ -97,11 +96,11 @@ impl Position {
         self.next.as_slice()
     }
 
-    /// Whether the byte leads to the position.
-    pub fn takes(&self, b: u8) -> bool
-        ensures { result ≡ list_any (λ c. c == b) self.now.bytes }
+    /// The bytes that lead to the position.
+    pub fn class(&self) -> Class
+        ensures { class_bytes result ≡ self.now.bytes }
     {
-        self.class.has(b)
+        self.class
     }
 }
 

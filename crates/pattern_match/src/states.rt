@@ -1,8 +1,11 @@
 ghost use Rattle.std.specs.Prelude.{◌≡◌, ◌+◌, ◌-◌, ◌*◌, ◌<◌, ◌≤◌, ◌==◌, ◌&&◌, true, ℕ, IfOk, length, nat_lt};
+ghost use Rattle.pattern_match.specs.Class.{takes_at};
 ghost use Rattle.pattern_match.specs.States.{bit};
 ghost use Rattle.pattern_match.specs.Tables.{any_below};
 
-use crate::bits::{clear, gather, gathered, keep_row, no_bits, set_if};
+use crate::bits::{clear, gather, gathered, no_bits, set_if};
+use crate::class::Class;
+use crate::taking::{keep_taking, taking};
 use label_base::OutOfMemory;
 use std::alloc::Global;
 use std::marker::Model;
@@ -51,19 +54,19 @@ impl States {
         set_if(&mut self.marks, rows.saturating_sub(1), 0 < rows);
     }
 
-    /// Goes on to the states that follow, and are in the row of a byte.
-    pub(crate) fn step(&mut self, follow: &[u64], bytes: &[u64], start: usize)
+    /// Goes on to the states that follow, and whose classes have the byte.
+    pub(crate) fn step(&mut self, follow: &[u64], classes: &[Class], byte: u8)
         requires rows { (p : ℕ) → bit self.old p ≡ true → p * length self.old + length self.old ≤ length follow.now }
-        requires room { start + length self.old ≤ length bytes.now }
-        ensures bits { (k : ℕ) → k < 64 * length self.old → bit self.new k ≡ (any_below (λ p. bit self.old p && bit follow.now (64 * (p * length self.old) + k)) (64 * length self.old) && bit bytes.now (64 * start + k)) }
+        requires room { 64 * length self.old < length classes.now + 64 }
+        ensures bits { (k : ℕ) → k < 64 * length self.old → bit self.new k ≡ (any_below (λ p. bit self.old p && bit follow.now (64 * (p * length self.old) + k)) (64 * length self.old) && takes_at classes.now k byte) }
         ensures words { length self.new ≡ length self.old }
     {
         if self.marks.len() == 1 {
-            self.marks[0] = gathered(self.marks[0], follow) & bytes[start];
+            self.marks[0] = taking(gathered(self.marks[0], follow), 0, classes, byte);
             return;
         }
         gather(&mut self.reached, self.marks.as_slice(), follow);
-        keep_row(&mut self.marks, self.reached.as_slice(), bytes, start);
+        keep_taking(&mut self.marks, self.reached.as_slice(), classes, byte);
     }
 
     /// Takes over the states of another.

@@ -1,9 +1,11 @@
-ghost use Rattle.std.specs.Prelude.{◌≡◌, ◌+◌, ◌*◌, ◌<◌, ◌≤◌, ◌==◌, ◌||◌, ◌&&◌, ℕ, IfOk, length, slice_get};
+ghost use Rattle.std.specs.Prelude.{◌≡◌, ◌+◌, ◌*◌, ◌<◌, ◌≤◌, ◌==◌, ◌||◌, ◌&&◌, ℕ, IfOk, length, map, slice_get};
 ghost use Rattle.std.specs.List.{list_any};
 ghost use Rattle.pattern_match.specs.States.{bit};
-ghost use Rattle.pattern_match.specs.Tables.{leads, ends, has};
+ghost use Rattle.pattern_match.specs.Class.{class_bytes};
+ghost use Rattle.pattern_match.specs.Tables.{leads, ends, bytes_in};
 
 use crate::bits::{clear, no_bits, set_if};
+use crate::class::Class;
 use crate::position::Position;
 use label_base::OutOfMemory;
 use std::alloc::Global;
@@ -16,17 +18,6 @@ fn mark_next(row: &mut Vec<u64>, position: &Position)
     clear(row);
     for number in position.next() {
         set_if(row, *number, true);
-    }
-}
-
-// Marks the positions to which a byte leads.
-fn mark_taking(row: &mut Vec<u64>, positions: &[Position], b: u8)
-    ensures bits { (k : ℕ) → k < 64 * length row.old.items → bit row.new.items k ≡ has (slice_get positions.now k) b }
-    ensures words { length row.new.items ≡ length row.old.items }
-{
-    clear(row);
-    for (i, position) in positions.iter().enumerate() {
-        set_if(row, i, position.takes(b));
     }
 }
 
@@ -73,20 +64,13 @@ pub fn accept_row(
     Ok(row)
 }
 
-/// A row of so many words for each byte: the positions to which it leads.
-pub fn byte_table(
-    alloc: Global,
-    positions: &[Position],
-    width: usize,
-) -> Result<Vec<u64>, OutOfMemory>
-    ensures words { IfOk result (λ table. length table.items ≡ 256 * width) }
-    ensures bits { IfOk result (λ table. (b k : ℕ) → b < 256 → k < 64 * width → bit table.items (64 * (b * width) + k) ≡ has (slice_get positions.now k) b) }
+/// The bytes that lead to each position.
+pub fn classes_of(alloc: Global, positions: &[Position]) -> Result<Vec<Class>, OutOfMemory>
+    ensures { IfOk result (λ classes. map class_bytes classes.items ≡ map bytes_in positions.now) }
 {
-    let mut row = no_bits(alloc, width)?;
-    let mut table = Vec::new(alloc);
-    for b in 0..256u16 {
-        mark_taking(&mut row, positions, b as u8);
-        table.extend_from_slice(row.as_slice())?;
+    let mut classes = Vec::with_capacity(alloc, positions.len())?;
+    'positions: for position in positions {
+        classes.push(position.class())?;
     }
-    Ok(table)
+    Ok(classes)
 }

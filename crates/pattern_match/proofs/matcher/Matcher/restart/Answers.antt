@@ -5,12 +5,12 @@ use Rattle.pattern_match.proofs.matcher.Matcher.restart.Goals as goal
 
 pub returns-clause-made : goal.returns-clause-made
 returns-clause-made c =
-    let P : Tree → Type 0 = λ t. IsMachine t c.self.inside.rows c.self.inside.width c.self.inside.follow.items c.self.inside.accept.items c.self.inside.bytes.items in
-    let m : IsMachine c.args.self.now c.self.inside.rows c.self.inside.width c.self.inside.follow.items c.self.inside.accept.items c.self.inside.bytes.items = subst P c.self.view_is (record { rows_is = c.self.invariant.rows; tables = c.self.invariant.tables }) in
-    start_made c.args.self.now c.self.inside.rows c.self.inside.width c.self.inside.follow.items c.self.inside.accept.items c.self.inside.bytes.items m c.restart.new.self (c.restart.ensures.words ∙ wide c.args.self.now c.self.inside.rows c.self.inside.width c.self.inside.follow.items c.self.inside.accept.items c.self.inside.bytes.items m c.args.states.now c.requires) (λ k l. c.restart.ensures.bits k (subst (λ n. k < 64 * n) c.restart.ensures.words l))
+    let P : Tree → Type 0 = λ t. IsMachine t c.self.inside.rows c.self.inside.width c.self.inside.follow.items c.self.inside.accept.items c.self.inside.classes.items in
+    let m : IsMachine c.args.self.now c.self.inside.rows c.self.inside.width c.self.inside.follow.items c.self.inside.accept.items c.self.inside.classes.items = subst P c.self.view_is (record { rows_is = c.self.invariant.rows; tables = c.self.invariant.tables }) in
+    start_made c.args.self.now c.self.inside.rows c.self.inside.width c.self.inside.follow.items c.self.inside.accept.items c.self.inside.classes.items m c.restart.new.self (c.restart.ensures.words ∙ wide c.args.self.now c.self.inside.rows c.self.inside.width c.self.inside.follow.items c.self.inside.accept.items c.self.inside.classes.items m c.args.states.now c.requires) (λ k l. c.restart.ensures.bits k (subst (λ n. k < 64 * n) c.restart.ensures.words l))
 
 pub returns-clause-stands : goal.returns-clause-stands
 returns-clause-stands c =
-    let P : Tree → Type 0 = λ t. IsMachine t c.self.inside.rows c.self.inside.width c.self.inside.follow.items c.self.inside.accept.items c.self.inside.bytes.items in
-    let m : IsMachine c.args.self.now c.self.inside.rows c.self.inside.width c.self.inside.follow.items c.self.inside.accept.items c.self.inside.bytes.items = subst P c.self.view_is (record { rows_is = c.self.invariant.rows; tables = c.self.invariant.tables }) in
-    start_stands c.args.self.now c.self.inside.rows c.self.inside.width c.self.inside.follow.items c.self.inside.accept.items c.self.inside.bytes.items m c.restart.new.self (c.restart.ensures.words ∙ wide c.args.self.now c.self.inside.rows c.self.inside.width c.self.inside.follow.items c.self.inside.accept.items c.self.inside.bytes.items m c.args.states.now c.requires) (λ k l. c.restart.ensures.bits k (subst (λ n. k < 64 * n) c.restart.ensures.words l))
+    let P : Tree → Type 0 = λ t. IsMachine t c.self.inside.rows c.self.inside.width c.self.inside.follow.items c.self.inside.accept.items c.self.inside.classes.items in
+    let m : IsMachine c.args.self.now c.self.inside.rows c.self.inside.width c.self.inside.follow.items c.self.inside.accept.items c.self.inside.classes.items = subst P c.self.view_is (record { rows_is = c.self.invariant.rows; tables = c.self.invariant.tables }) in
+    start_stands c.args.self.now c.self.inside.rows c.self.inside.width c.self.inside.follow.items c.self.inside.accept.items c.self.inside.classes.items m c.restart.new.self (c.restart.ensures.words ∙ wide c.args.self.now c.self.inside.rows c.self.inside.width c.self.inside.follow.items c.self.inside.accept.items c.self.inside.classes.items m c.args.states.now c.requires) (λ k l. c.restart.ensures.bits k (subst (λ n. k < 64 * n) c.restart.ensures.words l))

@@ -1,6 +1,0 @@
-use Rattle.std.proofs.Common.{◌<◌, ◌/◌, length, arith}
-use Rattle.pattern_match.proofs.WordBits.{bit_both}
-use Rattle.pattern_match.proofs.bits.keep_row.Goals as goal
-
-pub returns-clause-bits : goal.returns-clause-bits
-returns-clause-bits c = λ k l. bit_both c.loop-i.to.items c.args.from.now c.args.table.now c.args.start k (c.loop-i.invariant.1 (k / 64) (let h : k / 64 < length c.args.to.now.items = omega arith in omega arith))
