@@ -1,4 +1,5 @@
 pub mod Language
+pub mod Cutting
 pub mod Running
 pub mod Holding
 pub mod Classes

@@ -1,4 +1,5 @@
 pub mod Residuals
+pub mod Starts
 pub mod Automaton
 pub mod Building
 pub mod Class

@@ -1,0 +1,30 @@
+-- A pattern cut behind the bytes that it begins with.
+use Rattle.std.specs.Prelude.{ℕ, List, [], ◌∷◌, Option, Some, None}
+use Rattle.pattern_syntax.specs.Tree.{Tree, Set, Nothing, Both, Either, Repeat}
+use Rattle.pattern_syntax.specs.Literal.{single_byte, single_bytes, joined}
+
+-- nothing is left of a sequence of single bytes alone
+abbrev pub unless_literal : Option (List ℕ) → Tree → Tree
+unless_literal None tree = tree
+unless_literal (Some bytes) tree = Nothing
+
+-- the sequence without its literal start; a choice of several has none
+abbrev pub behind_start : Tree → Tree
+behind_start (Both first second) = unless_literal (joined (single_bytes first) (single_byte second)) (Both (behind_start first) second)
+behind_start (Set bytes) = Set bytes
+behind_start Nothing = Nothing
+behind_start (Either left right) = Either left right
+behind_start (Repeat least most piece) = Repeat least most piece
+
+-- single bytes added at a sequence's end
+abbrev pub with_bytes : Tree → List ℕ → Tree
+with_bytes tree [] = tree
+with_bytes tree (b ∷ bs) = with_bytes (Both tree (Set (b ∷ []))) bs
+
+-- a tree in place of the first leaf of another, where that is an empty sequence
+abbrev pub in_front : Tree → Tree → Tree
+in_front front (Set bytes) = Set bytes
+in_front front Nothing = front
+in_front front (Both first second) = Both (in_front front first) second
+in_front front (Either left right) = Either (in_front front left) right
+in_front front (Repeat least most piece) = Repeat least most (in_front front piece)
