@@ -3,14 +3,14 @@ use Rattle.std.proofs.Common.{◌≡◌, refl, sym, ◌∙◌, ap, subst, ℕ, z
 use Rattle.std.specs.Prelude.{◌&&◌, ◌||◌, unwrap_or}
 use Rattle.std.specs.List.{list_any}
 use Rattle.pattern_syntax.specs.ByteSet.{only_of}
-use Rattle.pattern_syntax.specs.Tree.{Tree, Set, Nothing, Both, Either, Repeat}
+use Rattle.pattern_syntax.specs.Tree.{Tree, tree_from, Set, Nothing, Both, Either, Repeat}
 use Rattle.pattern_syntax.specs.Language.{In}
-use Rattle.pattern_syntax.specs.Shape.{is_proper, is_sequence}
-use Rattle.pattern_syntax.specs.Literal.{single_byte, single_bytes, joined, literal_start_of}
-use Rattle.pattern_syntax.specs.Nodes.{after_node, after_nodes}
+use Rattle.pattern_syntax.specs.Shape.{is_proper, is_sequence, is_choice}
+use Rattle.pattern_syntax.specs.Literal.{single_byte, single_bytes, joined, literal_start_of, with_bytes, is_several}
+use Rattle.pattern_syntax.specs.Nodes.{after_node, after_nodes, tree_of}
 use Rattle.pattern_syntax.specs.declared.node.Node.{Node}
 use Rattle.pattern_syntax.specs.declared.node.Node.TheVariants as node
-use Rattle.pattern_match.specs.Starts.{unless_literal, behind_start, with_bytes, in_front}
+use Rattle.pattern_match.specs.Starts.{unless_literal, behind_start, in_front, with_start, Parts}
 use Rattle.pattern_match.proofs.Language.{and_first, and_second}
 
 -- a text that goes on behind a front into a language
@@ -183,3 +183,40 @@ bytes_literal t start (b ∷ bs) h =
 -- a start as a sequence
 pub start_literal : (start : List ℕ) → single_bytes (with_bytes Nothing start) ≡ Some start
 start_literal start = bytes_literal Nothing [] start refl
+
+sequence_behind : (front t : Tree) → is_sequence (in_front front t) ≡ true → is_sequence t ≡ true
+sequence_behind front Nothing h = refl
+sequence_behind front (Both x y) h = refl
+sequence_behind front (Set bytes) h = h
+sequence_behind front (Either l r) h = h
+sequence_behind front (Repeat least most x) h = h
+
+-- the nodes behind the literal start are what stands behind it
+pub sequence_parts : (t : Tree) (ns : List Node) → is_proper t ≡ true → is_sequence t ≡ true → after_nodes ns (with_bytes Nothing (literal_start_of t) ∷ []) ≡ t ∷ [] → Parts t (literal_start_of t) (tree_of (node.Nothing ∷ ns))
+sequence_parts t ns p s h =
+    let front = with_bytes Nothing (literal_start_of t) in
+    let u = front_before front ns t h in
+    let e : tree_of (node.Nothing ∷ ns) ≡ u.0 = ap tree_from u.1 in
+    let q : is_sequence u.0 ≡ true = sequence_behind front u.0 (ap is_sequence u.2 ∙ s) in
+    let b : behind_start (in_front front u.0) ≡ u.0 = behind_front front (literal_start_of t) u.0 (start_literal (literal_start_of t)) q (ap is_proper u.2 ∙ p) (ap literal_start_of u.2) in
+    record {
+      whole = ap (in_front front) e ∙ u.2;
+      behind = e ∙ sym b ∙ ap behind_start u.2;
+    }
+
+pub choice_parts : (t : Tree) (ns : List Node) → is_several t ≡ true → after_nodes ns [] ≡ t ∷ [] → Parts t (literal_start_of t) (tree_of ns)
+choice_parts (Either l r) ns s h = let e : tree_of ns ≡ Either l r = ap tree_from h in record {
+  whole = empty_front (tree_of ns) ∙ e;
+  behind = e;
+}
+choice_parts (Set bytes) ns s h = cc
+choice_parts Nothing ns s h = cc
+choice_parts (Both f g) ns s h = cc
+choice_parts (Repeat least most x) ns s h = cc
+
+pub not_several : (t : Tree) → is_several t ≡ false → is_choice t ≡ true → is_sequence t ≡ true
+not_several (Set bytes) h k = k
+not_several Nothing h k = refl
+not_several (Both f g) h k = refl
+not_several (Either l r) h k = absurd (let f : true ≡ false = h in cc)
+not_several (Repeat least most x) h k = k

@@ -8,8 +8,10 @@ pub mod Stacks
 pub mod Copies
 pub mod Stepping
 pub mod WordBits
-pub mod Marks
+pub mod LowestBits
 pub mod Keeping
 pub mod Rows
-pub mod Machine
+pub mod RunTables
+pub mod Ready
+pub mod Standing
 pub mod Reading

@@ -4,13 +4,13 @@ use Rattle.std.proofs.lemmas.List.{take_more, take_all, take-append-drop}
 use Rattle.label_base.specs.Path.{Path, path_text}
 use Rattle.pattern_syntax.specs.Tree.{Tree}
 use Rattle.pattern_syntax.specs.Language.{In, Opens, holds}
-use Rattle.pattern_match.specs.States.{StandsFor, Below}
+use Rattle.pattern_match.specs.States.{Progress, StandsFor, Below}
 use Rattle.pattern_match.proofs.Holding.{holds_tells}
 
-pub read_more : (t : Tree) (states text : List ℕ) (i b : ℕ) → i < length text → b ≡ get_or text i 0 → StandsFor t states (take i text ++ b ∷ []) → StandsFor t states (take (i + 1) text)
+pub read_more : (t : Tree) (states : Progress) (text : List ℕ) (i b : ℕ) → i < length text → b ≡ get_or text i 0 → StandsFor t states (take i text ++ b ∷ []) → StandsFor t states (take (i + 1) text)
 read_more t states text i b l e h = let p : take (i + 1) text ≡ take i text ++ get_or text i 0 ∷ [] = take_more text i 0 l in subst (λ w. StandsFor t states w) (sym (p ∙ ap (λ c. take i text ++ c ∷ []) (sym e))) h
 
-pub read_all : (t : Tree) (states text : List ℕ) (i : ℕ) → length text ≤ i → StandsFor t states (take i text) → StandsFor t states text
+pub read_all : (t : Tree) (states : Progress) (text : List ℕ) (i : ℕ) → length text ≤ i → StandsFor t states (take i text) → StandsFor t states text
 read_all t states text i l h = subst (λ w. StandsFor t states w) (take_all i text l) h
 
 -- where no text begins with a front, none begins with the whole
@@ -50,7 +50,7 @@ below_names t [] e = absurd (e refl)
 below_names t (name ∷ names) e = (λ h. h, λ h. h)
 
 -- the last answer on what is below a path other than `/`
-pub below_by : (t : Tree) (path : Path) (text one two : List ℕ) (accepted alive : Bool) → text ≡ path_text path → (length path ≡ 0 → ⊥) → StandsFor t one text → ((x : List ℕ) → StandsFor t one x → (accepted ≡ true → In t x) × (In t x → accepted ≡ true)) → accepted ≡ false → ((x : List ℕ) → StandsFor t one x → StandsFor t two (x ++ 47 ∷ [])) → ((x : List ℕ) → StandsFor t two x → (alive ≡ true → Opens t x) × (Opens t x → alive ≡ true)) → (alive ≡ true → Below t path) × (Below t path → alive ≡ true)
+pub below_by : (t : Tree) (path : Path) (text : List ℕ) (one two : Progress) (accepted alive : Bool) → text ≡ path_text path → (length path ≡ 0 → ⊥) → StandsFor t one text → ((x : List ℕ) → StandsFor t one x → (accepted ≡ true → In t x) × (In t x → accepted ≡ true)) → accepted ≡ false → ((x : List ℕ) → StandsFor t one x → StandsFor t two (x ++ 47 ∷ [])) → ((x : List ℕ) → StandsFor t two x → (alive ≡ true → Opens t x) × (Opens t x → alive ≡ true)) → (alive ≡ true → Below t path) × (Below t path → alive ≡ true)
 below_by t path text one two accepted alive e n s a f g h =
     let s1 : StandsFor t one (path_text path) = subst (λ w. StandsFor t one w) e s in
     let b = below_names t path n in
@@ -64,11 +64,11 @@ below_by t path text one two accepted alive e n s a f g h =
 pub none_below : (t : Tree) (path : Path) (text : List ℕ) → text ≡ path_text path → (Opens t text → ⊥) → (false ≡ true → Below t path) × (Below t path → false ≡ true)
 none_below t path text e d = (λ c. cc, λ b. absurd (d (subst (λ w. Opens t w) (sym e) (below_opens t path b))))
 
-pub root_below : (t : Tree) (path : Path) (text states : List ℕ) (alive : Bool) → text ≡ path_text path → length path ≡ 0 → StandsFor t states text → ((x : List ℕ) → StandsFor t states x → (alive ≡ true → Opens t x) × (Opens t x → alive ≡ true)) → (alive ≡ true → Below t path) × (Below t path → alive ≡ true)
+pub root_below : (t : Tree) (path : Path) (text : List ℕ) (states : Progress) (alive : Bool) → text ≡ path_text path → length path ≡ 0 → StandsFor t states text → ((x : List ℕ) → StandsFor t states x → (alive ≡ true → Opens t x) × (Opens t x → alive ≡ true)) → (alive ≡ true → Below t path) × (Below t path → alive ≡ true)
 root_below t path text states alive e n s h =
     let o = h text s in
     let b = below_root t path n in
     (λ v. b.0 (subst (λ w. Opens t w) e (o.0 v)), λ v. o.1 (subst (λ w. Opens t w) (sym e) (b.1 v)))
 
-pub accepted_below : (t : Tree) (path : Path) (text states : List ℕ) → text ≡ path_text path → (length path ≡ 0 → ⊥) → StandsFor t states text → ((x : List ℕ) → StandsFor t states x → (true ≡ true → In t x) × (In t x → true ≡ true)) → (true ≡ true → Below t path) × (Below t path → true ≡ true)
+pub accepted_below : (t : Tree) (path : Path) (text : List ℕ) (states : Progress) → text ≡ path_text path → (length path ≡ 0 → ⊥) → StandsFor t states text → ((x : List ℕ) → StandsFor t states x → (true ≡ true → In t x) × (In t x → true ≡ true)) → (true ≡ true → Below t path) × (Below t path → true ≡ true)
 accepted_below t path text states e n s a = (λ v. (below_names t path n).0 (inl (subst (λ w. In t w) e ((a text s).0 refl))), λ v. refl)

@@ -519,7 +519,7 @@ goes_nowhere [] b s h = h
 goes_nowhere (q ∷ qs) b s (inl (z, g, a, i)) = cc
 goes_nowhere (q ∷ qs) b s (inr h) = goes_nowhere qs b s h
 
-no_first : (a : Automaton) (t : Tree) (zs : List Residual) → Runs a t zs → is_some_list a.places ≡ false → (b : ℕ) (s : List ℕ) → In t (b ∷ s) → ⊥
+pub no_first : (a : Automaton) (t : Tree) (zs : List Residual) → Runs a t zs → is_some_list a.places ≡ false → (b : ℕ) (s : List ℕ) → In t (b ∷ s) → ⊥
 no_first a t zs r k b s h = goes_nowhere a.first b s (subst (λ (w : List Residual). Goes w a.first b s) (no_places a t zs r k) (r.onto b s h))
 
 only_empty : (t : Tree) → ((b : ℕ) (s : List ℕ) → In t (b ∷ s) → ⊥) → (v w : Bool) → nullable t ≡ v → has_texts t ≡ w → nullable t ≡ has_texts t

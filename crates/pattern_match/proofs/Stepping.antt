@@ -3,13 +3,12 @@ use Rattle.std.proofs.Common.{◌≡◌, refl, sym, ◌∙◌, subst, ℕ, zero,
 use Rattle.std.specs.Prelude.{slice_get}
 use Rattle.std.specs.List.{list_any}
 use Rattle.pattern_syntax.specs.Tree.{Tree}
-use Rattle.pattern_syntax.specs.Language.{In, Opens, holds}
+use Rattle.pattern_syntax.specs.Language.{In}
 use Rattle.pattern_match.specs.Residuals.{has_texts, Residual, residuals, all_residuals}
 use Rattle.pattern_match.specs.Automaton.{Place, automaton, all_places}
-use Rattle.pattern_match.specs.States.{bit, AreStatesOf, IsLeft, StandsFor}
+use Rattle.pattern_match.specs.States.{bit, AreMarks, IsMarked}
 use Rattle.pattern_match.specs.Tables.{leads, ends, has}
 use Rattle.pattern_match.proofs.Language.{has_text, text_of, empty_in, in_empty, or_either, or_left, or_right}
-use Rattle.pattern_match.proofs.Holding.{holds_tells}
 use Rattle.pattern_match.proofs.Running.{Takes, Goes, Good, AllGood, Runs, automaton_runs, good_length, good_append, good_all, good_left, goes_more, goes_less, within_more, get_right}
 
 start_good : (t : Tree) (zs : List Residual) → Runs (automaton t) t zs → has_texts t ≡ true → Good (zs ++ (0 ∷ [], t) ∷ []) (record { bytes = 0 ∷ []; is_last = (automaton t).holds_empty; next = (automaton t).first }) (0 ∷ [], t)
@@ -61,7 +60,7 @@ pub record IsStep (places : List Place) (old new : List ℕ) (b : ℕ) : Type 0 
   pub onto : (p q : ℕ) → bit old p ≡ true → leads (slice_get places p) q ≡ true → has (slice_get places q) b ≡ true → bit new q ≡ true
   pub from : (q : ℕ) → bit new q ≡ true → (has (slice_get places q) b ≡ true) × ((p : ℕ) × (bit old p ≡ true) × (leads (slice_get places p) q ≡ true))
 
-step_onto : (t : Tree) (old new : List ℕ) (b : ℕ) → IsStep (all_places (automaton t)) old new b → (rest : List ℕ) → IsLeft t old (b ∷ rest) → IsLeft t new rest
+pub step_onto : (t : Tree) (old new : List ℕ) (b : ℕ) → IsStep (all_places (automaton t)) old new b → (rest : List ℕ) → IsMarked t old (b ∷ rest) → IsMarked t new rest
 step_onto t old new b s rest (k, r, e, m, i) =
     let p = place_at t k r e in
     let g = goes_to (all_residuals t) p.0.next b rest (p.2.onto b rest i) in
@@ -90,7 +89,7 @@ place_good zs (q ∷ ps) (s ∷ rs) a (suc k) p h = place_good zs ps rs a.1 k p 
 pub residual_at : (t : Tree) (k : ℕ) (p : Place) → slice_get (all_places (automaton t)) k ≡ Some p → (r : Residual) × (slice_get (all_residuals t) k ≡ Some r) × Good (all_residuals t) p r
 residual_at t k p h = place_good (all_residuals t) (all_places (automaton t)) (all_residuals t) (all_good t (has_texts t) refl) k p h
 
-step_from : (t : Tree) (old new : List ℕ) (b : ℕ) → IsStep (all_places (automaton t)) old new b → (rest : List ℕ) → IsLeft t new rest → IsLeft t old (b ∷ rest)
+pub step_from : (t : Tree) (old new : List ℕ) (b : ℕ) → IsStep (all_places (automaton t)) old new b → (rest : List ℕ) → IsMarked t new rest → IsMarked t old (b ∷ rest)
 step_from t old new b s rest (q, z, e, m, i) =
     let f = s.from q m in
     let y = place_at t q z e in
@@ -99,18 +98,6 @@ step_from t old new b s rest (q, z, e, m, i) =
     let l : list_any (λ n. n == q) from.0.next ≡ true = rw from.1 at f.1.2 in
     let h : list_any (λ c. c == b) z.0 ≡ true = rw (y.1, y.2.bytes) at f.0 in
     (f.1.0, r.0, r.1, f.1.1, r.2.from b rest (to_goes (all_residuals t) from.0.next b rest q l (z, e, h, i)))
-
--- a step adds the byte
-pub steps : (t : Tree) (old new : List ℕ) (b : ℕ) → IsStep (all_places (automaton t)) old new b → (text : List ℕ) → StandsFor t old text → StandsFor t new (text ++ b ∷ [])
-steps t old new b s text h = record {
-  onto = λ rest i. step_onto t old new b s rest (h.onto (b ∷ rest) (subst (λ w. In t w) (append_assoc text (b ∷ []) rest) i));
-  from = λ rest i. subst (λ w. In t w) (sym (append_assoc text (b ∷ []) rest)) (h.from (b ∷ rest) (step_from t old new b s rest i));
-}
-
-same_truth : (u v : Bool) → (u ≡ true → v ≡ true) → (v ≡ true → u ≡ true) → u ≡ v
-same_truth true v f g = sym (f refl)
-same_truth false true f g = g refl
-same_truth false false f g = refl
 
 -- the test finds a state that ends a text
 pub record IsEnd (places : List Place) (states : List ℕ) (v : Bool) : Type 0 where
@@ -121,22 +108,18 @@ ends_from : (p : Option Place) → ends p ≡ true → (place : Place) × (p ≡
 ends_from None h = cc
 ends_from (Some place) h = (place, refl)
 
-pub end_from : (t : Tree) (states : List ℕ) (v : Bool) → IsEnd (all_places (automaton t)) states v → (text : List ℕ) → StandsFor t states text → v ≡ true → In t text
-end_from t states v s text h e =
+pub end_from : (t : Tree) (states : List ℕ) (v : Bool) → IsEnd (all_places (automaton t)) states v → v ≡ true → IsMarked t states []
+end_from t states v s e =
     let f = s.from e in
     let x = ends_from (slice_get (all_places (automaton t)) f.0) f.2 in
     let r = residual_at t f.0 x.0 x.1 in
     let l : x.0.is_last ≡ true = rw x.1 at f.2 in
-    subst (λ w. In t w) (append-nil text) (h.from [] (f.0, r.0, r.1, f.1, empty_in r.0.1 (sym r.2.last ∙ l)))
+    (f.0, r.0, r.1, f.1, empty_in r.0.1 (sym r.2.last ∙ l))
 
-pub end_onto : (t : Tree) (states : List ℕ) (v : Bool) → IsEnd (all_places (automaton t)) states v → (text : List ℕ) → StandsFor t states text → In t text → v ≡ true
-end_onto t states v s text h i =
-    let f = h.onto [] (subst (λ w. In t w) (sym (append-nil text)) i) in
+pub end_onto : (t : Tree) (states : List ℕ) (v : Bool) → IsEnd (all_places (automaton t)) states v → IsMarked t states [] → v ≡ true
+end_onto t states v s f =
     let p = place_at t f.0 f.1 f.2 in
     s.onto f.0 f.3 (rw p.1 (p.2.last ∙ in_empty f.1.1 f.4))
-
-pub end_holds : (t : Tree) (states : List ℕ) (v : Bool) → IsEnd (all_places (automaton t)) states v → (text : List ℕ) → StandsFor t states text → v ≡ holds t text
-end_holds t states v s text h = same_truth v (holds t text) (λ e. (holds_tells t text).1 (end_from t states v s text h e)) (λ e. end_onto t states v s text h ((holds_tells t text).0 e))
 
 pub record IsAny (states : List ℕ) (v : Bool) : Type 0 where
   pub onto : (k : ℕ) → bit states k ≡ true → v ≡ true
@@ -150,25 +133,30 @@ get_some (z ∷ zs) (suc k) h = get_some zs k (omega arith)
 within_or_past : (k n : ℕ) → (k < n) ⊎ (n ≤ k)
 within_or_past k n = grind arith
 
-pub any_opens : (t : Tree) (states : List ℕ) (v : Bool) → AreStatesOf t states → IsAny states v → (text : List ℕ) → StandsFor t states text → v ≡ true → Opens t text
-any_opens t states v a s text h e = at (s.from e)
+pub any_left : (t : Tree) (states : List ℕ) (v : Bool) → AreMarks t states → IsAny states v → v ≡ true → (text : List ℕ) × IsMarked t states text
+any_left t states v a s e = at (s.from e)
   where
-    at : (k : ℕ) × (bit states k ≡ true) → Opens t text
+    at : (k : ℕ) × (bit states k ≡ true) → (text : List ℕ) × IsMarked t states text
     at (k, m) = within (within_or_past k (length (all_residuals t)))
       where
-        within : (k < length (all_residuals t)) ⊎ (length (all_residuals t) ≤ k) → Opens t text
-        within (inl l) = let z = get_some (all_residuals t) k l in let g = place_at t k z.0 z.1 in let x = text_of z.0.1 g.2.live in (x.0, h.from x.0 (k, z.0, z.1, m, x.1))
+        within : (k < length (all_residuals t)) ⊎ (length (all_residuals t) ≤ k) → (text : List ℕ) × IsMarked t states text
+        within (inl l) = let z = get_some (all_residuals t) k l in let g = place_at t k z.0 z.1 in let x = text_of z.0.1 g.2.live in (x.0, (k, z.0, z.1, m, x.1))
         within (inr l) = let c : bit states k ≡ false = a.none_past k l in let d : true ≡ false = sym m ∙ c in cc
 
-pub opens_any : (t : Tree) (states : List ℕ) (v : Bool) → IsAny states v → (text : List ℕ) → StandsFor t states text → Opens t text → v ≡ true
-opens_any t states v s text h (rest, i) = let f = h.onto rest i in s.onto f.0 f.3
+pub left_any : (t : Tree) (states : List ℕ) (v : Bool) → IsAny states v → (text : List ℕ) → IsMarked t states text → v ≡ true
+left_any t states v s text f = s.onto f.0 f.3
 
 -- the last residual is the whole pattern
 pub record IsStart (places : List Place) (states : List ℕ) : Type 0 where
   pub onto : (k : ℕ) → suc k ≡ length places → bit states k ≡ true
   pub from : (k : ℕ) → bit states k ≡ true → suc k ≡ length places
 
-starts_live : (t : Tree) (states : List ℕ) → IsStart (all_places (automaton t)) states → has_texts t ≡ true → StandsFor t states []
+-- the start leaves the language
+pub record Starts (t : Tree) (states : List ℕ) : Type 0 where
+  pub onto : (rest : List ℕ) → In t rest → IsMarked t states rest
+  pub from : (rest : List ℕ) → IsMarked t states rest → In t rest
+
+starts_live : (t : Tree) (states : List ℕ) → IsStart (all_places (automaton t)) states → has_texts t ≡ true → Starts t states
 starts_live t states s l = record {
   onto = λ rest i. (length (residuals t), (0 ∷ [], t), last, s.onto (length (residuals t)) (sym long), i);
   from = λ rest f. from rest f;
@@ -183,7 +171,7 @@ starts_live t states s l = record {
     long : length (all_places (automaton t)) ≡ suc (length (residuals t))
     long = as_many t ∙ rw (all, length-append) (omega arith)
 
-    from : (rest : List ℕ) → IsLeft t states rest → In t rest
+    from : (rest : List ℕ) → IsMarked t states rest → In t rest
     from rest (k, r, e, m, i) =
         let n : suc k ≡ suc (length (residuals t)) = s.from k m ∙ long in
         let q : k ≡ length (residuals t) = omega arith in
@@ -191,7 +179,7 @@ starts_live t states s l = record {
         let z : r ≡ (0 ∷ [], t) = cc in
         subst (λ (v : Residual). In v.1 rest) z i
 
-pub starts : (t : Tree) (states : List ℕ) (v : Bool) → has_texts t ≡ v → IsStart (all_places (automaton t)) states → StandsFor t states []
+pub starts : (t : Tree) (states : List ℕ) (v : Bool) → has_texts t ≡ v → IsStart (all_places (automaton t)) states → Starts t states
 starts t states true l s = starts_live t states s l
 starts t states false l s = record {
   onto = λ rest i. let c : has_texts t ≡ true = has_text t rest i in let d : true ≡ false = sym c ∙ l in cc;
@@ -201,12 +189,8 @@ starts t states false l s = record {
     none : all_residuals t ≡ []
     none = rw l refl
 
-    from : (rest : List ℕ) → IsLeft t states rest → In t rest
+    from : (rest : List ℕ) → IsMarked t states rest → In t rest
     from rest (k, r, e, m, i) = let g : slice_get [] k ≡ Some r = rw none at e in absurd (nothing_at k r g)
       where
         nothing_at : (k : ℕ) (r : Residual) → slice_get [] k ≡ Some r → ⊥
         nothing_at k r g = cc
-
--- equal states stand for the same texts
-pub same_states : (t : Tree) (states others text : List ℕ) → others ≡ states → StandsFor t states text → StandsFor t others text
-same_states t states others text e h = subst (λ w. StandsFor t w text) (sym e) h

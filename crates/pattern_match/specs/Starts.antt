@@ -1,7 +1,7 @@
 -- A pattern cut behind the bytes that it begins with.
-use Rattle.std.specs.Prelude.{ℕ, List, [], ◌∷◌, Option, Some, None}
+use Rattle.std.specs.Prelude.{◌≡◌, ℕ, List, Option, Some, None}
 use Rattle.pattern_syntax.specs.Tree.{Tree, Set, Nothing, Both, Either, Repeat}
-use Rattle.pattern_syntax.specs.Literal.{single_byte, single_bytes, joined}
+use Rattle.pattern_syntax.specs.Literal.{single_byte, single_bytes, joined, with_bytes}
 
 -- nothing is left of a sequence of single bytes alone
 abbrev pub unless_literal : Option (List ℕ) → Tree → Tree
@@ -16,11 +16,6 @@ behind_start Nothing = Nothing
 behind_start (Either left right) = Either left right
 behind_start (Repeat least most piece) = Repeat least most piece
 
--- single bytes added at a sequence's end
-abbrev pub with_bytes : Tree → List ℕ → Tree
-with_bytes tree [] = tree
-with_bytes tree (b ∷ bs) = with_bytes (Both tree (Set (b ∷ []))) bs
-
 -- a tree in place of the first leaf of another, where that is an empty sequence
 abbrev pub in_front : Tree → Tree → Tree
 in_front front (Set bytes) = Set bytes
@@ -28,3 +23,12 @@ in_front front Nothing = front
 in_front front (Both first second) = Both (in_front front first) second
 in_front front (Either left right) = Either (in_front front left) right
 in_front front (Repeat least most piece) = Repeat least most (in_front front piece)
+
+-- what stands behind single bytes, with them
+abbrev pub with_start : List ℕ → Tree → Tree
+with_start start tree = in_front (with_bytes Nothing start) tree
+
+-- a pattern is its start and what stands behind it
+pub record Parts (tree : Tree) (start : List ℕ) (rest : Tree) : Type 0 where
+  pub whole : with_start start rest ≡ tree
+  pub behind : rest ≡ behind_start tree

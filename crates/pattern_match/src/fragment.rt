@@ -1,6 +1,6 @@
-ghost use Rattle.std.specs.Prelude.{◌≡◌, ◌++◌, ◌&&◌, ◌||◌, ◌==◌, true, IfOk, OnOk, [], map, length, if◌then◌else◌};
+ghost use Rattle.std.specs.Prelude.{◌≡◌, ◌++◌, ◌&&◌, ◌||◌, ◌==◌, not, true, IfOk, OnOk, [], map, length, if◌then◌else◌};
 ghost use Rattle.pattern_match.specs.Automaton.{Place, moved, followed, in_turn, bare, single, both, both_live, either, looped, up, copies, endless, repeated, all_places};
-ghost use Rattle.pattern_match.specs.Residuals.{is_count};
+ghost use Rattle.pattern_match.specs.Residuals.{is_count, is_some_list};
 
 use crate::class::Class;
 use crate::position::{Position, sum};
@@ -134,6 +134,13 @@ impl Fragment {
             holds_empty: false,
             is_live: true,
         })
+    }
+
+    /// Whether it holds the empty text alone.
+    pub fn is_bare(&self) -> bool
+        ensures { result ≡ (not (is_some_list self.now.places) && self.now.holds_empty) }
+    {
+        self.positions.is_empty() && self.holds_empty
     }
 
     /// The positions, and the one before the first byte at the end.

@@ -6,6 +6,8 @@ mod bits;
 mod class;
 mod compile;
 mod fragment;
+mod machine;
+mod marks;
 mod matcher;
 mod position;
 mod states;

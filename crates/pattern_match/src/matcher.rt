@@ -1,14 +1,15 @@
 ghost use Rattle.std.specs.Prelude.{◌≡◌, ◌++◌, ◌∷◌, ◌+◌, ◌/◌, ◌^◌, ◌<◌, ◌↔◌, ℕ, List, [], true, false, IfOk, IsTrue, length};
 ghost use Rattle.pattern_syntax.specs.Tree.{Tree};
 ghost use Rattle.pattern_syntax.specs.Language.{In, Opens, holds};
+ghost use Rattle.pattern_syntax.specs.Literal.{literal_start_of};
+ghost use Rattle.pattern_syntax.specs.Nodes.{tree_of};
+ghost use Rattle.pattern_syntax.specs.declared.node.Node.TheVariants as node;
+ghost use Rattle.pattern_match.specs.Starts.{Parts};
 ghost use Rattle.pattern_match.specs.States.{AreStatesOf, StandsFor, Below};
 
-use crate::bits::{have_any, have_common};
-use crate::class::Class;
-use crate::compile::compiled;
+use crate::machine::Machine;
 use crate::states::States;
-use crate::tables::{accept_row, classes_of, follow_table};
-use label_base::{NormPath, OutOfMemory};
+use label_base::{Bytes, NormPath, OutOfMemory};
 use pattern_syntax::{Node, Pattern};
 use std::alloc::Global;
 use std::marker::Model;
@@ -16,41 +17,55 @@ use std::marker::Model;
 /// A pattern made ready for matching, seen as the pattern.
 #[derive(Debug, Drop)]
 pub struct Matcher {
-    nodes: Vec<Node>,
-    // How many states there are, and in how many words they are kept.
-    rows: usize,
-    width: usize,
-    // A row for each state: those that may follow it.
-    follow: Vec<u64>,
-    // The states behind which a text may end.
-    accept: Vec<u64>,
-    // The bytes that lead to each state.
-    classes: Vec<Class>,
+    start: Bytes,
+    // The automaton of what stands behind the literal start.
+    machine: Machine,
 }
 
 impl Model for Matcher {
+    ghost use Rattle.std.specs.Prelude.{◌≡◌};
     ghost use Rattle.pattern_syntax.specs.Tree.{Tree, tree_code};
 
     ghost Value = { Tree };
 
     ghost coded = { tree_code };
 
-    ghost use Rattle.pattern_syntax.specs.Nodes.{tree_of};
-    ghost use Rattle.pattern_match.specs.Compiled.{IsCompiled};
+    ghost use Rattle.pattern_syntax.specs.Literal.{literal_start_of};
+    ghost use Rattle.pattern_match.specs.Starts.{behind_start, with_start};
 
-    ghost view = { λ m. tree_of m.nodes.items };
+    ghost view = { λ m. with_start m.start m.machine };
 
-    ghost invariant = { IsCompiled };
+    ghost invariant = { λ m. record {
+      start : m.start ≡ literal_start_of (with_start m.start m.machine);
+      behind : m.machine ≡ behind_start (with_start m.start m.machine);
+    } };
 }
 
-// In how many words so many bits are kept.
-fn words_for(bits: usize) -> Result<usize, OutOfMemory>
-    ensures { IfOk result (λ words. words ≡ (bits + 63) / 64) }
+// The nodes behind a start, as a sequence of their own.
+fn sequence(alloc: Global, rest: &[Node]) -> Result<Vec<Node>, OutOfMemory>
+    ensures { IfOk result (λ nodes. tree_of nodes.items ≡ tree_of (node.Nothing ∷ rest.now)) }
 {
-    if bits > usize::MAX - 63 {
-        return Err(OutOfMemory);
+    let mut nodes = Vec::new(alloc);
+    if rest.is_empty() {
+        return Ok(nodes);
     }
-    Ok((bits + 63) / 64)
+    nodes.reserve(rest.len() + 1)?;
+    nodes.push(Node::Nothing)?;
+    nodes.extend_from_slice(rest)?;
+    Ok(nodes)
+}
+
+// The nodes of what stands behind the literal start, whose length is given.
+fn nodes_behind(alloc: Global, pattern: &Pattern, start: usize) -> Result<Vec<Node>, OutOfMemory>
+    requires { start ≡ length (literal_start_of pattern.now) }
+    ensures { IfOk result (λ nodes. Parts pattern.now (literal_start_of pattern.now) (tree_of nodes.items)) }
+{
+    pattern.has_no_empty_set();
+    if pattern.has_sides() {
+        return Ok(Vec::from_slice(alloc, pattern.nodes())?);
+    }
+    let nodes = sequence(alloc, pattern.behind_start(start))?;
+    Ok(nodes)
 }
 
 impl Matcher {
@@ -58,16 +73,11 @@ impl Matcher {
     pub fn new(alloc: Global, pattern: &Pattern) -> Result<Matcher, OutOfMemory>
         ensures { IfOk result (λ matcher. matcher ≡ pattern.now) }
     {
-        let nodes = Vec::from_slice(alloc, pattern.nodes())?;
-        let positions = compiled(alloc, pattern.nodes())?.into_positions(alloc)?;
-        let width = words_for(positions.len())?;
+        let start = pattern.literal_start(alloc)?;
+        let nodes = nodes_behind(alloc, pattern, start.len())?;
         Ok(Matcher {
-            nodes,
-            rows: positions.len(),
-            width,
-            follow: follow_table(alloc, positions.as_slice(), width)?,
-            accept: accept_row(alloc, positions.as_slice(), width)?,
-            classes: classes_of(alloc, positions.as_slice())?,
+            start,
+            machine: Machine::new(alloc, nodes)?,
         })
     }
 
@@ -76,9 +86,10 @@ impl Matcher {
         ensures made { IfOk result (λ states. AreStatesOf self.now states) }
         ensures stands { IfOk result (λ states. StandsFor self.now states []) }
     {
-        let mut states = States::new(alloc, self.width)?;
-        states.restart(self.rows);
-        Ok(states)
+        Ok(States {
+            seen: 0,
+            marks: self.machine.marks(alloc)?,
+        })
     }
 
     /// Goes back to the states before the first byte.
@@ -87,7 +98,8 @@ impl Matcher {
         ensures made { AreStatesOf self.now states.new }
         ensures stands { StandsFor self.now states.new [] }
     {
-        states.restart(self.rows);
+        states.seen = 0;
+        self.machine.restart(&mut states.marks);
     }
 
     /// Goes on by a byte: what the states stand for gets it at its end.
@@ -96,7 +108,24 @@ impl Matcher {
         ensures made { AreStatesOf self.now states.new }
         ensures stands { (text : List ℕ) → StandsFor self.now states.old text → StandsFor self.now states.new (text ++ byte ∷ []) }
     {
-        states.step(self.follow.as_slice(), self.classes.as_slice(), byte);
+        let seen = states.seen;
+        let start = self.start.as_slice();
+        if seen > start.len() {
+            return;
+        }
+        if seen < start.len() {
+            if start[seen] == byte {
+                states.seen = seen + 1;
+                return;
+            }
+            states.seen = start.len() + 1;
+            return;
+        }
+        if self.machine.is_bare() {
+            states.seen = start.len() + 1;
+            return;
+        }
+        self.machine.step(&mut states.marks, byte);
     }
 
     /// Whether the text that was read is in the language.
@@ -105,7 +134,10 @@ impl Matcher {
         ensures language { (text : List ℕ) → StandsFor self.now states.now text → IsTrue result ↔ In self.now text }
         ensures value { (text : List ℕ) → StandsFor self.now states.now text → result ≡ holds self.now text }
     {
-        have_common(states.as_slice(), self.accept.as_slice())
+        if states.seen != self.start.len() {
+            return false;
+        }
+        self.machine.accepts(&states.marks)
     }
 
     /// Whether some text of the language begins with the text that was read.
@@ -113,7 +145,10 @@ impl Matcher {
         requires { AreStatesOf self.now states.now }
         ensures { (text : List ℕ) → StandsFor self.now states.now text → IsTrue result ↔ Opens self.now text }
     {
-        have_any(states.as_slice())
+        if states.seen > self.start.len() {
+            return false;
+        }
+        self.machine.alive(&states.marks)
     }
 
     /// Makes the one set of states what the other is.
@@ -123,7 +158,8 @@ impl Matcher {
         ensures made { AreStatesOf self.now to.new }
         ensures stands { (text : List ℕ) → StandsFor self.now from.now text → StandsFor self.now to.new text }
     {
-        to.copy_from(from);
+        to.seen = from.seen;
+        to.marks.copy_from(&from.marks);
     }
 
     // Starts anew and reads a text. Where no text of the language begins so, it may stop early and say false.
@@ -150,10 +186,12 @@ impl Matcher {
         ensures language { IsTrue result ↔ In self.now text.now }
         ensures value { result ≡ holds self.now text.now }
     {
-        if !self.read(states, text) {
+        let start = self.start.as_slice();
+        if !text.starts_with(start) {
             return false;
         }
-        self.accepts(states)
+        self.machine
+            .matches(&mut states.marks, &text[start.len()..])
     }
 
     /// Whether the language holds the path's text or a text below it: one that begins with the path and a slash, or for

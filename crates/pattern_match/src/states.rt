@@ -1,79 +1,19 @@
-ghost use Rattle.std.specs.Prelude.{◌≡◌, ◌+◌, ◌-◌, ◌*◌, ◌<◌, ◌≤◌, ◌==◌, ◌&&◌, true, ℕ, IfOk, length, nat_lt};
-ghost use Rattle.pattern_match.specs.Class.{takes_at};
-ghost use Rattle.pattern_match.specs.States.{bit};
-ghost use Rattle.pattern_match.specs.Tables.{any_below};
+ghost use Rattle.std.specs.Prelude.{◌≡◌};
 
-use crate::bits::{clear, gather, gathered, no_bits, set_if};
-use crate::class::Class;
-use crate::taking::{keep_taking, taking};
-use label_base::OutOfMemory;
-use std::alloc::Global;
+use crate::marks::Marks;
 use std::marker::Model;
 
-/// The states that a matcher is in behind a text, seen as bits of words.
+/// What a matcher knows behind a text: how many bytes of the pattern's literal start were read, and then the marks of its automaton.
 #[derive(Debug, Drop)]
 pub struct States {
-    marks: Vec<u64>,
-    // Where the next marks are gathered.
-    reached: Vec<u64>,
+    pub(crate) seen: usize,
+    pub(crate) marks: Marks,
 }
 
 impl Model for States {
-    ghost use Rattle.std.specs.Prelude.{List, ℕ, ◌≡◌, length};
+    ghost use Rattle.pattern_match.specs.States.{Progress};
 
-    ghost Value = { List ℕ };
+    ghost Value = { Progress };
 
-    ghost view = { λ s. s.marks.items };
-
-    ghost invariant = { λ s. length s.reached.items ≡ length s.marks.items };
-}
-
-impl States {
-    /// So many words without a state.
-    pub(crate) fn new(alloc: Global, width: usize) -> Result<States, OutOfMemory>
-        ensures { IfOk result (λ states. length states ≡ width) }
-    {
-        Ok(States {
-            marks: no_bits(alloc, width)?,
-            reached: no_bits(alloc, width)?,
-        })
-    }
-
-    pub(crate) fn as_slice(&self) -> &[u64]
-        ensures { result.now ≡ self.now }
-    {
-        self.marks.as_slice()
-    }
-
-    /// Leaves the last of so many states alone.
-    pub(crate) fn restart(&mut self, rows: usize)
-        ensures bits { (k : ℕ) → k < 64 * length self.old → bit self.new k ≡ (nat_lt 0 rows && (rows - 1 == k)) }
-        ensures words { length self.new ≡ length self.old }
-    {
-        clear(&mut self.marks);
-        set_if(&mut self.marks, rows.saturating_sub(1), 0 < rows);
-    }
-
-    /// Goes on to the states that follow, and whose classes have the byte.
-    pub(crate) fn step(&mut self, follow: &[u64], classes: &[Class], byte: u8)
-        requires rows { (p : ℕ) → bit self.old p ≡ true → p * length self.old + length self.old ≤ length follow.now }
-        requires room { 64 * length self.old < length classes.now + 64 }
-        ensures bits { (k : ℕ) → k < 64 * length self.old → bit self.new k ≡ (any_below (λ p. bit self.old p && bit follow.now (64 * (p * length self.old) + k)) (64 * length self.old) && takes_at classes.now k byte) }
-        ensures words { length self.new ≡ length self.old }
-    {
-        if self.marks.len() == 1 {
-            self.marks[0] = taking(gathered(self.marks[0], follow), 0, classes, byte);
-            return;
-        }
-        gather(&mut self.reached, self.marks.as_slice(), follow);
-        keep_taking(&mut self.marks, self.reached.as_slice(), classes, byte);
-    }
-
-    /// Takes over the states of another.
-    pub(crate) fn copy_from(&mut self, from: &States)
-        requires { length from.now ≡ length self.old }
-        ensures { self.new ≡ from.now }
-    {
-        self.marks.copy_from_slice(from.as_slice());
-    }
+    ghost view = { λ s. record { seen = s.seen; marks = s.marks } };
 }

@@ -3,7 +3,7 @@ use Rattle.std.specs.Prelude.{◌||◌}
 use Rattle.std.specs.Int.{trailing_zeros}
 use Rattle.std.proofs.lemmas.Nat.Bits.{bit_at-trailing_zeros}
 use Rattle.pattern_match.specs.States.{bit}
-use Rattle.pattern_match.proofs.Marks.{row_added, rows_added, still_marked, row_number}
+use Rattle.pattern_match.proofs.LowestBits.{row_added, rows_added, still_marked, row_number}
 use Rattle.pattern_match.proofs.bits.add_marked.Goals as goal
 
 pub overflow_mul-row : goal.overflow_mul-row

@@ -3,7 +3,7 @@ use Rattle.std.specs.Prelude.{◌&&◌, ◌||◌}
 use Rattle.std.specs.Int.{bit_at}
 use Rattle.pattern_match.specs.States.{bit}
 use Rattle.pattern_match.specs.Tables.{any_bit}
-use Rattle.pattern_match.proofs.Marks.{words_more, all_words}
+use Rattle.pattern_match.proofs.LowestBits.{words_more, all_words}
 use Rattle.pattern_match.proofs.bits.gather.Goals as goal
 
 pub words-preserved : goal.words-preserved

@@ -2,7 +2,7 @@ use Rattle.std.proofs.Common.{◌≡◌, ◌==◌, ◌<◌, get_or, length, arit
 use Rattle.std.specs.Int.{bit_at, trailing_zeros}
 use Rattle.std.proofs.lemmas.Nat.Bits.{bit_at-trailing_zeros}
 use Rattle.pattern_match.proofs.WordBits.{word_either}
-use Rattle.pattern_match.proofs.Marks.{row_added, rows_added, still_marked, none_reached}
+use Rattle.pattern_match.proofs.LowestBits.{row_added, rows_added, still_marked, none_reached}
 use Rattle.pattern_match.proofs.bits.gathered.Goals as goal
 
 pub marks-init : goal.marks-init

@@ -1,24 +1,30 @@
-use Rattle.std.proofs.Common.{◌∙◌, ap, subst, sym, List, ℕ, length}
+use Rattle.std.proofs.Common.{◌≡◌, ◌∙◌, sym, ap, refl, length, false, true}
+use Rattle.pattern_syntax.specs.Literal.{literal_start_of}
 use Rattle.pattern_syntax.specs.Tree.{Tree}
-use Rattle.pattern_match.proofs.Stepping.{end_from, end_onto, end_holds}
-use Rattle.pattern_match.proofs.Machine.{IsMachine, accept_in, end_at}
+use Rattle.pattern_match.specs.Starts.{behind_start}
+use Rattle.pattern_match.proofs.Standing.{not_accepted, accepted, tells_holds}
 use Rattle.pattern_match.proofs.matcher.Matcher.accepts.Goals as goal
 
-pub have_common-requires : goal.have_common-requires
-have_common-requires c =
-    let P : Tree → Type 0 = λ t. IsMachine t c.self.inside.rows c.self.inside.width c.self.inside.follow.items c.self.inside.accept.items c.self.inside.classes.items in
-    let m : IsMachine c.args.self.now c.self.inside.rows c.self.inside.width c.self.inside.follow.items c.self.inside.accept.items c.self.inside.classes.items = subst P c.self.view_is (record { rows_is = c.self.invariant.rows; tables = c.self.invariant.tables }) in
-    ap (λ (w : List ℕ). length w) c.as_slice.ensures ∙ accept_in c.args.self.now c.self.inside.rows c.self.inside.width c.self.inside.follow.items c.self.inside.accept.items c.self.inside.classes.items m c.args.states.now c.requires ∙ sym (ap (λ (w : List ℕ). length w) c.as_slice-2.ensures.value)
+pub returns-then-states-len-clause-language : goal.returns-then-states-len-clause-language
+returns-then-states-len-clause-language c =
+    let s : c.self.inside.start ≡ literal_start_of c.args.self.now = c.self.invariant.start ∙ ap literal_start_of c.self.view_is in
+    let m : c.self.inside.machine ≡ behind_start c.args.self.now = c.self.invariant.behind ∙ ap behind_start c.self.view_is in
+    not_accepted c.args.self.now c.self.inside.start c.self.inside.machine s m (record { seen = c.states.inside.seen; marks = c.states.inside.marks }) c.args.states.now c.len.result c.states.view_is c.len.ensures c.if-states-len.true
+
+pub returns-then-states-len-clause-value : goal.returns-then-states-len-clause-value
+returns-then-states-len-clause-value c =
+    let s : c.self.inside.start ≡ literal_start_of c.args.self.now = c.self.invariant.start ∙ ap literal_start_of c.self.view_is in
+    let m : c.self.inside.machine ≡ behind_start c.args.self.now = c.self.invariant.behind ∙ ap behind_start c.self.view_is in
+    λ text h. tells_holds c.args.self.now text false (not_accepted c.args.self.now c.self.inside.start c.self.inside.machine s m (record { seen = c.states.inside.seen; marks = c.states.inside.marks }) c.args.states.now c.len.result c.states.view_is c.len.ensures c.if-states-len.true text h)
 
 pub returns-clause-language : goal.returns-clause-language
 returns-clause-language c =
-    let P : Tree → Type 0 = λ t. IsMachine t c.self.inside.rows c.self.inside.width c.self.inside.follow.items c.self.inside.accept.items c.self.inside.classes.items in
-    let m : IsMachine c.args.self.now c.self.inside.rows c.self.inside.width c.self.inside.follow.items c.self.inside.accept.items c.self.inside.classes.items = subst P c.self.view_is (record { rows_is = c.self.invariant.rows; tables = c.self.invariant.tables }) in
-    let e = end_at c.args.self.now c.self.inside.rows c.self.inside.width c.self.inside.follow.items c.self.inside.accept.items c.self.inside.classes.items m c.args.states.now c.as_slice.result.now c.as_slice-2.result.now c.have_common.result c.as_slice.ensures c.as_slice-2.ensures.value c.requires c.have_common.ensures.onto c.have_common.ensures.from in
-    λ text s. (end_from c.args.self.now c.args.states.now c.have_common.result e text s, end_onto c.args.self.now c.args.states.now c.have_common.result e text s)
+    let s : c.self.inside.start ≡ literal_start_of c.args.self.now = c.self.invariant.start ∙ ap literal_start_of c.self.view_is in
+    let m : c.self.inside.machine ≡ behind_start c.args.self.now = c.self.invariant.behind ∙ ap behind_start c.self.view_is in
+    accepted c.args.self.now c.self.inside.start c.self.inside.machine s m (record { seen = c.states.inside.seen; marks = c.states.inside.marks }) c.args.states.now c.len.result c.accepts.result c.states.view_is c.len.ensures c.if-states-len.false c.accepts.ensures
 
 pub returns-clause-value : goal.returns-clause-value
 returns-clause-value c =
-    let P : Tree → Type 0 = λ t. IsMachine t c.self.inside.rows c.self.inside.width c.self.inside.follow.items c.self.inside.accept.items c.self.inside.classes.items in
-    let m : IsMachine c.args.self.now c.self.inside.rows c.self.inside.width c.self.inside.follow.items c.self.inside.accept.items c.self.inside.classes.items = subst P c.self.view_is (record { rows_is = c.self.invariant.rows; tables = c.self.invariant.tables }) in
-    end_holds c.args.self.now c.args.states.now c.have_common.result (end_at c.args.self.now c.self.inside.rows c.self.inside.width c.self.inside.follow.items c.self.inside.accept.items c.self.inside.classes.items m c.args.states.now c.as_slice.result.now c.as_slice-2.result.now c.have_common.result c.as_slice.ensures c.as_slice-2.ensures.value c.requires c.have_common.ensures.onto c.have_common.ensures.from)
+    let s : c.self.inside.start ≡ literal_start_of c.args.self.now = c.self.invariant.start ∙ ap literal_start_of c.self.view_is in
+    let m : c.self.inside.machine ≡ behind_start c.args.self.now = c.self.invariant.behind ∙ ap behind_start c.self.view_is in
+    λ text h. tells_holds c.args.self.now text c.accepts.result (accepted c.args.self.now c.self.inside.start c.self.inside.machine s m (record { seen = c.states.inside.seen; marks = c.states.inside.marks }) c.args.states.now c.len.result c.accepts.result c.states.view_is c.len.ensures c.if-states-len.false c.accepts.ensures text h)

@@ -1,8 +1,18 @@
-use Rattle.std.proofs.Common.{subst, List, ℕ}
-use Rattle.pattern_match.proofs.Stepping.{IsAny, any_opens, opens_any}
+use Rattle.std.proofs.Common.{◌≡◌, ◌∙◌, sym, ap, refl, length, false, true}
+use Rattle.pattern_syntax.specs.Literal.{literal_start_of}
+use Rattle.pattern_syntax.specs.Tree.{Tree}
+use Rattle.pattern_match.specs.Starts.{behind_start}
+use Rattle.pattern_match.proofs.Standing.{is_dead, is_alive}
 use Rattle.pattern_match.proofs.matcher.Matcher.alive.Goals as goal
 
 pub returns : goal.returns
 returns c =
-    let a : IsAny c.args.states.now c.have_any.result = subst (λ (w : List ℕ). IsAny w c.have_any.result) c.as_slice.ensures (record { onto = c.have_any.ensures.onto; from = c.have_any.ensures.from }) in
-    λ text s. (any_opens c.args.self.now c.args.states.now c.have_any.result c.requires a text s, opens_any c.args.self.now c.args.states.now c.have_any.result a text s)
+    let s : c.self.inside.start ≡ literal_start_of c.args.self.now = c.self.invariant.start ∙ ap literal_start_of c.self.view_is in
+    let m : c.self.inside.machine ≡ behind_start c.args.self.now = c.self.invariant.behind ∙ ap behind_start c.self.view_is in
+    is_alive c.args.self.now c.self.inside.start c.self.inside.machine s m (record { seen = c.states.inside.seen; marks = c.states.inside.marks }) c.args.states.now c.len.result c.alive.result c.states.view_is c.len.ensures c.if-states-len.false c.alive.ensures.onto c.alive.ensures.from
+
+pub returns-then-states-len : goal.returns-then-states-len
+returns-then-states-len c =
+    let s : c.self.inside.start ≡ literal_start_of c.args.self.now = c.self.invariant.start ∙ ap literal_start_of c.self.view_is in
+    let m : c.self.inside.machine ≡ behind_start c.args.self.now = c.self.invariant.behind ∙ ap behind_start c.self.view_is in
+    is_dead c.args.self.now c.self.inside.start c.self.inside.machine s m (record { seen = c.states.inside.seen; marks = c.states.inside.marks }) c.args.states.now c.len.result c.states.view_is c.len.ensures c.if-states-len.true

@@ -1,31 +1,36 @@
-use Rattle.std.proofs.Common.{◌≡◌, ◌<◌, ap, subst, arith, length, List, ℕ}
-use Rattle.pattern_syntax.specs.Tree.{Tree}
-use Rattle.pattern_match.proofs.Stepping.{steps}
-use Rattle.pattern_match.proofs.Machine.{IsMachine, marked_in, room, step_at, stepped_states}
+use Rattle.std.proofs.Common.{◌≡◌, ◌∙◌, sym, ap, refl, length, false, true, arith}
+use Rattle.pattern_syntax.specs.Literal.{literal_start_of}
+use Rattle.pattern_match.specs.Starts.{behind_start}
+use Rattle.pattern_match.specs.States.{is_bare}
+use Rattle.pattern_match.proofs.Standing.{steps_start, steps_other, steps_dead, steps_bare, steps_behind}
 use Rattle.pattern_match.proofs.matcher.Matcher.step.Goals as goal
 
-pub step-requires-clause-rows : goal.step-requires-clause-rows
-step-requires-clause-rows c =
-    let P : Tree → Type 0 = λ t. IsMachine t c.self.inside.rows c.self.inside.width c.self.inside.follow.items c.self.inside.accept.items c.self.inside.classes.items in
-    let m : IsMachine c.args.self.now c.self.inside.rows c.self.inside.width c.self.inside.follow.items c.self.inside.accept.items c.self.inside.classes.items = subst P c.self.view_is (record { rows_is = c.self.invariant.rows; tables = c.self.invariant.tables }) in
-    let n : length c.as_slice.result.now ≡ length c.self.inside.follow.items = ap (λ (w : List ℕ). length w) c.as_slice.ensures.value in
-    λ p h. rw n (marked_in c.args.self.now c.self.inside.rows c.self.inside.width c.self.inside.follow.items c.self.inside.accept.items c.self.inside.classes.items m c.args.states.now c.requires p h)
+pub returns-then-seen-start-clause-stands : goal.returns-then-seen-start-clause-stands
+returns-then-seen-start-clause-stands c =
+    let s : c.self.inside.start ≡ literal_start_of c.args.self.now = c.self.invariant.start ∙ ap literal_start_of c.self.view_is in
+    let m : c.self.inside.machine ≡ behind_start c.args.self.now = c.self.invariant.behind ∙ ap behind_start c.self.view_is in
+    steps_dead c.args.self.now c.self.inside.start c.self.inside.machine s m (record { seen = c.states.inside.seen; marks = c.states.inside.marks }) c.args.states.now c.as_slice-start.result.now c.args.byte c.states.view_is c.as_slice-start.ensures c.if-seen-start.true
 
-pub returns-clause-made : goal.returns-clause-made
-returns-clause-made c =
-    let P : Tree → Type 0 = λ t. IsMachine t c.self.inside.rows c.self.inside.width c.self.inside.follow.items c.self.inside.accept.items c.self.inside.classes.items in
-    let m : IsMachine c.args.self.now c.self.inside.rows c.self.inside.width c.self.inside.follow.items c.self.inside.accept.items c.self.inside.classes.items = subst P c.self.view_is (record { rows_is = c.self.invariant.rows; tables = c.self.invariant.tables }) in
-    stepped_states c.args.self.now c.args.states.now c.step.new.self c.args.byte c.requires c.step.ensures.words (step_at c.args.self.now c.self.inside.rows c.self.inside.width c.self.inside.follow.items c.self.inside.accept.items c.self.inside.classes.items m c.args.states.now c.step.new.self c.as_slice.result.now c.as_slice-2.result.now c.args.byte c.as_slice.ensures.value c.as_slice-2.ensures.value (omega arith) c.requires c.step.ensures.words c.step.ensures.bits)
+pub returns-then-start-seen-clause-stands : goal.returns-then-start-seen-clause-stands
+returns-then-start-seen-clause-stands c =
+    let s : c.self.inside.start ≡ literal_start_of c.args.self.now = c.self.invariant.start ∙ ap literal_start_of c.self.view_is in
+    let m : c.self.inside.machine ≡ behind_start c.args.self.now = c.self.invariant.behind ∙ ap behind_start c.self.view_is in
+    steps_start c.args.self.now c.self.inside.start c.self.inside.machine s m (record { seen = c.states.inside.seen; marks = c.states.inside.marks }) c.args.states.now c.as_slice-start.result.now c.args.byte c.states.view_is c.as_slice-start.ensures c.if-seen-start-2.true c.if-start-seen.true
+
+pub returns-then-seen-start-2-clause-stands : goal.returns-then-seen-start-2-clause-stands
+returns-then-seen-start-2-clause-stands c =
+    let s : c.self.inside.start ≡ literal_start_of c.args.self.now = c.self.invariant.start ∙ ap literal_start_of c.self.view_is in
+    let m : c.self.inside.machine ≡ behind_start c.args.self.now = c.self.invariant.behind ∙ ap behind_start c.self.view_is in
+    steps_other c.args.self.now c.self.inside.start c.self.inside.machine s m (record { seen = c.states.inside.seen; marks = c.states.inside.marks }) c.args.states.now c.as_slice-start.result.now c.args.byte c.states.view_is c.as_slice-start.ensures c.if-seen-start-2.true c.if-start-seen.false
+
+pub returns-then-is_bare-clause-stands : goal.returns-then-is_bare-clause-stands
+returns-then-is_bare-clause-stands c =
+    let s : c.self.inside.start ≡ literal_start_of c.args.self.now = c.self.invariant.start ∙ ap literal_start_of c.self.view_is in
+    let m : c.self.inside.machine ≡ behind_start c.args.self.now = c.self.invariant.behind ∙ ap behind_start c.self.view_is in
+    steps_bare c.args.self.now c.self.inside.start c.self.inside.machine s m (record { seen = c.states.inside.seen; marks = c.states.inside.marks }) c.args.states.now c.as_slice-start.result.now c.args.byte c.states.view_is c.as_slice-start.ensures (omega arith) (sym c.is_bare.ensures ∙ c.if-is_bare.true)
 
 pub returns-clause-stands : goal.returns-clause-stands
 returns-clause-stands c =
-    let P : Tree → Type 0 = λ t. IsMachine t c.self.inside.rows c.self.inside.width c.self.inside.follow.items c.self.inside.accept.items c.self.inside.classes.items in
-    let m : IsMachine c.args.self.now c.self.inside.rows c.self.inside.width c.self.inside.follow.items c.self.inside.accept.items c.self.inside.classes.items = subst P c.self.view_is (record { rows_is = c.self.invariant.rows; tables = c.self.invariant.tables }) in
-    steps c.args.self.now c.args.states.now c.step.new.self c.args.byte (step_at c.args.self.now c.self.inside.rows c.self.inside.width c.self.inside.follow.items c.self.inside.accept.items c.self.inside.classes.items m c.args.states.now c.step.new.self c.as_slice.result.now c.as_slice-2.result.now c.args.byte c.as_slice.ensures.value c.as_slice-2.ensures.value (omega arith) c.requires c.step.ensures.words c.step.ensures.bits)
-
-pub step-requires-clause-room : goal.step-requires-clause-room
-step-requires-clause-room c =
-    let P : Tree → Type 0 = λ t. IsMachine t c.self.inside.rows c.self.inside.width c.self.inside.follow.items c.self.inside.accept.items c.self.inside.classes.items in
-    let m : IsMachine c.args.self.now c.self.inside.rows c.self.inside.width c.self.inside.follow.items c.self.inside.accept.items c.self.inside.classes.items = subst P c.self.view_is (record { rows_is = c.self.invariant.rows; tables = c.self.invariant.tables }) in
-    let n : length c.as_slice-2.result.now ≡ length c.self.inside.classes.items = ap length c.as_slice-2.ensures.value in
-    rw n (room c.args.self.now c.self.inside.rows c.self.inside.width c.self.inside.follow.items c.self.inside.accept.items c.self.inside.classes.items m c.args.states.now c.requires)
+    let s : c.self.inside.start ≡ literal_start_of c.args.self.now = c.self.invariant.start ∙ ap literal_start_of c.self.view_is in
+    let m : c.self.inside.machine ≡ behind_start c.args.self.now = c.self.invariant.behind ∙ ap behind_start c.self.view_is in
+    steps_behind c.args.self.now c.self.inside.start c.self.inside.machine s m (record { seen = c.states.inside.seen; marks = c.states.inside.marks }) c.args.states.now c.as_slice-start.result.now c.step.new.marks c.args.byte c.states.view_is c.as_slice-start.ensures (omega arith) c.step.ensures.behind

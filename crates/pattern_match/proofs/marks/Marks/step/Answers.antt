@@ -2,8 +2,8 @@ use Rattle.std.proofs.Common.{◌≡◌, ◌<◌, ◌+◌, ◌∙◌, ℕ, List,
 use Rattle.std.proofs.lemmas.List.{get_or_default}
 use Rattle.pattern_match.specs.Class.{takes_at}
 use Rattle.pattern_match.proofs.WordBits.{step_bits}
-use Rattle.pattern_match.proofs.Marks.{step_word, marked_row}
-use Rattle.pattern_match.proofs.states.States.step.Goals as goal
+use Rattle.pattern_match.proofs.LowestBits.{step_word, marked_row}
+use Rattle.pattern_match.proofs.marks.Marks.step.Goals as goal
 
 pub gathered-requires : goal.gathered-requires
 gathered-requires c = λ j l b. marked_row c.args.self.now c.self.inside.marks.items c.index.result.now (length c.args.follow.now) j c.self.view_is (c.index.ensures ∙ get_or_default c.self.inside.marks.items 0 c.index.result.now 0 (omega arith)) (omega arith) c.requires.rows l b

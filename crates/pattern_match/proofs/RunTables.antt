@@ -9,13 +9,13 @@ use Rattle.pattern_match.specs.declared.class.Class.{Class}
 use Rattle.pattern_match.proofs.Classes.{class_takes}
 use Rattle.pattern_match.specs.Residuals.{all_residuals, has_texts}
 use Rattle.pattern_match.specs.Automaton.{Place, automaton, all_places}
-use Rattle.pattern_match.specs.States.{bit, width_of, AreStatesOf, StandsFor}
+use Rattle.pattern_match.specs.States.{bit, width_of, AreMarks}
 use Rattle.pattern_match.specs.Tables.{AreTables, leads, ends, has, any_below, bytes_in}
 use Rattle.pattern_match.proofs.Language.{and_first, and_second, and_both, or_either, or_left, or_right}
 use Rattle.pattern_match.proofs.WordBits.{bit_within}
 use Rattle.pattern_match.proofs.Rows.{get_past, row_within}
-use Rattle.pattern_match.proofs.Marks.{any_past}
-use Rattle.pattern_match.proofs.Stepping.{IsStep, IsEnd, IsStart, as_many, starts}
+use Rattle.pattern_match.proofs.LowestBits.{any_past}
+use Rattle.pattern_match.proofs.Stepping.{IsStep, IsEnd, IsStart, Starts, as_many, starts}
 
 any_from : (test : ℕ → Bool) (n : ℕ) → any_below test n ≡ true → (p : ℕ) × (p < n) × (test p ≡ true)
 any_from test zero h = cc
@@ -125,7 +125,7 @@ module _ (ps : List Place) (width : ℕ) (follow accept : List ℕ) (classes : L
   }
 
 -- the states stay a matcher's
-pub stepped_states : (t : Tree) (old new : List ℕ) (b : ℕ) → AreStatesOf t old → length new ≡ length old → IsStep (all_places (automaton t)) old new b → AreStatesOf t new
+pub stepped_states : (t : Tree) (old new : List ℕ) (b : ℕ) → AreMarks t old → length new ≡ length old → IsStep (all_places (automaton t)) old new b → AreMarks t new
 stepped_states t old new b a n s = record {
   words = n ∙ a.words;
   none_past = λ k l. at k l (bit new k) refl;
@@ -135,7 +135,7 @@ stepped_states t old new b a n s = record {
     at k l false e = e
     at k l true e = let w = has_within (all_places (automaton t)) k b (s.from k e).0 in let m = as_many t in absurd (omega arith)
 
-pub started_states : (t : Tree) (states : List ℕ) → length states ≡ width_of t → IsStart (all_places (automaton t)) states → AreStatesOf t states
+pub started_states : (t : Tree) (states : List ℕ) → length states ≡ width_of t → IsStart (all_places (automaton t)) states → AreMarks t states
 started_states t states n s = record {
   words = n;
   none_past = λ k l. at k l (bit states k) refl;
@@ -157,26 +157,26 @@ module _ (t : Tree) (rows width : ℕ) (follow accept : List ℕ) (classes : Lis
   pub start_is : (new : List ℕ) → length new ≡ width → ((k : ℕ) → k < 64 * length new → bit new k ≡ (nat_lt 0 rows && (rows - 1 == k))) → IsStart (all_places (automaton t)) new
   start_is new n h = let F : ℕ → Type 0 = λ r. (k : ℕ) → k < 64 * length new → bit new k ≡ (nat_lt 0 r && (r - 1 == k)) in machine_starts (all_places (automaton t)) width follow accept classes m.tables new n (subst F m.rows_is h)
 
-  pub start_made : (new : List ℕ) → length new ≡ width → ((k : ℕ) → k < 64 * length new → bit new k ≡ (nat_lt 0 rows && (rows - 1 == k))) → AreStatesOf t new
+  pub start_made : (new : List ℕ) → length new ≡ width → ((k : ℕ) → k < 64 * length new → bit new k ≡ (nat_lt 0 rows && (rows - 1 == k))) → AreMarks t new
   start_made new n h = started_states t new (n ∙ width_is) (start_is new n h)
 
-  pub start_stands : (new : List ℕ) → length new ≡ width → ((k : ℕ) → k < 64 * length new → bit new k ≡ (nat_lt 0 rows && (rows - 1 == k))) → StandsFor t new []
+  pub start_stands : (new : List ℕ) → length new ≡ width → ((k : ℕ) → k < 64 * length new → bit new k ≡ (nat_lt 0 rows && (rows - 1 == k))) → Starts t new
   start_stands new n h = starts t new (has_texts t) refl (start_is new n h)
 
-  pub wide : (old : List ℕ) → AreStatesOf t old → length old ≡ width
+  pub wide : (old : List ℕ) → AreMarks t old → length old ≡ width
   wide old a = a.words ∙ sym width_is
 
-  pub rows_in : (old : List ℕ) → AreStatesOf t old → rows ≤ 64 * length old
+  pub rows_in : (old : List ℕ) → AreMarks t old → rows ≤ 64 * length old
   rows_in old a =
       let w : width ≡ (length (all_places (automaton t)) + 63) / 64 = m.tables.wide in
       let n = wide old a in
       let r = m.rows_is in
       omega arith
 
-  pub follow_in : (old : List ℕ) → AreStatesOf t old → rows * length old ≤ length follow
+  pub follow_in : (old : List ℕ) → AreMarks t old → rows * length old ≤ length follow
   follow_in old a = let n = wide old a in let r = m.rows_is in let f = m.tables.rows in rw (n, r, f) (omega arith)
 
-  pub marked_in : (old : List ℕ) → AreStatesOf t old → (p : ℕ) → bit old p ≡ true → p * length old + length old ≤ length follow
+  pub marked_in : (old : List ℕ) → AreMarks t old → (p : ℕ) → bit old p ≡ true → p * length old + length old ≤ length follow
   marked_in old a p h = at (within_or_past p rows)
     where
       at : (p < rows) ⊎ (rows ≤ p) → p * length old + length old ≤ length follow
@@ -184,34 +184,34 @@ module _ (t : Tree) (rows width : ℕ) (follow accept : List ℕ) (classes : Lis
       at (inr l) = let n = as_many t in let r = m.rows_is in let e : bit old p ≡ false = a.none_past p (omega arith) in let d : true ≡ false = sym h ∙ e in cc
 
   -- no state stands past the rows
-  pub all_rows : (old : List ℕ) (test : ℕ → Bool) → AreStatesOf t old → any_below (λ p. bit old p && test p) (64 * length old) ≡ any_below (λ p. bit old p && test p) rows
+  pub all_rows : (old : List ℕ) (test : ℕ → Bool) → AreMarks t old → any_below (λ p. bit old p && test p) (64 * length old) ≡ any_below (λ p. bit old p && test p) rows
   all_rows old test a = any_past (λ p. bit old p && test p) rows (64 * length old) (rows_in old a) (λ p l. let n = as_many t in let r = m.rows_is in let e : bit old p ≡ false = a.none_past p (omega arith) in ap (λ v. v && test p) e)
 
-  pub step_is : (old new : List ℕ) (b : ℕ) → b < 256 → AreStatesOf t old → length new ≡ length old → ((k : ℕ) → k < 64 * length old → bit new k ≡ (any_below (λ p. bit old p && bit follow (64 * (p * length old) + k)) rows && takes_at classes k b)) → IsStep (all_places (automaton t)) old new b
+  pub step_is : (old new : List ℕ) (b : ℕ) → b < 256 → AreMarks t old → length new ≡ length old → ((k : ℕ) → k < 64 * length old → bit new k ≡ (any_below (λ p. bit old p && bit follow (64 * (p * length old) + k)) rows && takes_at classes k b)) → IsStep (all_places (automaton t)) old new b
   step_is old new b l a n h =
       let F : ℕ → Type 0 = λ r. (k : ℕ) → k < 64 * length old → bit new k ≡ (any_below (λ p. bit old p && bit follow (64 * (p * length old) + k)) r && takes_at classes k b) in
       machine_steps (all_places (automaton t)) width follow accept classes m.tables old new b l (wide old a) n (subst F m.rows_is h)
 
-  pub accept_in : (states : List ℕ) → AreStatesOf t states → length states ≡ length accept
+  pub accept_in : (states : List ℕ) → AreMarks t states → length states ≡ length accept
   accept_in states a = wide states a ∙ sym m.tables.accepts
 
-  pub end_is : (states : List ℕ) (v : Bool) → AreStatesOf t states → ((k : ℕ) → bit states k ≡ true → bit accept k ≡ true → v ≡ true) → (v ≡ true → (k : ℕ) × (bit states k ≡ true) × (bit accept k ≡ true)) → IsEnd (all_places (automaton t)) states v
+  pub end_is : (states : List ℕ) (v : Bool) → AreMarks t states → ((k : ℕ) → bit states k ≡ true → bit accept k ≡ true → v ≡ true) → (v ≡ true → (k : ℕ) × (bit states k ≡ true) × (bit accept k ≡ true)) → IsEnd (all_places (automaton t)) states v
   end_is states v a f g = machine_ends (all_places (automaton t)) width follow accept classes m.tables states v (wide states a) f g
 
-  pub step_at : (old new shown : List ℕ) (kept : List Class) (b : ℕ) → shown ≡ follow → kept ≡ classes → b < 256 → AreStatesOf t old → length new ≡ length old → ((k : ℕ) → k < 64 * length old → bit new k ≡ (any_below (λ p. bit old p && bit shown (64 * (p * length old) + k)) (64 * length old) && takes_at kept k b)) → IsStep (all_places (automaton t)) old new b
+  pub step_at : (old new shown : List ℕ) (kept : List Class) (b : ℕ) → shown ≡ follow → kept ≡ classes → b < 256 → AreMarks t old → length new ≡ length old → ((k : ℕ) → k < 64 * length old → bit new k ≡ (any_below (λ p. bit old p && bit shown (64 * (p * length old) + k)) (64 * length old) && takes_at kept k b)) → IsStep (all_places (automaton t)) old new b
   step_at old new shown kept b e f l a n h =
       let F : List ℕ → Type 0 = λ s. (k : ℕ) → k < 64 * length old → bit new k ≡ (any_below (λ p. bit old p && bit s (64 * (p * length old) + k)) (64 * length old) && takes_at kept k b) in
       let G : List Class → Type 0 = λ s. (k : ℕ) → k < 64 * length old → bit new k ≡ (any_below (λ p. bit old p && bit follow (64 * (p * length old) + k)) (64 * length old) && takes_at s k b) in
       step_is old new b l a n (λ k u. subst G f (subst F e h) k u ∙ ap (λ v. v && takes_at classes k b) (all_rows old (λ p. bit follow (64 * (p * length old) + k)) a))
 
-  pub end_at : (states shown kept : List ℕ) (v : Bool) → shown ≡ states → kept ≡ accept → AreStatesOf t states → ((k : ℕ) → bit shown k ≡ true → bit kept k ≡ true → v ≡ true) → (v ≡ true → (k : ℕ) × (bit shown k ≡ true) × (bit kept k ≡ true)) → IsEnd (all_places (automaton t)) states v
+  pub end_at : (states shown kept : List ℕ) (v : Bool) → shown ≡ states → kept ≡ accept → AreMarks t states → ((k : ℕ) → bit shown k ≡ true → bit kept k ≡ true → v ≡ true) → (v ≡ true → (k : ℕ) × (bit shown k ≡ true) × (bit kept k ≡ true)) → IsEnd (all_places (automaton t)) states v
   end_at states shown kept v e f a g h =
       end_is states v a
       (λ k u w. g k (subst (λ (s : List ℕ). bit s k ≡ true) (sym e) u) (subst (λ (s : List ℕ). bit s k ≡ true) (sym f) w))
       (λ i. let r = h i in (r.0, subst (λ (s : List ℕ). bit s r.0 ≡ true) e r.1, subst (λ (s : List ℕ). bit s r.0 ≡ true) f r.2))
 
   -- the words have no more bits than there are classes, but for those of one word
-  pub room : (old : List ℕ) → AreStatesOf t old → 64 * length old < length classes + 64
+  pub room : (old : List ℕ) → AreMarks t old → 64 * length old < length classes + 64
   room old a =
       let n = wide old a in
       let w : width ≡ (length (all_places (automaton t)) + 63) / 64 = m.tables.wide in

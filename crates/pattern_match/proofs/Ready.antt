@@ -1,0 +1,133 @@
+-- An automaton made ready: marks, and what they leave, where it has tables and where it needs none.
+use Rattle.std.proofs.Common.{◌≡◌, refl, sym, ◌∙◌, ap, subst, ℕ, zero, suc, ◌+◌, ◌-◌, ◌*◌, ◌<◌, ◌≤◌, ◌==◌, Bool, true, false, List, [], ◌∷◌, ◌++◌, length, take, drop, get_or, arith, append_assoc, append-nil}
+use Rattle.std.specs.Prelude.{◌&&◌, not, nat_lt, slice_get}
+use Rattle.std.proofs.lemmas.List.{take_more, take_all, take-append-drop}
+use Rattle.pattern_syntax.specs.Tree.{Tree}
+use Rattle.pattern_syntax.specs.Language.{In}
+use Rattle.pattern_match.specs.Residuals.{residuals, is_some_list}
+use Rattle.pattern_match.specs.Automaton.{Place, automaton, all_places}
+use Rattle.pattern_match.specs.States.{bit, width_of, is_bare, AreMarks, IsMarked, AreMarksBy, IsBehindBy, AreMarksOf, IsBehind, IsRead}
+use Rattle.pattern_match.specs.Tables.{AreTables}
+use Rattle.pattern_match.specs.declared.class.Class.{Class}
+use Rattle.pattern_match.proofs.Language.{and_first, and_second, in_empty, empty_in}
+use Rattle.pattern_match.proofs.Running.{Runs, automaton_runs, no_first}
+use Rattle.pattern_match.proofs.Stepping.{IsStep, IsEnd, IsAny, step_onto, step_from, end_from, end_onto, any_left, left_any}
+use Rattle.pattern_match.proofs.RunTables.{IsMachine, start_made, start_stands, wide, stepped_states}
+
+not_true : (v : Bool) → not v ≡ true → v ≡ false
+not_true true h = cc
+not_true false h = refl
+
+-- a pattern without a byte set holds the empty text alone
+bare_text : (t : Tree) → is_bare t ≡ true → (text : List ℕ) → (In t text → text ≡ []) × (text ≡ [] → In t text)
+bare_text t h text = (λ i. at text i, λ e. subst (λ w. In t w) (sym e) (empty_in t (sym r.holds_empty ∙ and_second (not (is_some_list (automaton t).places)) _ h)))
+  where
+    r : Runs (automaton t) t (residuals t)
+    r = automaton_runs t
+
+    at : (text : List ℕ) → In t text → text ≡ []
+    at [] i = refl
+    at (b ∷ bs) i = absurd (no_first (automaton t) t (residuals t) r (not_true (is_some_list (automaton t).places) (and_first (not (is_some_list (automaton t).places)) _ h)) b bs i)
+
+pub some_marks : (t : Tree) (marks : List ℕ) → is_bare t ≡ false → AreMarksOf t marks → AreMarks t marks
+some_marks t marks e a = subst (λ v. AreMarksBy v t marks) e a
+
+pub marks_of_some : (t : Tree) (marks : List ℕ) → is_bare t ≡ false → AreMarks t marks → AreMarksOf t marks
+marks_of_some t marks e a = subst (λ v. AreMarksBy v t marks) (sym e) a
+
+pub behind_some : (t : Tree) (marks text : List ℕ) → is_bare t ≡ false → IsBehind t marks text → IsMarked t marks text
+behind_some t marks text e a = subst (λ v. IsBehindBy v t marks text) e a
+
+pub some_behind : (t : Tree) (marks text : List ℕ) → is_bare t ≡ false → IsMarked t marks text → IsBehind t marks text
+some_behind t marks text e a = subst (λ v. IsBehindBy v t marks text) (sym e) a
+
+pub bare_behind : (t : Tree) (marks text : List ℕ) → is_bare t ≡ true → (IsBehind t marks text → text ≡ []) × (text ≡ [] → IsBehind t marks text)
+bare_behind t marks text e = (λ a. subst (λ v. IsBehindBy v t marks text) e a, λ a. subst (λ v. IsBehindBy v t marks text) (sym e) a)
+
+pub record IsReady (t : Tree) (bare : Bool) (rows width : ℕ) (follow accept : List ℕ) (classes : List Class) : Type 0 where
+  pub bare_is : bare ≡ is_bare t
+  pub none : bare ≡ true → width ≡ 0
+  pub rows_are : bare ≡ false → rows ≡ length (all_places (automaton t))
+  pub tables : bare ≡ false → AreTables width follow accept classes (all_places (automaton t))
+
+module _ (t : Tree) (bare : Bool) (rows width : ℕ) (follow accept : List ℕ) (classes : List Class) (r : IsReady t bare rows width follow accept classes) where
+  pub machine : bare ≡ false → IsMachine t rows width follow accept classes
+  machine e = record { rows_is = r.rows_are e; tables = r.tables e }
+
+  not_bare : bare ≡ false → is_bare t ≡ false
+  not_bare e = sym r.bare_is ∙ e
+
+  made_at : (v : Bool) → bare ≡ v → (new : List ℕ) → length new ≡ width → ((k : ℕ) → k < 64 * length new → bit new k ≡ (nat_lt 0 rows && (rows - 1 == k))) → AreMarksOf t new
+  made_at true e new n h = subst (λ v. AreMarksBy v t new) (sym e ∙ r.bare_is) (n ∙ r.none e)
+  made_at false e new n h = marks_of_some t new (not_bare e) (start_made t rows width follow accept classes (machine e) new n h)
+
+  starts_at : (v : Bool) → bare ≡ v → (new : List ℕ) → length new ≡ width → ((k : ℕ) → k < 64 * length new → bit new k ≡ (nat_lt 0 rows && (rows - 1 == k))) → (text : List ℕ) → (IsBehind t new text → In t text) × (In t text → IsBehind t new text)
+  starts_at true e new n h text =
+      let b = sym r.bare_is ∙ e in
+      (λ a. (bare_text t b text).1 ((bare_behind t new text b).0 a), λ a. (bare_behind t new text b).1 ((bare_text t b text).0 a))
+  starts_at false e new n h text =
+      let s = start_stands t rows width follow accept classes (machine e) new n h in
+      (λ a. s.from text (behind_some t new text (not_bare e) a), λ a. some_behind t new text (not_bare e) (s.onto text a))
+
+  wide_at : (v : Bool) → bare ≡ v → (old : List ℕ) → AreMarksOf t old → length old ≡ width
+  wide_at true e old a = subst (λ v. AreMarksBy v t old) (sym r.bare_is ∙ e) a ∙ sym (r.none e)
+  wide_at false e old a = wide t rows width follow accept classes (machine e) old (some_marks t old (not_bare e) a)
+
+  pub restart_made : (new : List ℕ) → length new ≡ width → ((k : ℕ) → k < 64 * length new → bit new k ≡ (nat_lt 0 rows && (rows - 1 == k))) → AreMarksOf t new
+  restart_made = made_at bare refl
+
+  pub restart_starts : (new : List ℕ) → length new ≡ width → ((k : ℕ) → k < 64 * length new → bit new k ≡ (nat_lt 0 rows && (rows - 1 == k))) → (text : List ℕ) → (IsBehind t new text → In t text) × (In t text → IsBehind t new text)
+  restart_starts = starts_at bare refl
+
+  pub as_wide : (old : List ℕ) → AreMarksOf t old → length old ≡ width
+  as_wide = wide_at bare refl
+
+pub step_made : (t : Tree) (old new : List ℕ) (b : ℕ) → is_bare t ≡ false → AreMarksOf t old → length new ≡ length old → IsStep (all_places (automaton t)) old new b → AreMarksOf t new
+step_made t old new b e a n s = marks_of_some t new e (stepped_states t old new b (some_marks t old e a) n s)
+
+pub step_behind : (t : Tree) (old new : List ℕ) (b : ℕ) → is_bare t ≡ false → IsStep (all_places (automaton t)) old new b → (text : List ℕ) → (IsBehind t old (b ∷ text) → IsBehind t new text) × (IsBehind t new text → IsBehind t old (b ∷ text))
+step_behind t old new b e s text = (
+  λ a. some_behind t new text e (step_onto t old new b s text (behind_some t old (b ∷ text) e a)),
+  λ a. some_behind t old (b ∷ text) e (step_from t old new b s text (behind_some t new text e a)),
+)
+
+pub end_behind : (t : Tree) (marks : List ℕ) (v : Bool) → is_bare t ≡ false → IsEnd (all_places (automaton t)) marks v → (v ≡ true → IsBehind t marks []) × (IsBehind t marks [] → v ≡ true)
+end_behind t marks v e s = (λ h. some_behind t marks [] e (end_from t marks v s h), λ a. end_onto t marks v s (behind_some t marks [] e a))
+
+pub bare_ends : (t : Tree) (marks : List ℕ) → is_bare t ≡ true → (true ≡ true → IsBehind t marks []) × (IsBehind t marks [] → true ≡ true)
+bare_ends t marks e = (λ h. (bare_behind t marks [] e).1 refl, λ a. refl)
+
+pub any_behind : (t : Tree) (marks : List ℕ) (v : Bool) → is_bare t ≡ false → AreMarksOf t marks → IsAny marks v → v ≡ true → (text : List ℕ) × IsBehind t marks text
+any_behind t marks v e a s h = let r = any_left t marks v (some_marks t marks e a) s h in (r.0, some_behind t marks r.0 e r.1)
+
+pub behind_any : (t : Tree) (marks : List ℕ) (v : Bool) → is_bare t ≡ false → IsAny marks v → (text : List ℕ) → IsBehind t marks text → v ≡ true
+behind_any t marks v e s text a = left_any t marks v s text (behind_some t marks text e a)
+
+pub bare_left : (t : Tree) (marks : List ℕ) → is_bare t ≡ true → (text : List ℕ) × IsBehind t marks text
+bare_left t marks e = ([], (bare_behind t marks [] e).1 refl)
+
+-- a byte more of a text is read
+pub read_one : (t : Tree) (old new text : List ℕ) (i b : ℕ) → i < length text → b ≡ get_or text i 0 → IsRead t old (take i text) → ((rest : List ℕ) → (IsBehind t old (b ∷ rest) → IsBehind t new rest) × (IsBehind t new rest → IsBehind t old (b ∷ rest))) → IsRead t new (take (i + 1) text)
+read_one t old new text i b l e h s rest =
+    let p : take (i + 1) text ≡ take i text ++ b ∷ [] = take_more text i 0 l ∙ ap (λ c. take i text ++ c ∷ []) (sym e) in
+    let q : take (i + 1) text ++ rest ≡ take i text ++ (b ∷ rest) = ap (λ w. w ++ rest) p ∙ append_assoc (take i text) (b ∷ []) rest in
+    (λ a. subst (λ w. In t w) (sym q) ((h (b ∷ rest)).0 ((s rest).1 a)), λ a. (s rest).0 ((h (b ∷ rest)).1 (subst (λ w. In t w) q a)))
+
+pub read_whole : (t : Tree) (marks text : List ℕ) (i : ℕ) → length text ≤ i → IsRead t marks (take i text) → IsRead t marks text
+read_whole t marks text i l h = subst (λ w. IsRead t marks w) (take_all i text l) h
+
+pub nothing_left : (t : Tree) (marks text : List ℕ) (i : ℕ) (v : Bool) → v ≡ false → ((rest : List ℕ) → IsBehind t marks rest → v ≡ true) → IsRead t marks (take i text) → In t text → ⊥
+nothing_left t marks text i v e f h m =
+    let p : take i text ++ drop i text ≡ text = take-append-drop i text in
+    let u : v ≡ true = f (drop i text) ((h (drop i text)).1 (subst (λ w. In t w) (sym p) m)) in
+    let c : true ≡ false = sym u ∙ e in cc
+
+pub read_ends : (t : Tree) (marks text : List ℕ) (v : Bool) → IsRead t marks text → (v ≡ true → IsBehind t marks []) × (IsBehind t marks [] → v ≡ true) → (v ≡ true → In t text) × (In t text → v ≡ true)
+read_ends t marks text v h e = (λ a. subst (λ w. In t w) (append-nil text) ((h []).0 (e.0 a)), λ a. e.1 ((h []).1 (subst (λ w. In t w) (sym (append-nil text)) a)))
+
+is_nil : (text : List ℕ) (v : Bool) → v ≡ (length text == 0) → (v ≡ true → text ≡ []) × (text ≡ [] → v ≡ true)
+is_nil [] v e = (λ h. refl, λ h. e)
+is_nil (b ∷ bs) v e = (λ h. absurd (let z : (suc (length bs) == 0) ≡ false = grind arith in let d : true ≡ false = sym h ∙ e ∙ z in cc), λ h. cc)
+
+pub bare_matches : (t : Tree) (text : List ℕ) (v : Bool) → is_bare t ≡ true → v ≡ (length text == 0) → (v ≡ true → In t text) × (In t text → v ≡ true)
+bare_matches t text v e h = (λ a. (bare_text t e text).1 ((is_nil text v h).0 a), λ a. (is_nil text v h).1 ((bare_text t e text).0 a))

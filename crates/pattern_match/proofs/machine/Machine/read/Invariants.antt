@@ -1,0 +1,6 @@
+use Rattle.std.proofs.Common.{take}
+use Rattle.pattern_match.specs.States.{AreMarksOf, IsRead}
+use Rattle.pattern_match.proofs.machine.Machine.read.Given as goal
+
+abbrev pub invariant-loop-byte : goal.invariant-loop-byte
+invariant-loop-byte l = AreMarksOf l.self l.marks × IsRead l.self l.marks (take l.byte-index l.text)

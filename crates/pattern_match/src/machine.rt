@@ -1,0 +1,178 @@
+ghost use Rattle.std.specs.Prelude.{◌≡◌, ◌∷◌, ◌+◌, ◌/◌, ◌↔◌, ℕ, List, [], true, false, IfOk, IsTrue};
+ghost use Rattle.pattern_syntax.specs.Language.{In};
+ghost use Rattle.pattern_syntax.specs.Nodes.{tree_of};
+ghost use Rattle.pattern_match.specs.States.{AreMarksOf, IsBehind, IsRead, is_bare};
+
+use crate::bits::{have_any, have_common};
+use crate::class::Class;
+use crate::compile::compiled;
+use crate::marks::Marks;
+use crate::tables::{accept_row, classes_of, follow_table};
+use label_base::OutOfMemory;
+use pattern_syntax::Node;
+use std::alloc::Global;
+use std::marker::Model;
+
+/// The automaton of a pattern, seen as the pattern. One that holds the empty text alone takes no memory for tables.
+#[derive(Debug, Drop)]
+pub struct Machine {
+    nodes: Vec<Node>,
+    is_bare: bool,
+    // How many states there are, and in how many words they are kept.
+    rows: usize,
+    width: usize,
+    // A row for each state: those that may follow it.
+    follow: Vec<u64>,
+    // The states behind which a text may end.
+    accept: Vec<u64>,
+    // The bytes that lead to each state.
+    classes: Vec<Class>,
+}
+
+impl Model for Machine {
+    ghost use Rattle.pattern_syntax.specs.Tree.{Tree, tree_code};
+
+    ghost Value = { Tree };
+
+    ghost coded = { tree_code };
+
+    ghost use Rattle.pattern_syntax.specs.Nodes.{tree_of};
+    ghost use Rattle.pattern_match.specs.Compiled.{IsCompiled};
+
+    ghost view = { λ m. tree_of m.nodes.items };
+
+    ghost invariant = { IsCompiled };
+}
+
+// In how many words so many bits are kept.
+fn words_for(bits: usize) -> Result<usize, OutOfMemory>
+    ensures { IfOk result (λ words. words ≡ (bits + 63) / 64) }
+{
+    if bits > usize::MAX - 63 {
+        return Err(OutOfMemory);
+    }
+    Ok((bits + 63) / 64)
+}
+
+impl Machine {
+    /// The automaton of nodes in postfix order. There may be too little memory for its tables.
+    pub fn new(alloc: Global, nodes: Vec<Node>) -> Result<Machine, OutOfMemory>
+        ensures { IfOk result (λ machine. machine ≡ tree_of nodes.items) }
+    {
+        let fragment = compiled(alloc, nodes.as_slice())?;
+        if fragment.is_bare() {
+            return Ok(Machine {
+                nodes,
+                is_bare: true,
+                rows: 0,
+                width: 0,
+                follow: Vec::new(alloc),
+                accept: Vec::new(alloc),
+                classes: Vec::new(alloc),
+            });
+        }
+        let positions = fragment.into_positions(alloc)?;
+        let width = words_for(positions.len())?;
+        Ok(Machine {
+            nodes,
+            is_bare: false,
+            rows: positions.len(),
+            width,
+            follow: follow_table(alloc, positions.as_slice(), width)?,
+            accept: accept_row(alloc, positions.as_slice(), width)?,
+            classes: classes_of(alloc, positions.as_slice())?,
+        })
+    }
+
+    /// Whether the empty text is all that it holds.
+    pub fn is_bare(&self) -> bool
+        ensures { result ≡ is_bare self.now }
+    {
+        self.is_bare
+    }
+
+    /// The marks before the first byte of a text.
+    pub fn marks(&self, alloc: Global) -> Result<Marks, OutOfMemory>
+        ensures made { IfOk result (λ marks. AreMarksOf self.now marks) }
+        ensures starts { IfOk result (λ marks. (text : List ℕ) → IsBehind self.now marks text ↔ In self.now text) }
+    {
+        let mut marks = Marks::new(alloc, self.width)?;
+        marks.restart(self.rows);
+        Ok(marks)
+    }
+
+    /// Goes back to the marks before the first byte.
+    pub fn restart(&self, marks: &mut Marks)
+        requires { AreMarksOf self.now marks.old }
+        ensures made { AreMarksOf self.now marks.new }
+        ensures starts { (text : List ℕ) → IsBehind self.now marks.new text ↔ In self.now text }
+    {
+        marks.restart(self.rows);
+    }
+
+    /// Goes on by a byte.
+    pub fn step(&self, marks: &mut Marks, byte: u8)
+        requires some { is_bare self.now ≡ false }
+        requires made { AreMarksOf self.now marks.old }
+        ensures made { AreMarksOf self.now marks.new }
+        ensures behind { (text : List ℕ) → IsBehind self.now marks.old (byte ∷ text) ↔ IsBehind self.now marks.new text }
+    {
+        marks.step(self.follow.as_slice(), self.classes.as_slice(), byte);
+    }
+
+    /// Whether a text may end here.
+    pub fn accepts(&self, marks: &Marks) -> bool
+        requires { AreMarksOf self.now marks.now }
+        ensures { IsTrue result ↔ IsBehind self.now marks.now [] }
+    {
+        if self.is_bare {
+            return true;
+        }
+        have_common(marks.as_slice(), self.accept.as_slice())
+    }
+
+    /// Whether some text is left.
+    pub fn alive(&self, marks: &Marks) -> bool
+        requires { AreMarksOf self.now marks.now }
+        ensures onto { (text : List ℕ) → IsBehind self.now marks.now text → result ≡ true }
+        ensures from { result ≡ true → (text : List ℕ) × IsBehind self.now marks.now text }
+    {
+        if self.is_bare {
+            return true;
+        }
+        have_any(marks.as_slice())
+    }
+
+    // Starts anew and reads a text. Where nothing is left it may stop early and say false.
+    fn read(&self, marks: &mut Marks, text: &[u8]) -> bool
+        requires some { is_bare self.now ≡ false }
+        requires made { AreMarksOf self.now marks.old }
+        ensures made { AreMarksOf self.now marks.new }
+        ensures read { result ≡ true → IsRead self.now marks.new text.now }
+        ensures dead { result ≡ false → In self.now text.now → ⊥ }
+    {
+        self.restart(marks);
+        for byte in text {
+            if !self.alive(marks) {
+                return false;
+            }
+            self.step(marks, *byte);
+        }
+        true
+    }
+
+    /// Whether the text is in the language. The marks are used anew.
+    pub fn matches(&self, marks: &mut Marks, text: &[u8]) -> bool
+        requires { AreMarksOf self.now marks.old }
+        ensures made { AreMarksOf self.now marks.new }
+        ensures language { IsTrue result ↔ In self.now text.now }
+    {
+        if self.is_bare {
+            return text.is_empty();
+        }
+        if !self.read(marks, text) {
+            return false;
+        }
+        self.accepts(marks)
+    }
+}
