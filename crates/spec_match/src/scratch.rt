@@ -10,9 +10,10 @@ pub struct Scratch {
 }
 
 impl Model for Scratch {
-    ghost use Rattle.std.specs.Prelude.{List, ℕ};
+    ghost use Rattle.std.specs.Prelude.{List};
+    ghost use Rattle.pattern_match.specs.States.{Progress};
 
-    ghost Value = { List (List ℕ) };
+    ghost Value = { List Progress };
 
     ghost view = { λ s. s.states.items };
 }
