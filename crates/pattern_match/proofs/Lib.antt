@@ -5,6 +5,7 @@ pub mod Holding
 pub mod Classes
 pub mod Lists
 pub mod Stacks
+pub mod Zeros
 pub mod Copies
 pub mod Stepping
 pub mod WordBits

@@ -17,7 +17,7 @@ use Rattle.pattern_match.specs.Building.{HoldsTrees, Builds}
 on_top : (stack : List Automaton) (a : Automaton) → reverse (stack ++ a ∷ []) ≡ a ∷ reverse stack
 on_top stack a = reverse-append stack (a ∷ [])
 
-pushed : (stack : List Automaton) (trees : List Tree) (a : Automaton) (t : Tree) → HoldsTrees stack trees → a ≡ automaton t → HoldsTrees (stack ++ a ∷ []) (t ∷ trees)
+pub pushed : (stack : List Automaton) (trees : List Tree) (a : Automaton) (t : Tree) → HoldsTrees stack trees → a ≡ automaton t → HoldsTrees (stack ++ a ∷ []) (t ∷ trees)
 pushed stack trees a t h e = on_top stack a ∙ (let f : reverse stack ≡ map automaton trees = h in rw (e, f) refl)
 
 pub builds_byte : (old new : List Automaton) (b : ℕ) (a : Automaton) → a ≡ single (class_bytes (class.Byte b)) → new ≡ old ++ a ∷ [] → Builds (Byte b) old new
@@ -70,7 +70,7 @@ builds_repeat old s new least most a c e g n = λ trees h. rw n (at trees (sym (
     at [] h = cc
     at (x ∷ trees) h = pushed s trees c (tree.Repeat least most x) (let r : reverse s ≡ map automaton trees = cc in r) (g ∙ same_repeat least most a x (let p : a ≡ automaton x = cc in p))
 
-after_more : (ns : List Node) (n : Node) (stack : List Tree) → after_nodes (ns ++ n ∷ []) stack ≡ after_node n (after_nodes ns stack)
+pub after_more : (ns : List Node) (n : Node) (stack : List Tree) → after_nodes (ns ++ n ∷ []) stack ≡ after_node n (after_nodes ns stack)
 after_more [] n stack = refl
 after_more (m ∷ ns) n stack = after_more ns n (after_node m stack)
 

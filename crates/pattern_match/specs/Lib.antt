@@ -1,6 +1,7 @@
 pub mod Residuals
 pub mod Starts
 pub mod Automaton
+pub mod Skipping
 pub mod Building
 pub mod Class
 pub mod States

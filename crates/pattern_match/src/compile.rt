@@ -1,11 +1,15 @@
-ghost use Rattle.std.specs.Prelude.{◌≡◌, IfOk, OnOk};
+ghost use Rattle.std.specs.Prelude.{◌≡◌, ◌∷◌, ◌<◌, List, Some, IfOk, OnOk, length};
 ghost use Rattle.pattern_syntax.specs.Nodes.{tree_of};
 ghost use Rattle.pattern_syntax.specs.declared.node.Node.TheVariants as nodes;
 ghost use Rattle.pattern_match.specs.Automaton.{automaton};
-ghost use Rattle.pattern_match.specs.Building.{Builds};
+ghost use Rattle.pattern_syntax.specs.Tree as tree;
+ghost use Rattle.pattern_syntax.specs.Tree.{Tree};
+ghost use Rattle.pattern_match.specs.Building.{Builds, HoldsTrees, IsPut};
+ghost use Rattle.pattern_match.specs.Skipping.{AreSkips, trees_before};
 
 use crate::class::Class;
 use crate::fragment::Fragment;
+use crate::skipping::{skip_at, skips_of};
 use label_base::OutOfMemory;
 use pattern_syntax::{ByteSet, Node};
 use std::alloc::Global;
@@ -87,13 +91,45 @@ fn put(alloc: Global, stack: &mut Vec<Fragment>, node: &Node) -> Result<(), OutO
     }
 }
 
+// A part that is repeated zero times.
+fn put_none(alloc: Global, stack: &mut Vec<Fragment>) -> Result<(), OutOfMemory>
+    ensures { OnOk result ((trees : List Tree) (part : Tree) → HoldsTrees stack.old.items trees → HoldsTrees stack.new.items (tree.Repeat 0 (Some 0) part ∷ trees)) }
+{
+    stack.push(Fragment::bare(alloc, true))?;
+    Ok(())
+}
+
+// Puts the node at a place, or in place of a part that is repeated zero times nothing, and gives the place behind it.
+fn put_next(
+    alloc: Global,
+    stack: &mut Vec<Fragment>,
+    nodes: &[Node],
+    skips: &[usize],
+    at: usize,
+) -> Result<usize, OutOfMemory>
+    requires within { at < length nodes.now }
+    requires skips { AreSkips nodes.now skips.now }
+    requires holds { HoldsTrees stack.old.items (trees_before nodes.now at) }
+    ensures { IfOk result (λ next. IsPut nodes.now stack.new.items at next) }
+{
+    let end = skip_at(skips, at);
+    if at < end {
+        put_none(alloc, stack)?;
+        return Ok(end + 1);
+    }
+    put(alloc, stack, &nodes[at])?;
+    Ok(at + 1)
+}
+
 /// The automaton of a pattern, given as its nodes in postfix order.
 pub fn compiled(alloc: Global, nodes: &[Node]) -> Result<Fragment, OutOfMemory>
     ensures { IfOk result (λ fragment. fragment ≡ automaton (tree_of nodes.now)) }
 {
+    let skips = skips_of(alloc, nodes)?;
     let mut stack = Vec::new(alloc);
-    for node in nodes {
-        put(alloc, &mut stack, node)?;
+    let mut at = 0;
+    'nodes: while at < nodes.len() {
+        at = put_next(alloc, &mut stack, nodes, skips.as_slice(), at)?;
     }
     match stack.pop() {
         Some(fragment) => Ok(fragment),

@@ -10,6 +10,7 @@ mod machine;
 mod marks;
 mod matcher;
 mod position;
+mod skipping;
 mod states;
 mod tables;
 mod taking;
