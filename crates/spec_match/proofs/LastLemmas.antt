@@ -1,9 +1,11 @@
 -- The last rule that fits, from the end.
 use Rattle.std.proofs.Common.{◌≡◌, ◌∙◌, sym, refl, ap, ℕ, suc, zero, ◌+◌, ◌<◌, Bool, true, false, cond, List, [], ◌∷◌, drop, length, get_or, map, arith}
-use Rattle.std.specs.Prelude.{filter, Option, Some, None, slice_get, option_and_then}
+use Rattle.std.specs.Prelude.{◌&&◌, filter, Option, Some, None, slice_get, option_and_then}
 use Rattle.std.specs.List.{enumerate_from, last_or}
+use Rattle.label_base.specs.Kind.{applies}
 use Rattle.label_base.specs.declared.kind.Asked.{Asked}
-use Rattle.spec_match.specs.LastMatch.{fits, last_index, last_match}
+use Rattle.pattern_match.proofs.Holding.{holds_tells}
+use Rattle.spec_match.specs.LastMatch.{fits, Fits, IsLast, Decides, last_index, last_match}
 use Rattle.spec_match.specs.Scratches.{spec_in}
 use Rattle.spec_match.specs.declared.rule.Rule.{Rule}
 use Rattle.spec_reader.specs.SpecValue.{SpecValue}
@@ -22,6 +24,22 @@ by_first false n x pairs o k h = h o
 by_member : (v : Bool) (x : SpecValue) (o : Option SpecValue) (kept : List SpecValue) (y : SpecValue) → ((o' : Option SpecValue) → last_or o' kept ≡ Some y) → last_or o (cond v (x ∷ kept) kept) ≡ Some y
 by_member true x o kept y h = h (Some x)
 by_member false x o kept y h = h o
+
+and_first : (x y : Bool) → (x && y) ≡ true → x ≡ true
+and_first true y h = refl
+and_first false y h = cc
+
+and_second : (x y : Bool) → (x && y) ≡ true → y ≡ true
+and_second true y h = h
+and_second false y h = cc
+
+and_both : (x y : Bool) → x ≡ true → y ≡ true → (x && y) ≡ true
+and_both true y h k = k
+and_both false y h k = cc
+
+rest_none : (v : Bool) (x : SpecValue) (kept : List SpecValue) → cond v (x ∷ kept) kept ≡ [] → kept ≡ []
+rest_none true x kept h = cc
+rest_none false x kept h = h
 
 module _ (asked : Asked) (text : List ℕ) where
   abbrev numbered : ℕ → List SpecValue → List (ℕ × SpecValue)
@@ -69,3 +87,34 @@ module _ (asked : Asked) (text : List ℕ) where
   pub none_member : (rules : List Rule) → filter (fits asked text) (map spec_in rules) ≡ [] → option_and_then {T = ℕ} (slice_get (map spec_in rules)) None ≡ last_match asked text (map spec_in rules)
   unfolding last_match
   none_member rules h = sym (ap (last_or None) h)
+
+  fit_tells : (spec : SpecValue) → (fits asked text spec ≡ true → Fits asked text spec) × (Fits asked text spec → fits asked text spec ≡ true)
+  fit_tells spec = (
+    λ e. (and_first (applies spec.kind asked) _ e, (holds_tells spec.pattern text).0 (and_second (applies spec.kind asked) _ e)),
+    λ f. and_both (applies spec.kind asked) _ f.0 ((holds_tells spec.pattern text).1 f.1),
+  )
+
+  none_fits : (specs : List SpecValue) → filter (fits asked text) specs ≡ [] → (j : ℕ) (spec : SpecValue) → slice_get specs j ≡ Some spec → Fits asked text spec → ⊥
+  none_fits [] h j spec g f = cc
+  none_fits (s ∷ specs) h zero spec g f =
+      let e : s ≡ spec = cc in
+      let t : fits asked text s ≡ true = ap (fits asked text) e ∙ (fit_tells spec).1 f in
+      let n : cond true (s ∷ filter (fits asked text) specs) (filter (fits asked text) specs) ≡ [] = ap (λ v. cond v (s ∷ filter (fits asked text) specs) (filter (fits asked text) specs)) (sym t) ∙ h in cc
+  none_fits (s ∷ specs) h (suc j) spec g f = none_fits specs (rest_none (fits asked text s) s (filter (fits asked text) specs) h) j spec g f
+
+  behind : (rules : List Rule) (i j : ℕ) (spec : SpecValue) → i < j → slice_get (map spec_in rules) j ≡ Some spec → (k : ℕ) × (slice_get (map spec_in (drop (suc i) rules)) k ≡ Some spec)
+  behind [] i j spec l h = cc
+  behind (r ∷ rules) i zero spec l h = absurd (omega arith)
+  behind (r ∷ rules) zero (suc j) spec l h = (j, h)
+  behind (r ∷ rules) (suc i) (suc j) spec l h = behind rules i j spec (omega arith) h
+
+  pub found_decides : (rules : List Rule) (i : ℕ) (d : Rule) → i < length rules → fits asked text (spec_in (get_or rules i d)) ≡ true → filter (fits asked text) (map spec_in (drop (suc i) rules)) ≡ [] → Decides asked text (map spec_in rules) (Some i)
+  found_decides rules i d h t e = record {
+    spec = spec_in (get_or rules i d);
+    found = at_place rules i d h;
+    fits = (fit_tells (spec_in (get_or rules i d))).0 t;
+    last = λ j later l g f. let b = behind rules i j later l g in none_fits (map spec_in (drop (suc i) rules)) e b.0 later b.1 f;
+  }
+
+  pub none_decides : (rules : List Rule) → filter (fits asked text) (map spec_in rules) ≡ [] → Decides asked text (map spec_in rules) None
+  none_decides rules h = none_fits (map spec_in rules) h

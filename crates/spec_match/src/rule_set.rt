@@ -1,6 +1,6 @@
 ghost use Rattle.std.specs.Prelude.{◌≡◌, ◌+◌, ◌<◌, ◌^◌, IfOk, IfSome, OnOk, Some, length, map, option_and_then, slice_get};
 ghost use Rattle.label_base.specs.Path.{path_text};
-ghost use Rattle.spec_match.specs.LastMatch.{last_index, last_match};
+ghost use Rattle.spec_match.specs.LastMatch.{Decides, last_index, last_match};
 ghost use Rattle.spec_match.specs.Scratches.{AreStatesFor, IsScratchOf, pattern_in, patterns_of, spec_in};
 
 use crate::rule::Rule;
@@ -61,6 +61,7 @@ fn find_last(rules: &[Rule], states: &mut Vec<States>, text: &[u8], asked: Asked
     ensures within { IfSome result (λ i. i < length rules.now) }
     ensures index { result ≡ last_index asked text.now (map spec_in rules.now) }
     ensures member { option_and_then (slice_get (map spec_in rules.now)) result ≡ last_match asked text.now (map spec_in rules.now) }
+    ensures decides { Decides asked text.now (map spec_in rules.now) result }
 {
     let mut left = rules.len();
     'rules: while left > 0 {
@@ -110,6 +111,7 @@ impl RuleSet {
         ensures within { IfSome result (λ i. i < length self.now) }
         ensures index { result ≡ last_index asked (path_text path.now) self.now }
         ensures member { option_and_then (slice_get self.now) result ≡ last_match asked (path_text path.now) self.now }
+        ensures decides { Decides asked (path_text path.now) self.now result }
     {
         match find_last(
             self.rules.as_slice(),
@@ -122,7 +124,7 @@ impl RuleSet {
         }
     }
 
-    /// Finds the last match, and counts one step.
+    /// The same as [`find_last`](RuleSet::find_last), counted as one step.
     pub fn last_match<L: Ledger>(
         &self,
         scratch: &mut Scratch,
@@ -135,6 +137,7 @@ impl RuleSet {
         ensures within { IfSome result (λ i. i < length self.now) }
         ensures index { result ≡ last_index asked (path_text path.now) self.now }
         ensures member { option_and_then (slice_get self.now) result ≡ last_match asked (path_text path.now) self.now }
+        ensures decides { Decides asked (path_text path.now) self.now result }
         ensures count { steps.new ≡ steps.old + 1 }
     {
         steps.tick();
