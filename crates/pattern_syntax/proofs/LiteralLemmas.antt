@@ -10,7 +10,7 @@ use Rattle.pattern_syntax.specs.Tree.{Tree, TreeNode, tree_nodes}
 use Rattle.pattern_syntax.specs.Language.{In}
 use Rattle.pattern_syntax.specs.Nodes.{after_node, after_nodes, rest_tree}
 use Rattle.pattern_syntax.specs.Shape.{is_proper, is_sequence, is_choice, tree_size, stack_size}
-use Rattle.pattern_syntax.specs.Literal.{single_byte, joined, single_bytes, literal_start_of, node_code, code_byte, leads, leading_bytes, led_byte, is_several}
+use Rattle.pattern_syntax.specs.Literal.{single_byte, joined, single_bytes, literal_start_of, node_code, code_byte, led_byte, is_several}
 use Rattle.pattern_syntax.specs.Parts.{IsWhole}
 use Rattle.pattern_syntax.specs.declared.node.Node.{Node}
 use Rattle.pattern_syntax.specs.declared.node.Node.TheVariants as node
@@ -66,6 +66,17 @@ whole_nodes ns t e h =
     sym (nodes_exact ns [] (omega (arith, s, h))) ∙ ap stack_nodes e
 
 -- ---- the literal start among a tree's nodes
+
+-- the bytes of the single bytes that are joined to the sequence before them, one after another
+abbrev pub leads : Option ℕ → Bool → List ℕ → List ℕ
+leads (Some b) true rest = b ∷ rest
+leads (Some b) false rest = []
+leads None joins rest = []
+
+abbrev pub leading_bytes : List TreeNode → List ℕ
+leading_bytes [] = []
+leading_bytes (node ∷ []) = []
+leading_bytes (node ∷ next ∷ nodes) = leads (code_byte node) (next.0 == 2) (leading_bytes nodes)
 
 abbrev Begins : List TreeNode → Type 0
 Begins nodes = (n : TreeNode) × (ns : List TreeNode) × (nodes ≡ n ∷ ns) × ((n.0 == 2) ≡ false)

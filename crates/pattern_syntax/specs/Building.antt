@@ -103,10 +103,10 @@ abbrev pub Finishes : Result (Vec Node) PatternFault → Reading → ℕ → Typ
 Finishes (Ok nodes) read end = (reads_as end read [] ≡ Ok (rest_tree nodes.items)) × IsWhole nodes.items
 Finishes (Err e) read end = Explains (pattern_cause e) (reads_as end read [])
 
--- the positions of a level without its last piece
 abbrev pub side_positions : Option Tree → ℕ
 side_positions None = 0
 side_positions (Some sides) = positions sides
 
+-- the positions of a level without its last piece
 abbrev pub base_positions : reading.Level → ℕ
 base_positions level = side_positions level.sides + positions level.sequence

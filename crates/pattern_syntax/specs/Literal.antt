@@ -47,17 +47,6 @@ node_code (Repeat least most) = (4, ([], (least, most)))
 abbrev pub code_byte : TreeNode → Option ℕ
 code_byte node = if node.0 == 0 then only_of node.1.0 else None
 
-abbrev pub leads : Option ℕ → Bool → List ℕ → List ℕ
-leads (Some b) true rest = b ∷ rest
-leads (Some b) false rest = []
-leads None joins rest = []
-
--- the bytes of the single bytes that are joined to the sequence before them, one after another
-abbrev pub leading_bytes : List TreeNode → List ℕ
-leading_bytes [] = []
-leading_bytes (node ∷ []) = []
-leading_bytes (node ∷ next ∷ nodes) = leads (code_byte node) (next.0 == 2) (leading_bytes nodes)
-
 -- the byte of a single byte that the next node joins to the sequence
 abbrev pub led_byte : Option ℕ → Bool → Option ℕ
 led_byte (Some b) true = Some b

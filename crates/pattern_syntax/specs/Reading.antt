@@ -1,5 +1,5 @@
 -- What a text of a pattern reads as.
-use Rattle.std.specs.Prelude.{ℕ, ◌+◌, ◌-◌, ◌*◌, max, Bool, true, false, ◌==◌, nat_le, List, [], ◌∷◌, length, fold, Option, Some, None, Result, Ok, Err, is_some, if◌then◌else◌}
+use Rattle.std.specs.Prelude.{ℕ, ◌+◌, ◌-◌, ◌*◌, max, Bool, true, false, ◌==◌, nat_le, List, [], ◌∷◌, length, drop, fold, Option, Some, None, Result, Ok, Err, is_some, if◌then◌else◌}
 use Rattle.pattern_syntax.specs.Tree.{Tree, Set, Nothing, Both, Either, Repeat}
 use Rattle.pattern_syntax.specs.Tokens.{Token, Bytes, Open, Close, Bar, Anchor, Times, Cut, Placed, tokens_from}
 use Rattle.pattern_syntax.specs.declared.refusal.Refusal.{Refusal}
@@ -55,6 +55,10 @@ first_fault end depth after_piece [] = if depth == 0 then None else Some (Syntax
 first_fault end depth after_piece ((place, Err refusal) ∷ tokens) = Some (refused_at place refusal)
 first_fault end depth after_piece ((place, Ok token) ∷ tokens) =
     first_fault_of (structure_fault depth after_piece place token) (first_fault end (depth_behind token depth) (ends_piece token) tokens)
+
+-- the first fault of what stands from a place on, outside of all groups
+abbrev pub fault_from : (from : ℕ) (after_piece : Bool) → List ℕ → Option PatternWhy
+fault_from from after_piece text = first_fault (length text) 0 after_piece (tokens_from from 0 (drop from text))
 
 -- ---- trees
 

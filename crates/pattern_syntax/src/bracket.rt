@@ -206,7 +206,8 @@ fn ends_set(b: u8, at: usize) -> bool
 
 /// The bytes of the parts up to the `]` that ends them, and the length with it.
 fn read_parts(text: &[u8]) -> Result<(ByteSet, usize), Refusal>
-    ensures value { Answers class_cut why_refused result (parts_from true None no_bytes 0 0 text.now) }
+    ensures value { Answers class_cut why_refused result
+        (parts_from true None no_bytes 0 0 text.now) }
     ensures within { IfOk result (λ cut. cut.1 ≤ length text.now) }
 {
     let mut set = ByteSet::empty();
@@ -226,7 +227,8 @@ fn read_parts(text: &[u8]) -> Result<(ByteSet, usize), Refusal>
 
 #[tactic(auto, using(crate::proofs::ShapeLemmas::proper_bytes))]
 fn nonempty_set(set: ByteSet, length: usize) -> Result<(ByteSet, usize), Refusal>
-    ensures value { Answers set_cut why_refused result (brackets.nonempty_set (bytes_with (has_byte set)) length) }
+    ensures value { Answers set_cut why_refused result
+        (brackets.nonempty_set (bytes_with (has_byte set)) length) }
     ensures within { IfOk result (λ cut. cut.1 ≡ length) }
     ensures proper { IfOk result (λ cut. is_proper_set (bytes_with (has_byte cut.0)) ≡ true) }
 {

@@ -17,8 +17,8 @@ use crate::token::Token;
 use label_base::OutOfMemory;
 use std::alloc::Global;
 
-/// What is read of a choice, by its positions, counted up to one more than a pattern may have: its sides before the last bar, the sequence since,
-/// and the piece that a repeat may follow.
+/// What is read of a choice, by its positions, counted up to one more than a pattern may have: its
+/// sides before the last bar, the sequence since, and the piece that a repeat may follow.
 #[derive(Clone, Copy, Debug, PartialEq, Eq)]
 pub(crate) struct Level {
     sides: Option<u32>,
@@ -38,7 +38,8 @@ impl Level {
     }
 }
 
-/// The nodes so far, in postfix order, behind an empty sequence, but for those that join a level's parts; the innermost choice, and those around it.
+/// The nodes so far, in postfix order, behind an empty sequence, but for those that join a level's
+/// parts; the innermost choice, and those around it.
 #[derive(Debug, Drop)]
 pub(crate) struct Builder {
     nodes: Vec<Node>,
@@ -82,7 +83,9 @@ impl Builder {
     #[tactic(auto, using(crate::proofs::BuildingLemmas::after_pushed))]
     fn push(&mut self, node: Node) -> Result<(), OutOfMemory>
         ensures size { OnOk result (length self.new.nodes.items ≡ length self.old.nodes.items + 1) }
-        ensures nodes { OnOk result (trees_behind self.new.nodes.items ≡ after_node node (trees_behind self.old.nodes.items)) }
+        ensures nodes { OnOk result
+            (trees_behind self.new.nodes.items
+            ≡ after_node node (trees_behind self.old.nodes.items)) }
         ensures level { self.new.level ≡ self.old.level }
         ensures outer { self.new.outer ≡ self.old.outer }
     {
@@ -103,7 +106,10 @@ impl Builder {
 
     /// Ends the sequence of the level, and gives its positions.
     fn end_sequence(&mut self) -> Result<u32, OutOfMemory>
-        ensures ends { IfOk result (λ count. (read : Reading) → Stands self.old read → Ends self.new (tree_on read.level.sides (outer_trees read.outer)) (sequence_of read.level) count) }
+        ensures ends { IfOk result
+            (λ count. (read : Reading) → Stands self.old read
+            → Ends self.new (tree_on read.level.sides (outer_trees read.outer))
+            (sequence_of read.level) count) }
         ensures level { self.new.level ≡ self.old.level }
         ensures outer { self.new.outer ≡ self.old.outer }
     {
@@ -118,7 +124,9 @@ impl Builder {
 
     /// Ends the choice of the level, and gives its positions.
     fn end_choice(&mut self) -> Result<u32, OutOfMemory>
-        ensures ends { IfOk result (λ count. (read : Reading) → Stands self.old read → Ends self.new (outer_trees read.outer) (choice_of read.level) count) }
+        ensures ends { IfOk result
+            (λ count. (read : Reading) → Stands self.old read
+            → Ends self.new (outer_trees read.outer) (choice_of read.level) count) }
         ensures level { self.new.level ≡ self.old.level }
         ensures outer { self.new.outer ≡ self.old.outer }
     {
@@ -134,7 +142,9 @@ impl Builder {
 
     /// Adds a byte or set, of which `node` is the node.
     fn add_piece(&mut self, node: Node) -> Result<(), OutOfMemory>
-        ensures { OnOk result ((read : Reading) (bytes : List ℕ) → Stands self.old read → is_proper_set bytes ≡ true → IsSetNode node bytes → Stands self.new (after_token read (tokens.Bytes bytes))) }
+        ensures { OnOk result
+            ((read : Reading) (bytes : List ℕ) → Stands self.old read → is_proper_set bytes ≡ true
+            → IsSetNode node bytes → Stands self.new (after_token read (tokens.Bytes bytes))) }
     {
         let count = self.end_sequence()?;
         self.push(node)?;
@@ -148,7 +158,9 @@ impl Builder {
 
     /// Lets no repeat follow.
     fn settle(&mut self) -> Result<(), OutOfMemory>
-        ensures { OnOk result ((read : Reading) → Stands self.old read → Stands self.new (after_token read tokens.Anchor)) }
+        ensures { OnOk result
+            ((read : Reading) → Stands self.old read
+            → Stands self.new (after_token read tokens.Anchor)) }
     {
         let count = self.end_sequence()?;
         self.level = Level {
@@ -193,7 +205,9 @@ impl Builder {
     }
 
     fn begin_side(&mut self) -> Result<(), OutOfMemory>
-        ensures { OnOk result ((read : Reading) → Stands self.old read → Stands self.new (after_token read tokens.Bar)) }
+        ensures { OnOk result
+            ((read : Reading) → Stands self.old read
+            → Stands self.new (after_token read tokens.Bar)) }
     {
         let count = self.end_choice()?;
         self.push(Node::Nothing)?;
@@ -269,7 +283,9 @@ impl Builder {
 
     /// Whether no group is open, and the positions are too many, whatever follows.
     pub(crate) fn is_full(&self) -> bool
-        ensures { OnTrue result ((read : Reading) → Stands self.now read → (length read.outer ≡ 0) × (MOST_POSITIONS < base_positions read.level)) }
+        ensures { OnTrue result
+            ((read : Reading) → Stands self.now read → (length read.outer ≡ 0)
+            × (MOST_POSITIONS < base_positions read.level)) }
     {
         let open_groups = self.outer.len();
         if open_groups > 0 {

@@ -69,7 +69,8 @@ impl ByteSet {
     /// The least byte of the set from a byte on.
     fn first_from(&self, low: u16) -> Option<u8>
         requires { low ≤ 256 }
-        ensures { MatchOption result (bytes_from (has_byte self.now) low ≡ []) (λ b. bytes_from (has_byte self.now) low ≡ b ∷ bytes_from (has_byte self.now) (b + 1)) }
+        ensures { MatchOption result (bytes_from (has_byte self.now) low ≡ [])
+            (λ b. bytes_from (has_byte self.now) low ≡ b ∷ bytes_from (has_byte self.now) (b + 1)) }
     {
         for b in low..256 {
             if self.has(b as u8) {

@@ -6,7 +6,8 @@ ghost use Rattle.pattern_syntax.specs.Views.{counts_of};
 
 use crate::limits::MOST_TIMES;
 
-/// The numbers of a repeat in braces, and its length with the braces. Numbers above the greatest are all as one.
+/// The numbers of a repeat in braces, and its length with the braces. Numbers above the greatest
+/// are all as one.
 #[derive(Clone, Copy, Debug, PartialEq, Eq)]
 pub(crate) struct Counts {
     pub least: u32,
@@ -72,7 +73,9 @@ fn find_upper_number(digits: &[u8]) -> Option<u32>
 fn read_upper(least: u32, digits: usize, upper: &[u8], text: &[u8]) -> Option<Counts>
     requires { digits + length upper.now < 2 ^ 63 }
     ensures value { option_map counts_of result ≡ upper_counts least digits upper.now text.now }
-    ensures within { IfSome result (λ counts. (0 < counts.length) × (counts.length ≤ digits + length upper.now + length text.now + 2)) }
+    ensures within { IfSome result
+        (λ counts. (0 < counts.length)
+        × (counts.length ≤ digits + length upper.now + length text.now + 2)) }
 {
     match text {
         [b'}', ..] => Some(Counts {
@@ -88,7 +91,8 @@ fn read_upper(least: u32, digits: usize, upper: &[u8], text: &[u8]) -> Option<Co
 fn read_lower(least: u32, digits: usize, text: &[u8]) -> Option<Counts>
     requires { digits + length text.now < 2 ^ 63 }
     ensures value { option_map counts_of result ≡ lower_counts least digits text.now }
-    ensures within { IfSome result (λ counts. (0 < counts.length) × (counts.length ≤ digits + length text.now + 1)) }
+    ensures within { IfSome result
+        (λ counts. (0 < counts.length) × (counts.length ≤ digits + length text.now + 1)) }
 {
     match text {
         [b'}', ..] => Some(Counts {
@@ -108,7 +112,8 @@ fn read_lower(least: u32, digits: usize, text: &[u8]) -> Option<Counts>
 #[tactic(auto, unfolding(crate::specs::Tokens::counts_at))]
 pub(crate) fn read_counts(text: &[u8]) -> Option<Counts>
     ensures value { option_map counts_of result ≡ counts_at text.now }
-    ensures within { IfSome result (λ counts. (0 < counts.length) × (counts.length ≤ length text.now + 1)) }
+    ensures within { IfSome result
+        (λ counts. (0 < counts.length) × (counts.length ≤ length text.now + 1)) }
 {
     let (digits, rest) = split_digits(text);
     if digits.is_empty() {

@@ -37,7 +37,8 @@ fn read_mark(
 
 /// Reads what stands behind a `{`, which is a byte where it begins no repeat.
 fn read_braces(text: &[u8]) -> Result<(Token, usize), Refusal>
-    ensures value { Answers token_cut why_refused result (braced_repeat text.now (counts_at text.now)) }
+    ensures value { Answers token_cut why_refused result
+        (braced_repeat text.now (counts_at text.now)) }
     ensures within { IfOk result (λ cut. (0 < cut.1) × (cut.1 ≤ length text.now + 1)) }
     ensures proper { IfOk result (λ cut. IsProperToken (token_of cut.0)) }
 {
@@ -148,7 +149,8 @@ fn read_repeat_or_byte(b: u8, text: &[u8]) -> Result<(Token, usize), Refusal>
     }
 }
 
-/// Reads the token at the beginning of a text, and its length; `begins` says that the text is the whole pattern.
+/// Reads the token at the beginning of a text, and its length; `begins` says that the text is the
+/// whole pattern.
 #[tactic(auto, unfolding(crate::specs::Tokens::token_at))]
 pub(crate) fn read_token(begins: bool, text: &[u8]) -> Result<(Token, usize), Refusal>
     ensures value { Answers token_cut why_refused result (token_at begins text.now) }

@@ -17,10 +17,13 @@ fn is_metacharacter(b: u8) -> bool
         || b == b'{'
 }
 
-/// The length of the byte or the escape that a text begins with, unless that byte is a metacharacter.
+/// The length of the byte or the escape that a text begins with, unless that byte is a
+/// metacharacter.
 fn plain_length(text: &[u8]) -> Option<usize>
     requires { 0 < length text.now }
-    ensures { MatchOption result (is_exact_text text.now ≡ false) (λ n. (0 < n) × (n ≤ length text.now) × (is_exact_text text.now ≡ is_exact_text (drop n text.now))) }
+    ensures { MatchOption result (is_exact_text text.now ≡ false)
+        (λ n. (0 < n) × (n ≤ length text.now)
+        × (is_exact_text text.now ≡ is_exact_text (drop n text.now))) }
 {
     match text {
         [b'\\', _, ..] => Some(2),
@@ -29,7 +32,8 @@ fn plain_length(text: &[u8]) -> Option<usize>
     }
 }
 
-/// Whether no metacharacter of a pattern stands in the text other than directly behind a backslash that escapes it.
+/// Whether no metacharacter of a pattern stands in the text other than directly behind a backslash
+/// that escapes it.
 pub fn is_exact(text: &[u8]) -> bool
     ensures { result ≡ is_exact_text text.now }
 {

@@ -1,4 +1,5 @@
-//! The patterns of file_contexts, as PCRE reads them: their trees, their languages and their reader.
+//! The patterns of file_contexts, as PCRE reads them: their trees, their languages and their
+//! reader.
 #![tactic(auto)]
 
 mod bracket;

@@ -1,6 +1,7 @@
 use crate::byte_set::ByteSet;
 
-/// A node of a pattern. A pattern is the list of its nodes in postfix order: a node stands behind its parts.
+/// A node of a pattern's tree. A list of nodes in postfix order is a tree: a node stands behind its
+/// parts.
 #[derive(Clone, Copy, Debug, PartialEq, Eq)]
 pub enum Node {
     /// The set of this byte alone; it isn't 0.

@@ -88,7 +88,7 @@ fn leading_bytes(alloc: Global, nodes: &[Node]) -> Result<Bytes, OutOfMemory>
 impl Pattern {
     ghost use Rattle.pattern_syntax.specs.PatternCause.{pattern_cause};
     ghost use Rattle.pattern_syntax.specs.Reading.{pattern_of};
-    ghost use Rattle.pattern_syntax.specs.Shape.{HasNoEmptySet, is_choice, is_proper};
+    ghost use Rattle.pattern_syntax.specs.Shape.{HasNoEmptySet, is_proper};
     ghost use Rattle.pattern_syntax.specs.Grammar.{Spells, Choice};
     ghost use Rattle.pattern_syntax.specs.Tokens.{Token};
     ghost use Rattle.pattern_syntax.specs.Faults.{IsPatternText, IsRefusedFor};
@@ -99,8 +99,9 @@ impl Pattern {
     ghost use Rattle.pattern_syntax.specs.Parts.{bytes_tree, Follows};
     ghost use Rattle.std.specs.Prelude.{◌++◌};
 
-    /// Reads a pattern, in the dialect of pcrepattern(3) that selabel_file(5) needs: sets, groups, choices, repeats, and
-    /// anchors at the ends. The fault at the least place decides; a pattern has at most 2,000 positions.
+    /// Reads a pattern, in the dialect of pcrepattern(3) that selabel_file(5) needs: sets, groups,
+    /// choices, repeats, and anchors at the ends. The fault at the least place decides; a pattern
+    /// has at most `MOST_POSITIONS` positions.
     pub fn read(alloc: Global, bytes: &[u8]) -> Result<Pattern, PatternFault>
         requires { length bytes.now < 2 ^ 32 }
         ensures { Answers (λ pattern. pattern) pattern_cause result (pattern_of bytes.now) }
@@ -131,49 +132,55 @@ impl Pattern {
         })
     }
 
-    /// The bytes of the single bytes that the pattern begins with; none where a bar stands outside of all groups.
+    /// The bytes of the single bytes that the pattern begins with; none where a bar stands outside
+    /// of all groups.
     pub fn start(&self) -> &[u8]
         ensures { result.now ≡ literal_start_of self.now }
     {
         self.start.as_slice()
     }
 
-    /// The bytes that the pattern begins with, and the nodes behind them, in postfix order. The texts of the language are
-    /// the start and then a text of the rest.
+    /// The bytes that the pattern begins with, and the nodes behind them, in postfix order. The
+    /// texts of the language are the start and then a text of the rest.
     pub fn parts(&self) -> (&[u8], &[Node])
         ensures start { result.0.now ≡ literal_start_of self.now }
         ensures whole { after_nodes result.1.now (bytes_tree result.0.now ∷ []) ≡ self.now ∷ [] }
         ensures rest { trees_behind result.1.now ≡ rest_tree result.1.now ∷ [] }
-        ensures language { (text : List ℕ) → In self.now text ↔ Follows result.0.now (rest_tree result.1.now) text }
+        ensures language { (text : List ℕ) → In self.now text
+            ↔ Follows result.0.now (rest_tree result.1.now) text }
     {
         (self.start.as_slice(), self.rest.as_slice())
     }
 
-    /// A law on every pattern: each of its sets has a byte, and none of them 0; what stands before the last piece of a
-    /// sequence is a sequence; and it is a choice of one or more sequences.
+    /// A law on every pattern: each of its sets has a byte, and none of them 0; what stands before
+    /// the last piece of a sequence is a sequence.
     #[tactic(auto, using(crate::proofs::ShapeLemmas::no_empty_set))]
     pub fn has_no_empty_set(&self)
         ensures nonempty { HasNoEmptySet self.now }
         ensures proper { is_proper self.now ≡ true }
-        ensures choice { is_choice self.now ≡ true }
     {
         let _start = &self.start;
     }
 
-    /// A law on every text. It is read where it is a pattern of the grammar within the limits, and its tree is the only one.
-    /// It is refused for what stands amiss at the first place where anything does, and for too many positions where nothing
-    /// stands amiss and the tree has them.
+    /// A law on every text. It is read where it is a pattern of the grammar within the limits, and
+    /// its tree is the only one. It is refused for what stands amiss at the first place where
+    /// anything does, and for too many positions where nothing stands amiss and the tree has them.
     #[tactic(auto, using(crate::proofs::FaultLemmas::reads_as_grammar, crate::proofs::FaultLemmas::refuses_as_grammar, crate::proofs::GrammarLemmas::grammar_single))]
     pub fn follows_grammar(_bytes: &[u8])
-        ensures read { (tree : Tree) → pattern_of _bytes.now ≡ Ok tree ↔ IsPatternText _bytes.now tree }
-        ensures single { (tokens : List Token) (a b : Tree) → Spells Choice tokens a → Spells Choice tokens b → a ≡ b }
-        ensures refused { (why : PatternWhy) → pattern_of _bytes.now ≡ Err why ↔ IsRefusedFor _bytes.now why }
+        ensures read { (tree : Tree) → pattern_of _bytes.now ≡ Ok tree
+            ↔ IsPatternText _bytes.now tree }
+        ensures single { (tokens : List Token) (a b : Tree) → Spells Choice tokens a
+            → Spells Choice tokens b → a ≡ b }
+        ensures refused { (why : PatternWhy) → pattern_of _bytes.now ≡ Err why
+            ↔ IsRefusedFor _bytes.now why }
     {}
 
     /// A copy of the start. Every text of the pattern's language begins with it.
     pub fn literal_start(&self, alloc: Global) -> Result<Bytes, OutOfMemory>
         ensures value { IfOk result (λ start. start ≡ literal_start_of self.now) }
-        ensures begins { IfOk result (λ start. (text : List ℕ) → In self.now text → (rest : List ℕ) × (text ≡ start ++ rest)) }
+        ensures begins { IfOk result
+            (λ start. (text : List ℕ) → In self.now text → (rest : List ℕ)
+            × (text ≡ start ++ rest)) }
     {
         let start = Bytes::copy_of(alloc, self.start())?;
         Ok(start)

@@ -10,9 +10,9 @@ pub enum PatternWhy {
     Syntax { at: u32 },
     /// What stands here is PCRE, but not of this dialect.
     UnsupportedPattern { at: u32 },
-    /// The group that begins here would be the 51st that is open.
+    /// The group that begins here would be one more than may be open at once.
     TooDeep { at: u32 },
-    /// The pattern has more than 2,000 positions.
+    /// The pattern has more positions than it may have.
     TooManyPositions,
 }
 

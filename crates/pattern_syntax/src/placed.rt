@@ -16,7 +16,8 @@ use crate::token::Token;
 pub(crate) fn token_from(bytes: &[u8], at: usize) -> Result<(Token, usize), PatternFault>
     requires room { length bytes.now < 2 ^ 32 }
     requires before_end { at < length bytes.now }
-    ensures value { Answers token_cut pattern_cause result (placed_cut at (token_at (at == 0) (drop at bytes.now))) }
+    ensures value { Answers token_cut pattern_cause result
+        (placed_cut at (token_at (at == 0) (drop at bytes.now))) }
     ensures within { IfOk result (λ cut. (0 < cut.1) × (cut.1 ≤ length (drop at bytes.now))) }
     ensures causes { IfErr result (λ fault. is_some (pattern_cause fault) ≡ true) }
     ensures proper { IfOk result (λ cut. IsProperToken (token_of cut.0)) }

@@ -1,7 +1,7 @@
 //! The rest of a pattern that has too many positions, whatever follows.
 ghost use Rattle.std.specs.Prelude.{◌≡◌, ◌+◌, ◌<◌, ◌≤◌, ◌^◌, length, drop, unwrap_or, Some, MatchOption, None, is_some, true};
 ghost use Rattle.pattern_syntax.specs.PatternCause.{pattern_cause};
-ghost use Rattle.pattern_syntax.specs.Reading.{structure_fault, depth_behind, ends_piece, first_fault};
+ghost use Rattle.pattern_syntax.specs.Reading.{structure_fault, depth_behind, ends_piece, fault_from};
 ghost use Rattle.pattern_syntax.specs.Tokens.{tokens_from};
 ghost use Rattle.pattern_syntax.specs.Views.{token_of};
 ghost use Rattle.pattern_syntax.specs.declared.limits.TheConstants.{MOST_GROUPS};
@@ -12,9 +12,12 @@ use crate::pattern_fault::PatternFault;
 use crate::placed::token_from;
 use crate::token::Token;
 
-/// The fault of a token, where so many groups are open, and a piece ends right before it or doesn't.
+/// The fault of a token, where so many groups are open, and a piece ends right before it or
+/// doesn't.
 fn find_fault(depth: u32, after_piece: bool, at: u32, token: &Token) -> Option<PatternFault>
-    ensures { MatchOption result (structure_fault depth after_piece at (token_of token.now) ≡ None) (λ fault. (pattern_cause fault ≡ structure_fault depth after_piece at (token_of token.now)) × (is_some (pattern_cause fault) ≡ true)) }
+    ensures { MatchOption result (structure_fault depth after_piece at (token_of token.now) ≡ None)
+        (λ fault. (pattern_cause fault ≡ structure_fault depth after_piece at (token_of token.now))
+        × (is_some (pattern_cause fault) ≡ true)) }
 {
     match token {
         Token::Open => (depth >= MOST_GROUPS).then_some(PatternFault::TooDeep { at }),
@@ -43,11 +46,13 @@ fn is_piece_end(token: &Token) -> bool
     matches!(token, Token::Byte(_) | Token::Set(_) | Token::Close)
 }
 
-/// The first fault of what stands from a place on, outside of all groups; without one the positions are too many.
+/// The first fault of what stands from a place on, outside of all groups; without one the positions
+/// are too many.
 pub(crate) fn refuse_rest(bytes: &[u8], from: usize, after_piece: bool) -> PatternFault
     requires room { length bytes.now < 2 ^ 32 }
     requires within { from ≤ length bytes.now }
-    ensures { pattern_cause result ≡ Some (unwrap_or (first_fault (length bytes.now) 0 after_piece (tokens_from from 0 (drop from bytes.now))) TooManyPositions) }
+    ensures { pattern_cause result
+        ≡ Some (unwrap_or (fault_from from after_piece bytes.now) TooManyPositions) }
 {
     let mut depth = 0;
     let mut after_piece = after_piece;
