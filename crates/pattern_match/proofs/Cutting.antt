@@ -1,18 +1,22 @@
 -- A pattern's language is its literal start, and behind it the language of the rest.
 use Rattle.std.proofs.Common.{◌≡◌, refl, sym, ◌∙◌, ap, subst, ℕ, zero, suc, ◌+◌, ◌<◌, ◌≤◌, ◌==◌, Bool, true, false, List, [], ◌∷◌, ◌++◌, length, Option, Some, None, ◌⊎◌, inl, inr, arith, append_assoc, append-nil, length-append}
-use Rattle.std.specs.Prelude.{◌&&◌, ◌||◌, fold, unwrap_or}
+use Rattle.std.specs.Prelude.{◌&&◌, ◌||◌, unwrap_or, fold}
 use Rattle.std.specs.List.{list_any}
 use Rattle.pattern_syntax.specs.ByteSet.{only_of}
 use Rattle.pattern_syntax.specs.Tree.{Tree, tree_from, Set, Nothing, Both, Either, Repeat}
 use Rattle.pattern_syntax.specs.Language.{In}
-use Rattle.pattern_syntax.specs.Shape.{is_proper, is_sequence, is_choice}
-use Rattle.pattern_syntax.specs.Literal.{single_byte, single_bytes, joined, literal_start_of, is_several}
-use Rattle.pattern_syntax.specs.Parts.{bytes_tree, with_byte, Follows}
+use Rattle.pattern_syntax.specs.Shape.{is_proper, is_sequence}
+use Rattle.pattern_syntax.specs.Literal.{single_byte, single_bytes, joined, literal_start_of}
+use Rattle.pattern_syntax.specs.Parts.{with_byte, bytes_tree}
 use Rattle.pattern_syntax.specs.Nodes.{after_node, after_nodes, tree_of}
 use Rattle.pattern_syntax.specs.declared.node.Node.{Node}
 use Rattle.pattern_syntax.specs.declared.node.Node.TheVariants as node
 use Rattle.pattern_match.specs.Starts.{unless_literal, behind_start, in_front, with_start, Parts}
 use Rattle.pattern_match.proofs.Language.{and_first, and_second}
+
+-- a text that goes on behind a front into a language
+abbrev pub Follows : List ℕ → Tree → List ℕ → Type 0
+Follows front tree text = (rest : List ℕ) × (text ≡ front ++ rest) × In tree rest
 
 only_byte : (bytes : List ℕ) (b : ℕ) → only_of bytes ≡ Some b → bytes ≡ b ∷ []
 only_byte [] b h = cc
@@ -188,8 +192,7 @@ sequence_behind front (Set bytes) h = h
 sequence_behind front (Either l r) h = h
 sequence_behind front (Repeat least most x) h = h
 
--- the nodes behind the literal start are what stands behind it
-pub sequence_parts : (t : Tree) (ns : List Node) → is_proper t ≡ true → is_sequence t ≡ true → after_nodes ns (bytes_tree (literal_start_of t) ∷ []) ≡ t ∷ [] → Parts t (literal_start_of t) (tree_of (node.Nothing ∷ ns))
+sequence_parts : (t : Tree) (ns : List Node) → is_proper t ≡ true → is_sequence t ≡ true → after_nodes ns (bytes_tree (literal_start_of t) ∷ []) ≡ t ∷ [] → Parts t (literal_start_of t) (tree_of (node.Nothing ∷ ns))
 sequence_parts t ns p s h =
     let front = bytes_tree (literal_start_of t) in
     let u = front_before front ns t h in
@@ -201,20 +204,21 @@ sequence_parts t ns p s h =
       behind = e ∙ sym b ∙ ap behind_start u.2;
     }
 
-pub choice_parts : (t : Tree) (ns : List Node) → is_several t ≡ true → after_nodes ns [] ≡ t ∷ [] → Parts t (literal_start_of t) (tree_of ns)
-choice_parts (Either l r) ns s h = let e : tree_of ns ≡ Either l r = ap tree_from h in record {
-  whole = empty_front (tree_of ns) ∙ e;
-  behind = e;
-}
-choice_parts (Set bytes) ns s h = cc
-choice_parts Nothing ns s h = cc
-choice_parts (Both f g) ns s h = cc
-choice_parts (Repeat least most x) ns s h = cc
+-- what has no start stands behind it whole
+other_parts : (t : Tree) (ns : List Node) → literal_start_of t ≡ [] → behind_start t ≡ t → after_nodes ns (bytes_tree (literal_start_of t) ∷ []) ≡ t ∷ [] → Parts t (literal_start_of t) (tree_of (node.Nothing ∷ ns))
+other_parts t ns s b h =
+    let u = front_before (bytes_tree (literal_start_of t)) ns t h in
+    let e : tree_of (node.Nothing ∷ ns) ≡ u.0 = ap tree_from u.1 in
+    let n : u.0 ≡ t = sym (empty_front u.0) ∙ ap (λ l. in_front (bytes_tree l) u.0) (sym s) ∙ u.2 in
+    record {
+      whole = ap (in_front (bytes_tree (literal_start_of t))) e ∙ u.2;
+      behind = e ∙ n ∙ sym b;
+    }
 
--- the nodes behind the literal start of a pattern are what stands behind it
-pub pattern_parts : (t : Tree) (ns : List Node) → is_proper t ≡ true → is_choice t ≡ true → after_nodes ns (bytes_tree (literal_start_of t) ∷ []) ≡ t ∷ [] → Parts t (literal_start_of t) (tree_of (node.Nothing ∷ ns))
-pattern_parts (Either l r) ns p c h = choice_parts (Either l r) (node.Nothing ∷ ns) refl h
-pattern_parts (Both f s) ns p c h = sequence_parts (Both f s) ns p refl h
-pattern_parts Nothing ns p c h = sequence_parts Nothing ns p refl h
-pattern_parts (Set bytes) ns p c h = sequence_parts (Set bytes) ns p c h
-pattern_parts (Repeat least most x) ns p c h = sequence_parts (Repeat least most x) ns p c h
+-- the nodes behind the literal start are what stands behind it
+pub parts_are : (t : Tree) (ns : List Node) → is_proper t ≡ true → after_nodes ns (bytes_tree (literal_start_of t) ∷ []) ≡ t ∷ [] → Parts t (literal_start_of t) (tree_of (node.Nothing ∷ ns))
+parts_are (Both f g) ns p h = sequence_parts (Both f g) ns p refl h
+parts_are Nothing ns p h = sequence_parts Nothing ns p refl h
+parts_are (Set bytes) ns p h = other_parts (Set bytes) ns refl refl h
+parts_are (Either l r) ns p h = other_parts (Either l r) ns refl refl h
+parts_are (Repeat least most x) ns p h = other_parts (Repeat least most x) ns refl refl h

@@ -6,7 +6,7 @@ use Rattle.std.specs.List.{list_any}
 use Rattle.pattern_syntax.specs.Tree.{Tree, Set, Nothing, Both, Either, Repeat}
 use Rattle.pattern_syntax.specs.Language.{In}
 use Rattle.pattern_match.specs.Residuals.{has_texts, is_count, is_some_list, Residual, and_then, of_copies, of_endless, residuals}
-use Rattle.pattern_match.specs.Automaton.{Place, Automaton, bare, single, up, moved, followed, in_turn, both, either, copy_before, looped, copies, endless, repeat_places, repeated, automaton}
+use Rattle.pattern_match.specs.Automaton.{Place, Automaton, bare, single, up, moved, same_numbers, added, followed, in_turn, both, either, copy_before, looped, copies, endless, repeat_places, repeated, automaton}
 use Rattle.pattern_match.proofs.Language.{nullable, Steps, both_onto, both_from, both_skip, repeat_onto, repeat_from, fewer, has_more, and_both, or_right, in_empty, empty_in, has_text, text_of}
 
 -- the place may take the byte, and the text is left behind it
@@ -226,13 +226,62 @@ followed_within : (n m : ℕ) (v : Bool) (next first : List ℕ) → n ≤ m →
 followed_within n m true next first l w f = within_both m next first (within_more n m next l w) f
 followed_within n m false next first l w f = within_more n m next l w
 
+same_are : (ps qs : List ℕ) → same_numbers ps qs ≡ true → ps ≡ qs
+same_are [] [] h = refl
+same_are [] (q ∷ qs) h = cc
+same_are (p ∷ ps) [] h = cc
+same_are (p ∷ ps) (q ∷ qs) h = at (p == q) refl h (same_are ps qs)
+  where
+    same : (p == q) ≡ true → p ≡ q
+    same e = grind arith
+
+    at : (v : Bool) → (p == q) ≡ v → (v && same_numbers ps qs) ≡ true → (same_numbers ps qs ≡ true → ps ≡ qs) → p ∷ ps ≡ q ∷ qs
+    at true e g ih = let i = ih g in let s = same e in rw (s, i) refl
+    at false e g ih = cc
+
+pub other_lengths : (ps qs : List ℕ) → (length ps ≡ length qs → ⊥) → false ≡ same_numbers ps qs
+other_lengths ps qs h = at (same_numbers ps qs) refl
+  where
+    at : (v : Bool) → same_numbers ps qs ≡ v → false ≡ v
+    at true e = absurd (h (ap length (same_are ps qs e)))
+    at false e = refl
+
+-- what is not added again is there
+added_right : (zs : List Residual) (v : Bool) (next first : List ℕ) (b : ℕ) (t : List ℕ) → Goes zs (if v then next ++ first else next) b t → Goes zs (if v then added next first else next) b t
+added_right zs false next first b t h = h
+added_right zs true next first b t h = at (same_numbers next first) refl
+  where
+    at : (w : Bool) → same_numbers next first ≡ w → Goes zs (if w then next else next ++ first) b t
+    at true e = elim (goes_split zs next first b t h) [ inl g ↦ g | inr g ↦ subst (λ ps. Goes zs ps b t) (sym (same_are next first e)) g ]
+    at false e = h
+
+added_left : (zs : List Residual) (v : Bool) (next first : List ℕ) (b : ℕ) (t : List ℕ) → Goes zs (if v then added next first else next) b t → Goes zs (if v then next ++ first else next) b t
+added_left zs false next first b t h = h
+added_left zs true next first b t h = at (same_numbers next first) h
+  where
+    at : (w : Bool) → Goes zs (if w then next else next ++ first) b t → Goes zs (next ++ first) b t
+    at true g = goes_left zs next first b t g
+    at false g = g
+
+added_within : (n : ℕ) (v : Bool) (next first : List ℕ) → Within n (if v then next ++ first else next) → Within n (if v then added next first else next)
+added_within n false next first w = w
+added_within n true next first w = at (same_numbers next first)
+  where
+    front : (ps qs : List ℕ) → Within n (ps ++ qs) → Within n ps
+    front [] qs w = tt
+    front (p ∷ ps) qs w = (w.0, front ps qs w.1)
+
+    at : (v : Bool) → Within n (if v then next else next ++ first)
+    at true = front next first w
+    at false = w
+
 good_followed : (xs zs : List Residual) (y : Tree) (e : Bool) (first : List ℕ) → Second xs zs y e first → (p : Place) (r : Residual) → Good xs p r → Good zs (followed e first p) (and_then y r)
 good_followed xs zs y e first s p r g = record {
   bytes = g.bytes;
   last = let a : p.is_last ≡ nullable r.1 = g.last in let b : e ≡ nullable y = s.empty in rw (a, b) refl;
-  onto = λ b t h. followed_onto xs zs y p.is_last p.next first r e s g.last g.within g.onto b t h;
-  from = λ b t h. followed_from xs zs y p.is_last p.next first r e s g.last g.within g.from b t h;
-  within = followed_within (length xs) (length zs) p.is_last p.next first s.longer g.within s.within;
+  onto = λ b t h. added_right zs p.is_last p.next first b t (followed_onto xs zs y p.is_last p.next first r e s g.last g.within g.onto b t h);
+  from = λ b t h. followed_from xs zs y p.is_last p.next first r e s g.last g.within g.from b t (added_left zs p.is_last p.next first b t h);
+  within = added_within (length zs) p.is_last p.next first (followed_within (length xs) (length zs) p.is_last p.next first s.longer g.within s.within);
   live = and_both _ _ g.live s.live;
 }
 

@@ -1,5 +1,5 @@
 -- What states stand for: the literal start, and then the marks behind it.
-use Rattle.std.proofs.Common.{◌≡◌, ◌≢◌, refl, sym, ◌∙◌, ap, subst, ℕ, zero, suc, ◌+◌, ◌-◌, ◌<◌, ◌≤◌, Bool, true, false, List, [], ◌∷◌, ◌++◌, length, take, drop, get_or, ◌⊎◌, inl, inr, arith, append_assoc, append-nil, nat_eq, eq-eqb}
+use Rattle.std.proofs.Common.{◌≡◌, ◌≢◌, refl, sym, ◌∙◌, ap, subst, ℕ, zero, suc, ◌+◌, ◌-◌, ◌<◌, ◌≤◌, Bool, true, false, List, [], ◌∷◌, ◌++◌, length, take, drop, get_or, ◌⊎◌, inl, inr, arith, append_assoc, append-nil, nat_eq, eq-eqb, length-append}
 use Rattle.std.specs.Prelude.{◌&&◌}
 use Rattle.std.specs.List.{starts_with}
 use Rattle.std.proofs.lemmas.List.{drop_more, take_all, length-drop}
@@ -141,6 +141,16 @@ begins (c ∷ cs) (b ∷ bs) h = at (nat_eq b c) refl h (begins cs bs)
     at : (v : Bool) → nat_eq b c ≡ v → (v && starts_with nat_eq cs bs) ≡ true → (starts_with nat_eq cs bs ≡ true → cs ≡ bs ++ drop (length bs) cs) → c ∷ cs ≡ b ∷ (bs ++ drop (length bs) cs)
     at true e g ih = let i = ih g in let s = same e in rw s (ap (λ w. b ∷ w) i)
     at false e g ih = cc
+
+pub too_short : (text start : List ℕ) → length text < length start → false ≡ starts_with nat_eq text start
+too_short text start l = at (starts_with nat_eq text start) refl
+  where
+    at : (v : Bool) → starts_with nat_eq text start ≡ v → false ≡ v
+    at false e = refl
+    at true e =
+        let b = ap length (begins text start e) in
+        let n : length (start ++ drop (length start) text) ≡ length start + length (drop (length start) text) = length-append start (drop (length start) text) in
+        absurd (omega arith)
 
 begun : (start rest : List ℕ) → starts_with nat_eq (start ++ rest) start ≡ true
 begun [] rest = refl

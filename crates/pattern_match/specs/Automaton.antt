@@ -31,9 +31,19 @@ up by numbers = map (λ n. n + by) numbers
 abbrev pub moved : ℕ → Place → Place
 moved by place = record { bytes = place.bytes; is_last = place.is_last; next = up by place.next }
 
+abbrev pub same_numbers : List ℕ → List ℕ → Bool
+same_numbers [] [] = true
+same_numbers [] (n ∷ ns) = false
+same_numbers (m ∷ ms) [] = false
+same_numbers (m ∷ ms) (n ∷ ns) = (m == n) && same_numbers ms ns
+
+-- numbers that follow and others; a loop around a loop adds nothing
+abbrev pub added : List ℕ → List ℕ → List ℕ
+added next first = if same_numbers next first then next else next ++ first
+
 -- a place where another part follows, with its first places
 abbrev pub followed : Bool → List ℕ → Place → Place
-followed holds_empty first place = record { bytes = place.bytes; is_last = place.is_last && holds_empty; next = if place.is_last then place.next ++ first else place.next }
+followed holds_empty first place = record { bytes = place.bytes; is_last = place.is_last && holds_empty; next = if place.is_last then added place.next first else place.next }
 
 -- the places of one part and then of another, which follows it
 abbrev pub in_turn : Automaton → Automaton → List Place

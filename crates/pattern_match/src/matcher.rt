@@ -1,4 +1,5 @@
-ghost use Rattle.std.specs.Prelude.{◌≡◌, ◌++◌, ◌∷◌, ◌+◌, ◌/◌, ◌^◌, ◌<◌, ◌↔◌, ℕ, List, [], true, false, IfOk, IsTrue, length};
+ghost use Rattle.std.specs.Prelude.{◌≡◌, ◌++◌, ◌∷◌, ◌+◌, ◌/◌, ◌^◌, ◌<◌, ◌≤◌, ◌↔◌, nat_eq, ℕ, List, [], true, false, IfOk, IsTrue, length};
+ghost use Rattle.std.specs.List.{starts_with};
 ghost use Rattle.pattern_syntax.specs.Tree.{Tree};
 ghost use Rattle.pattern_syntax.specs.Language.{In, Opens, holds};
 ghost use Rattle.pattern_syntax.specs.Literal.{literal_start_of};
@@ -60,9 +61,25 @@ fn nodes_behind(alloc: Global, pattern: &Pattern) -> Result<Vec<Node>, OutOfMemo
     ensures { IfOk result (λ nodes. Parts pattern.now (literal_start_of pattern.now) (tree_of nodes.items)) }
 {
     pattern.has_no_empty_set();
-    let (_, rest) = pattern.parts();
+    let (_start, rest) = pattern.parts();
     let nodes = sequence(alloc, rest)?;
     Ok(nodes)
+}
+
+// Whether the text begins with the start. Most texts differ within a few bytes, where std's test for long slices is slow.
+fn begins_with(text: &[u8], start: &[u8]) -> bool
+    ensures bound { result ≡ true → length start.now ≤ length text.now }
+    ensures value { result ≡ starts_with nat_eq text.now start.now }
+{
+    if text.len() < start.len() {
+        return false;
+    }
+    'bytes: for i in 0..start.len() {
+        if text[i] != start[i] {
+            return false;
+        }
+    }
+    true
 }
 
 impl Matcher {
@@ -70,9 +87,10 @@ impl Matcher {
     pub fn new(alloc: Global, pattern: &Pattern) -> Result<Matcher, OutOfMemory>
         ensures { IfOk result (λ matcher. matcher ≡ pattern.now) }
     {
+        let start = pattern.literal_start(alloc)?;
         let nodes = nodes_behind(alloc, pattern)?;
         Ok(Matcher {
-            start: Bytes::copy_of(alloc, pattern.start())?,
+            start,
             machine: Machine::new(alloc, nodes)?,
         })
     }
@@ -183,7 +201,7 @@ impl Matcher {
         ensures value { result ≡ holds self.now text.now }
     {
         let start = self.start.as_slice();
-        if !text.starts_with(start) {
+        if !begins_with(text, start) {
             return false;
         }
         self.machine

@@ -1,5 +1,5 @@
 ghost use Rattle.std.specs.Prelude.{◌≡◌, ◌+◌, ◌∷◌, true, IfOk, OnOk, []};
-ghost use Rattle.pattern_match.specs.Automaton.{Place, moved, followed};
+ghost use Rattle.pattern_match.specs.Automaton.{Place, moved, followed, same_numbers, added};
 
 use crate::class::Class;
 use label_base::OutOfMemory;
@@ -65,7 +65,7 @@ impl Position {
         ensures { OnOk result (self.new ≡ followed holds_empty first.now self.old) }
     {
         if self.is_last {
-            self.next.extend_from_slice(first)?;
+            add_numbers(&mut self.next, first)?;
         }
         self.is_last = self.is_last && holds_empty;
         Ok(())
@@ -102,6 +102,32 @@ impl Position {
     {
         self.class
     }
+}
+
+// Whether the numbers are the same, one by one.
+fn are_same(numbers: &[usize], others: &[usize]) -> bool
+    ensures { result ≡ same_numbers numbers.now others.now }
+{
+    if numbers.len() != others.len() {
+        return false;
+    }
+    'numbers: for i in 0..numbers.len() {
+        if numbers[i] != others[i] {
+            return false;
+        }
+    }
+    true
+}
+
+// Adds numbers, if they are not the same.
+fn add_numbers(next: &mut Vec<usize>, first: &[usize]) -> Result<(), OutOfMemory>
+    ensures { OnOk result (next.new.items ≡ added next.old.items first.now) }
+{
+    if are_same(next.as_slice(), first) {
+        return Ok(());
+    }
+    next.extend_from_slice(first)?;
+    Ok(())
 }
 
 /// The sum, if the machine can count so far.
