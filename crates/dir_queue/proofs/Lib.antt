@@ -1,0 +1,4 @@
+mod Totals
+mod Room
+mod Keeps
+mod Whole
