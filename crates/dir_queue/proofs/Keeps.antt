@@ -28,7 +28,7 @@ queued_snoc j (y ∷ ys) x = let r = queued_snoc j ys x in omega (arith, r)
 pub is_one : (i j : ℕ) → i ≡ j → hit i j ≡ 1
 is_one i j e = ap count_if (eq-eqb i j e)
 
-is_zero : (i j : ℕ) → i ≢ j → hit i j ≡ 0
+pub is_zero : (i j : ℕ) → i ≢ j → hit i j ≡ 0
 is_zero i j ne = ap count_if (ne_eqb i j ne)
 
 pub root_one : (j : ℕ) → j ≡ 0 → hit 0 j ≡ 1

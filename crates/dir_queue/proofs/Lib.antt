@@ -1,4 +1,5 @@
 mod Totals
 mod Room
 mod Keeps
+mod Parents
 mod Whole

@@ -39,6 +39,10 @@ for_one view = fresh view.parents view.passes 1
 abbrev pub parent_in : List ℕ → ℕ → ℕ
 parent_in parents job = slice_index parents (job - 1)
 
+-- the pass took the parent of each job that it gave
+abbrev pub ParentsAreTaken : QueueView → Type 0
+ParentsAreTaken view = (job : ℕ) → 0 < times job view.given → 0 < times (parent_in view.parents job) view.taken
+
 -- the pass took the job's parent and did not give the job yet
 pub record MayOffer (view : QueueView) (job : ℕ) : Type 0 where
   pub positive : 0 < job

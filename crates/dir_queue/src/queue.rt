@@ -1,6 +1,6 @@
 ghost use Rattle.std.specs.Prelude.{◌≡◌, ◌+◌, ◌-◌, ◌<◌, ◌≤◌, false, length, All, IfOk, IfNone};
 ghost use Rattle.crossbeam_queue.specs.Passes.{view, IsPassOf, ruled_capacity};
-ghost use Rattle.dir_queue.specs.Passes.{not_set_up, fresh, with_given, joined, for_one_less, MayOffer, HoldsEachOnce};
+ghost use Rattle.dir_queue.specs.Passes.{not_set_up, fresh, with_given, joined, for_one_less, MayOffer, ParentsAreTaken, HoldsEachOnce};
 ghost use Rattle.walk_steps.specs.Sound.{Sound};
 
 use crate::rule::{
@@ -19,6 +19,7 @@ pub struct QueuePass {
     pass: Pass<Job, QueueView>,
     pub ghost live: { 0 < (view pass).stands_for },
     pub ghost begun: { (view pass).is_new ≡ false },
+    pub ghost under: { ParentsAreTaken (view pass) },
 }
 
 /// The queue, which threads share by reference.

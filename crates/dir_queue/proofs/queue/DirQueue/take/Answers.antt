@@ -2,6 +2,7 @@ use Rattle.std.proofs.Common.{rules, subst, sym, ◌∙◌}
 use Rattle.dir_queue.specs.Passes.{HoldsEachOnce}
 use Rattle.dir_queue.proofs.Keeps.{takes, balances}
 use Rattle.dir_queue.proofs.Whole.{accounted_each, held_empty, empty_is_all, take_is_not_all, empty_is_sound}
+use Rattle.dir_queue.proofs.Parents.{popped_under}
 use Rattle.dir_queue.proofs.queue.DirQueue.take.Goals as goal
 
 pub pop_as-requires-clause-rule : goal.pop_as-requires-clause-rule
@@ -18,3 +19,6 @@ returns-in-None-clause-none g c = λ whole. empty_is_all _ (held_empty _ c.in-No
 
 pub returns-in-None-clause-sound : goal.returns-in-None-clause-sound
 returns-in-None-clause-sound g c = λ whole. empty_is_sound _ _ c.requires.parents (held_empty _ c.in-None.ensures.rule.1 (whole ∙ sym c.requires.passes))
+
+pub invariant_of-pass-clause-under : goal.invariant_of-pass-clause-under
+invariant_of-pass-clause-under g c = popped_under _ _ _ c.pop_as.ensures.rule c.args.pass.now.under
