@@ -4,6 +4,8 @@
 
 mod queue;
 mod rule;
+#[cfg(test)]
+mod tests;
 
 pub use queue::{DirQueue, QueuePass};
 pub use rule::QueueView;
