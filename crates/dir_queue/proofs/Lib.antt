@@ -1,0 +1,7 @@
+mod Totals
+mod Room
+mod Keeps
+mod Parents
+mod Whole
+mod OneMore
+pub mod Sending

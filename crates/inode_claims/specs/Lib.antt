@@ -1,0 +1,3 @@
+pub mod Claiming
+pub mod Rule
+pub mod Answers

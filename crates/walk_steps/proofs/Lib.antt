@@ -1,0 +1,5 @@
+mod ListLemmas
+mod Reached
+mod Running
+pub mod EndLemmas
+mod SmallShape

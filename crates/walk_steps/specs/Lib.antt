@@ -1,0 +1,5 @@
+pub mod Shaped
+pub mod Lists
+pub mod Machine
+pub mod Sound
+pub mod Ends
