@@ -70,3 +70,12 @@ fn a_line_of_two_fields(rt: HostRuntime) {
     };
     assert_eq!(rt; refused, Some(Fault::Why(third)));
 }
+
+#[test]
+fn a_copy_and_no_types(rt: HostRuntime) -> Result<(), Fail> {
+    let context = Context::read(rt.alloc(), b"u:r:t:s0")?;
+    assert!(rt; context.copy(rt.alloc())? == context);
+    assert!(rt; context != Context::read(rt.alloc(), b"u:r:t:s1")?);
+    assert!(rt; !TypeNames::new(rt.alloc()).has(b"t"));
+    Ok(())
+}

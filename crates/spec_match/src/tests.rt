@@ -52,6 +52,22 @@ fn last(alloc: Global, specs: &[u8], path: &[u8], asked: Asked) -> Option<u32>
     }
 }
 
+fn found_last(alloc: Global, specs: &[u8], path: &[u8]) -> Option<u32>
+    requires { length specs.now < 2 ^ 32 }
+{
+    let specs = read_specs(alloc, specs, Part::Base, 9).ok()?;
+    let rules = RuleSet::new(alloc, specs).ok()?;
+    let path = NormPath::read(alloc, path).ok()?;
+    let mut scratch = Scratch::new(alloc, &rules).ok()?;
+    rules.find_last(&mut scratch, &path, Asked::Any)
+}
+
+#[test]
+fn a_look_up_that_counts_nothing(rt: HostRuntime) {
+    let specs = b"/a <<none>>\n/[ab] <<none>>\n/b <<none>>\n".as_slice();
+    assert_eq!(rt; found_last(rt.alloc(), specs, b"/a"), Some(1));
+}
+
 #[test]
 fn the_last_match_decides(rt: HostRuntime) {
     let specs = b"/usr/.* <<none>>\n/usr/bin/.* <<none>>\n/usr/bin/ls -- <<none>>\n";
