@@ -1,4 +1,5 @@
 pub mod Cuts
+pub mod BoundedLemmas
 pub mod PathLemmas
 pub mod PathTexts
 pub mod FirstCut
@@ -14,3 +15,4 @@ pub mod PathMoves
 pub mod PathFronts
 pub mod LineLengths
 pub mod LineLimits
+pub mod PathLengths

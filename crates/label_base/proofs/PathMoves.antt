@@ -57,3 +57,9 @@ moved s t u (e, h) (f, g) n b =
     let P : List ℕ → Type 0 = λ x. (path_names (u ++ x) ≡ path_names u ++ rest) × IsNormal (u ++ x) in
     let joined = subst P behind (joined_names u rest n names) in
     (front_fits s t (with_slashes rest) text, joined.0, joined.1)
+
+-- a path's text behind another's
+pub joined_normal : (u v : List ℕ) → IsNormal u → IsNormal v → (path_names (u ++ v) ≡ path_names u ++ path_names v) × IsNormal (u ++ v)
+joined_normal u v n (e, h) =
+    let P : List ℕ → Type 0 = λ x. (path_names (u ++ x) ≡ path_names u ++ path_names v) × IsNormal (u ++ x) in
+    subst P e (joined_names u (path_names v) n h)

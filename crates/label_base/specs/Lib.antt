@@ -1,4 +1,5 @@
 pub mod Answers
+pub mod Bounded
 pub mod Cut
 pub mod Escape
 pub mod Kind
@@ -7,6 +8,7 @@ pub mod Lines
 pub mod Number
 pub mod Path
 pub mod PathFront
+pub mod PathRef
 pub mod PathText
 pub mod Pieces
 pub mod Reading

@@ -48,6 +48,10 @@ path_text (name ∷ names) = with_slashes (name ∷ names)
 abbrev pub at_or_below : Path → Path → Bool
 at_or_below path top = starts_with same_bytes path top
 
+-- below the top, and not the same
+abbrev pub strictly_below : Path → Path → Bool
+strictly_below path top = at_or_below path top && nat_lt (length top) (length path)
+
 -- the order of paths: a prefix first, else by the first name that differs
 abbrev pub path_cmp : Path → Path → Ordering
 path_cmp = slice_cmp (slice_cmp nat_cmp)

@@ -7,9 +7,10 @@ ghost use Rattle.std.proofs.Common.{rules};
 ghost use Rattle.label_base.specs.Path.{path_cmp};
 ghost use Rattle.std.specs.Prelude.{◌≡◌, ◌++◌, ◌∷◌, ◌<◌, ◌≤◌, [], true, IfOk, IfSome, IfNone, OnOk, OnErr, length, take, drop, Ok, Some, slice_get, false, ◌==◌, if◌then◌else◌};
 ghost use Rattle.std.specs.List.{list_any, slice_split, count_by};
-ghost use Rattle.label_base.specs.Path.{path_names, path_read, path_text, is_dot_part, is_name, is_nonempty, at_or_below, with_slashes, is_slash};
+ghost use Rattle.label_base.specs.Path.{are_names, path_names, path_read, path_text, is_dot_part, is_name, is_nonempty, at_or_below, with_slashes, is_slash};
 ghost use Rattle.label_base.specs.PathText.{text_at_or_below, ends_name, byte_rank, text_cmp, IsNormal, begins_plainly, is_plain};
 ghost use Rattle.label_base.specs.Answers.{Answers, cause_of};
+ghost use Rattle.label_base.specs.PathRef.{path_of};
 
 use crate::bytes::Bytes;
 use crate::cut::cut_at;
@@ -17,6 +18,7 @@ use crate::fault::Fault;
 use crate::memory::OutOfMemory;
 use crate::path_fault::{PathFault, PathWhy};
 use crate::path_key::PathKey;
+use crate::path_ref::PathRef;
 use std::alloc::Global;
 use std::cmp::Ordering;
 use std::marker::Model;
@@ -73,7 +75,7 @@ fn has_dots(bytes: &[u8]) -> bool
 }
 
 // Whether a name that begins with no dot stands behind each slash: such a text needs no cutting.
-fn is_plain(bytes: &[u8]) -> bool
+pub(crate) fn is_plain(bytes: &[u8]) -> bool
     ensures { result ≡ is_plain bytes.now }
 {
     for i in 0..bytes.len() {
@@ -125,7 +127,7 @@ fn add_part(text: &mut Vec<u8>, name: &[u8]) -> Result<(), OutOfMemory>
     Ok(())
 }
 
-fn text_or_slash(text: &[u8]) -> &[u8]
+pub(crate) fn text_or_slash(text: &[u8]) -> &[u8]
     requires { IsNormal text.now }
     ensures { result.now ≡ path_text (path_names text.now) }
 {
@@ -133,7 +135,7 @@ fn text_or_slash(text: &[u8]) -> &[u8]
 }
 
 // Whether a path's text is the top's, or goes on with another name.
-fn is_text_at_or_below(text: &[u8], top: &[u8]) -> bool
+pub(crate) fn is_text_at_or_below(text: &[u8], top: &[u8]) -> bool
     ensures { result ≡ text_at_or_below text.now top.now }
 {
     text.starts_with(top) && ends_name_at(text, top.len())
@@ -157,25 +159,24 @@ fn push_part(text: &mut Vec<u8>, name: &[u8]) -> Result<(), OutOfMemory>
     Ok(())
 }
 
-// A text with the end of another behind it.
-fn with_end(alloc: Global, front: &[u8], text: &[u8], from: usize) -> Result<Vec<u8>, OutOfMemory>
-    requires { from ≤ length text.now }
-    ensures { IfOk result (λ joined. joined.items ≡ front.now ++ drop from text.now) }
+// A text with another behind it.
+fn joined(alloc: Global, front: &[u8], end: &[u8]) -> Result<Vec<u8>, OutOfMemory>
+    ensures { IfOk result (λ joined. joined.items ≡ front.now ++ end.now) }
 {
-    let mut joined = Vec::with_capacity(alloc, front.len() + (text.len() - from))?;
+    let mut joined = Vec::with_capacity(alloc, front.len() + end.len())?;
     joined.extend_from_slice(front)?;
-    joined.extend_from_slice(&text[from..])?;
+    joined.extend_from_slice(end)?;
     Ok(joined)
 }
 
-fn count_slashes(text: &[u8]) -> usize
+pub(crate) fn count_slashes(text: &[u8]) -> usize
     ensures { result ≡ count_by is_slash text.now }
 {
     text.iter().filter(|byte| **byte == SLASH).count()
 }
 
 // The piece at a place of those between the slashes.
-fn piece_at(text: &[u8], i: usize) -> &[u8]
+pub(crate) fn piece_at(text: &[u8], i: usize) -> &[u8]
     requires { i < length (slice_split is_slash text.now) }
     ensures { slice_get (slice_split is_slash text.now) i ≡ Some result.now }
 {
@@ -302,7 +303,7 @@ impl NormPath {
     pub fn names(&self) -> usize
         ensures { result ≡ length self.now }
     {
-        count_slashes(self.text.as_slice())
+        self.path().names()
     }
 
     /// The name at a place, counted from 0 at the top.
@@ -311,34 +312,14 @@ impl NormPath {
         ensures value { slice_get self.now i ≡ Some result.now }
         ensures named { is_name result.now ≡ true }
     {
-        piece_at(&self.text[1..], i)
-    }
-
-    /// The path with the target's names in place of the source's, which it is at or below.
-    pub fn replaced(
-        &self,
-        alloc: Global,
-        source: &NormPath,
-        target: &NormPath,
-    ) -> Result<NormPath, OutOfMemory>
-        requires { at_or_below self.now source.now ≡ true }
-        ensures { IfOk result (λ path. path ≡ target.now ++ drop (length source.now) self.now) }
-    {
-        Ok(NormPath {
-            text: with_end(
-                alloc,
-                target.text.as_slice(),
-                self.text.as_slice(),
-                source.text.len(),
-            )?,
-        })
+        self.path().name(i)
     }
 
     /// Whether the path is the other one or below it.
     pub fn is_at_or_below(&self, top: &NormPath) -> bool
         ensures { result ≡ at_or_below self.now top.now }
     {
-        is_text_at_or_below(self.text.as_slice(), top.text.as_slice())
+        self.path().is_at_or_below(&top.path())
     }
 
     /// The text of the path: `/` for no names, else a slash before each name.
@@ -349,14 +330,46 @@ impl NormPath {
         ensures read_back { length result.now ≤ MOST_PATH_BYTES → list_any is_dot_part self.now ≡ false
             → path_read result.now ≡ Ok self.now }
     {
-        text_or_slash(self.text.as_slice())
+        self.path().as_text()
     }
 
     /// The path, made ready to be sorted among many.
     pub fn key(&self) -> PathKey<'_>
         ensures { result ≡ self.now }
     {
-        PathKey::of_text(self.text.as_slice())
+        self.path().key()
+    }
+
+    /// A path's names behind a target's, in place of the source's, which the path is at or below.
+    pub fn replaced(
+        alloc: Global,
+        path: &PathRef<'_>,
+        source: &PathRef<'_>,
+        target: &PathRef<'_>,
+    ) -> Result<NormPath, OutOfMemory>
+        requires { at_or_below (path_of path.now) (path_of source.now) ≡ true }
+        ensures { IfOk result (λ changed. changed
+            ≡ path_of target.now ++ drop (length (path_of source.now)) (path_of path.now)) }
+    {
+        let behind = path.behind(source);
+        Ok(NormPath {
+            text: joined(alloc, target.kept_text(), behind.kept_text())?,
+        })
+    }
+
+    // The text that is kept.
+    pub(crate) fn kept_text(&self) -> &[u8]
+        ensures text { result.now ≡ with_slashes self.now }
+        ensures names { are_names self.now ≡ true }
+    {
+        self.text.as_slice()
+    }
+
+    /// The path, borrowed.
+    pub fn path(&self) -> PathRef<'_>
+        ensures { path_of result ≡ self.now }
+    {
+        PathRef::of_text(self.text.as_slice())
     }
 
     /// A copy of the text of the path.
@@ -475,7 +488,9 @@ mod tests {
         let path = NormPath::read(rt.alloc(), b"/usr/lib64/a/b")?;
         let source = NormPath::read(rt.alloc(), b"/usr/lib64")?;
         let target = NormPath::read(rt.alloc(), b"/lib")?;
-        let changed = path.replaced(rt.alloc(), &source, &target)?;
+        let (path, source, target) = (path.path(), source.path(), target.path());
+        assert!(rt; path.is_at_or_below(&source));
+        let changed = NormPath::replaced(rt.alloc(), &path, &source, &target)?;
         assert_eq!(rt; changed.as_text(), b"/lib/a/b".as_slice());
         Ok(())
     }
