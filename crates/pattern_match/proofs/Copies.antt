@@ -43,7 +43,7 @@ endless_left least done piece l =
     let q : least - (done + 1) ≡ suc (least - done - 2) = omega arith in
     rw (p, q) (endless_first (least - done - 2) piece)
 
-moved_none : (ps : List Place) → map (moved 0) ps ≡ ps
+pub moved_none : (ps : List Place) → map (moved 0) ps ≡ ps
 moved_none [] = refl
 moved_none (p ∷ ps) = let e : up 0 p.next ≡ p.next = up_none p.next in let ih = moved_none ps in rw (e, ih) refl
   where
@@ -78,3 +78,8 @@ endless_step least done piece so_far new places later holds_empty l e f g i n =
     (length-map piece.places (followed piece.holds_empty (up (length piece.places) piece.first)))
     (ap (λ ps. so_far ++ map (moved (length so_far)) ps) (sym (endless_left least done piece l)) ∙ i)
     (n ∙ rw (e, f, g) refl)
+
+-- behind no places, places stay what they are
+pub behind_none : (ps others : List Place) (by : ℕ) → by ≡ length ps → by ≡ 0 → others ≡ ps ++ map (moved (length ps)) others
+behind_none [] others by e h = sym (moved_none others)
+behind_none (p ∷ ps) others by e h = absurd (omega (arith, e, h))

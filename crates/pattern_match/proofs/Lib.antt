@@ -16,3 +16,4 @@ pub mod RunTables
 pub mod Ready
 pub mod Standing
 pub mod Reading
+pub mod OneText

@@ -3,7 +3,7 @@ ghost use Rattle.pattern_match.specs.Automaton.{Place, moved, followed, in_turn,
 ghost use Rattle.pattern_match.specs.Residuals.{is_count, is_some_list};
 
 use crate::class::Class;
-use crate::position::{Position, sum};
+use crate::position::{Position, count, sum};
 use label_base::OutOfMemory;
 use std::alloc::Global;
 use std::marker::Model;
@@ -12,7 +12,7 @@ use std::marker::Model;
 #[derive(Debug, Drop)]
 pub struct Fragment {
     positions: Vec<Position>,
-    first: Vec<usize>,
+    first: Vec<u32>,
     holds_empty: bool,
     is_live: bool,
 }
@@ -29,7 +29,7 @@ impl Model for Fragment {
 fn follow_each(
     positions: &mut Vec<Position>,
     holds_empty: bool,
-    first: &[usize],
+    first: &[u32],
 ) -> Result<(), OutOfMemory>
     ensures { OnOk result (positions.new.items ≡ map (followed holds_empty first.now) positions.old.items) }
 {
@@ -43,7 +43,7 @@ fn follow_each(
 fn append_moved(
     positions: &mut Vec<Position>,
     others: Vec<Position>,
-    by: usize,
+    by: u32,
 ) -> Result<(), OutOfMemory>
     ensures { OnOk result (positions.new.items ≡ positions.old.items ++ map (moved by) others.items) }
 {
@@ -55,8 +55,22 @@ fn append_moved(
     Ok(())
 }
 
+// Positions, and others behind them.
+fn joined(positions: Vec<Position>, others: Vec<Position>) -> Result<Vec<Position>, OutOfMemory>
+    ensures { IfOk result (λ all. all.items
+        ≡ positions.items ++ map (moved (length positions.items)) others.items) }
+{
+    let by = count(positions.len())?;
+    if by == 0 {
+        return Ok(others);
+    }
+    let mut all = positions;
+    append_moved(&mut all, others, by)?;
+    Ok(all)
+}
+
 // The numbers, counted from a later place on.
-fn counted_up(alloc: Global, numbers: &[usize], by: usize) -> Result<Vec<usize>, OutOfMemory>
+fn counted_up(alloc: Global, numbers: &[u32], by: u32) -> Result<Vec<u32>, OutOfMemory>
     ensures { IfOk result (λ counted. counted.items ≡ up by numbers.now) }
 {
     let mut counted = Vec::new(alloc);
@@ -67,11 +81,7 @@ fn counted_up(alloc: Global, numbers: &[usize], by: usize) -> Result<Vec<usize>,
 }
 
 // The first positions of two parts in turn.
-fn first_of(
-    is_optional: bool,
-    first: Vec<usize>,
-    later: &[usize],
-) -> Result<Vec<usize>, OutOfMemory>
+fn first_of(is_optional: bool, first: Vec<u32>, later: &[u32]) -> Result<Vec<u32>, OutOfMemory>
     ensures { IfOk result (λ all. all.items ≡ (if is_optional then first.items ++ later.now else first.items)) }
 {
     if !is_optional {
@@ -88,11 +98,11 @@ fn append_copy(
     positions: &mut Vec<Position>,
     piece: &[Position],
     holds_empty: bool,
-    first: &[usize],
+    first: &[u32],
 ) -> Result<(), OutOfMemory>
     ensures { OnOk result (positions.new.items ≡ positions.old.items ++ map (moved (length positions.old.items)) (map (followed holds_empty first.now) piece.now)) }
 {
-    let by = positions.len();
+    let by = count(positions.len())?;
     'piece: for position in piece {
         let mut copy = position.copy(alloc)?;
         copy.follow(holds_empty, first)?;
@@ -183,12 +193,11 @@ impl Fragment {
             holds_empty: is_optional,
             is_live: _,
         } = self;
-        let by = positions.len();
+        let by = count(positions.len())?;
         let later = counted_up(alloc, second.first.as_slice(), by)?;
         follow_each(&mut positions, second.holds_empty, later.as_slice())?;
-        append_moved(&mut positions, second.positions, by)?;
         Ok(Fragment {
-            positions,
+            positions: joined(positions, second.positions)?,
             first: first_of(is_optional, first, later.as_slice())?,
             holds_empty,
             is_live: true,
@@ -200,17 +209,16 @@ impl Fragment {
         ensures { IfOk result (λ fragment. fragment ≡ either self right) }
     {
         let Fragment {
-            mut positions,
+            positions,
             mut first,
             holds_empty,
             is_live,
         } = self;
-        let by = positions.len();
+        let by = count(positions.len())?;
         let later = counted_up(alloc, right.first.as_slice(), by)?;
         first.extend_from_slice(later.as_slice())?;
-        append_moved(&mut positions, right.positions, by)?;
         Ok(Fragment {
-            positions,
+            positions: joined(positions, right.positions)?,
             first,
             holds_empty: holds_empty || right.holds_empty,
             is_live: is_live || right.is_live,
@@ -249,7 +257,8 @@ impl Fragment {
             holds_empty,
             is_live: _,
         } = self;
-        let later = counted_up(alloc, first.as_slice(), piece.len())?;
+        let by = count(piece.len())?;
+        let later = counted_up(alloc, first.as_slice(), by)?;
         let mut positions = Vec::new(alloc);
         'copies: for done in 0..most - 1 {
             let can_stop = may_stop(least.saturating_sub(done + 1), holds_empty);
@@ -283,7 +292,8 @@ impl Fragment {
             holds_empty,
             is_live: _,
         } = self;
-        let later = counted_up(alloc, first.as_slice(), piece.len())?;
+        let by = count(piece.len())?;
+        let later = counted_up(alloc, first.as_slice(), by)?;
         let mut positions = Vec::new(alloc);
         'copies: for _done in 0..least - 1 {
             append_copy(

@@ -9,6 +9,7 @@ mod fragment;
 mod machine;
 mod marks;
 mod matcher;
+mod one_text;
 mod position;
 mod skipping;
 mod states;
@@ -16,4 +17,5 @@ mod tables;
 mod taking;
 
 pub use matcher::{Matcher, every_cut_is_membership};
+pub use one_text::is_one_text;
 pub use states::States;

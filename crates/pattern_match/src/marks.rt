@@ -39,6 +39,16 @@ impl Marks {
         })
     }
 
+    /// No words.
+    pub(crate) fn none(alloc: Global) -> Marks
+        ensures { length result ≡ 0 }
+    {
+        Marks {
+            marks: Vec::new(alloc),
+            reached: Vec::new(alloc),
+        }
+    }
+
     pub(crate) fn as_slice(&self) -> &[u64]
         ensures { result.now ≡ self.now }
     {

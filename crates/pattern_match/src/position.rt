@@ -12,7 +12,7 @@ use std::marker::Model;
 pub struct Position {
     class: Class,
     is_last: bool,
-    next: Vec<usize>,
+    next: Vec<u32>,
 }
 
 impl Model for Position {
@@ -51,7 +51,7 @@ impl Position {
     }
 
     /// Counts the numbers from a later place on. A number past the machine's is want of memory.
-    pub fn move_up(&mut self, by: usize) -> Result<(), OutOfMemory>
+    pub fn move_up(&mut self, by: u32) -> Result<(), OutOfMemory>
         ensures { OnOk result (self.new ≡ moved by self.old) }
     {
         for number in self.next.iter_mut() {
@@ -61,7 +61,7 @@ impl Position {
     }
 
     /// Lets another part follow, of which the first positions are given.
-    pub fn follow(&mut self, holds_empty: bool, first: &[usize]) -> Result<(), OutOfMemory>
+    pub fn follow(&mut self, holds_empty: bool, first: &[u32]) -> Result<(), OutOfMemory>
         ensures { OnOk result (self.new ≡ followed holds_empty first.now self.old) }
     {
         if self.is_last {
@@ -72,7 +72,7 @@ impl Position {
     }
 
     /// The position before the first byte, with the numbers of those that may take it.
-    pub fn start(holds_empty: bool, first: Vec<usize>) -> Position
+    pub fn start(holds_empty: bool, first: Vec<u32>) -> Position
         ensures { result ≡ record { bytes = 0 ∷ []; is_last = holds_empty; next = first.items } }
     {
         Position {
@@ -90,7 +90,7 @@ impl Position {
     }
 
     /// The numbers of the positions that may take the next byte.
-    pub fn next(&self) -> &[usize]
+    pub fn next(&self) -> &[u32]
         ensures { result.now ≡ self.now.next }
     {
         self.next.as_slice()
@@ -105,22 +105,14 @@ impl Position {
 }
 
 // Whether the numbers are the same, one by one.
-fn are_same(numbers: &[usize], others: &[usize]) -> bool
+fn are_same(numbers: &[u32], others: &[u32]) -> bool
     ensures { result ≡ same_numbers numbers.now others.now }
 {
-    if numbers.len() != others.len() {
-        return false;
-    }
-    'numbers: for i in 0..numbers.len() {
-        if numbers[i] != others[i] {
-            return false;
-        }
-    }
-    true
+    numbers == others
 }
 
 // Adds numbers, if they are not the same.
-fn add_numbers(next: &mut Vec<usize>, first: &[usize]) -> Result<(), OutOfMemory>
+fn add_numbers(next: &mut Vec<u32>, first: &[u32]) -> Result<(), OutOfMemory>
     ensures { OnOk result (next.new.items ≡ added next.old.items first.now) }
 {
     if are_same(next.as_slice(), first) {
@@ -130,12 +122,22 @@ fn add_numbers(next: &mut Vec<usize>, first: &[usize]) -> Result<(), OutOfMemory
     Ok(())
 }
 
-/// The sum, if the machine can count so far.
-pub fn sum(a: usize, b: usize) -> Result<usize, OutOfMemory>
+/// The sum, if positions can be counted so far.
+pub fn sum(a: u32, b: u32) -> Result<u32, OutOfMemory>
     ensures { IfOk result (λ sum. sum ≡ a + b) }
 {
-    if a > usize::MAX - b {
+    if a > u32::MAX - b {
         return Err(OutOfMemory);
     }
     Ok(a + b)
+}
+
+/// A count of positions, if they can be counted so far.
+pub fn count(positions: usize) -> Result<u32, OutOfMemory>
+    ensures { IfOk result (λ count. count ≡ positions) }
+{
+    if positions > u32::MAX as usize {
+        return Err(OutOfMemory);
+    }
+    Ok(positions as u32)
 }

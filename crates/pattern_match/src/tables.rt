@@ -17,7 +17,7 @@ fn mark_next(row: &mut Vec<u64>, position: &Position)
 {
     clear(row);
     for number in position.next() {
-        set_if(row, *number, true);
+        set_if(row, *number as usize, true);
     }
 }
 

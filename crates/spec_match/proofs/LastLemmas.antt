@@ -1,11 +1,11 @@
--- The last rule that fits, from the end.
+-- The last specification that fits, from the end.
 use Rattle.std.proofs.Common.{◌≡◌, ◌∙◌, sym, refl, ap, ℕ, suc, zero, ◌+◌, ◌<◌, Bool, true, false, cond, List, [], ◌∷◌, drop, length, get_or, map, arith}
 use Rattle.std.specs.Prelude.{◌&&◌, filter, Option, Some, None, slice_get, option_and_then}
 use Rattle.std.specs.List.{enumerate_from, last_or}
 use Rattle.label_base.specs.Kind.{applies}
 use Rattle.label_base.specs.declared.kind.Asked.{Asked}
 use Rattle.pattern_match.proofs.Holding.{holds_tells}
-use Rattle.spec_match.specs.LastMatch.{fits, Fits, IsLast, Decides, last_index, last_match}
+use Rattle.spec_match.specs.LastMatch.{fits, Fits, Decides, last_index, last_match}
 use Rattle.spec_match.specs.Scratches.{spec_in}
 use Rattle.spec_match.specs.declared.rule.Rule.{Rule}
 use Rattle.spec_reader.specs.SpecValue.{SpecValue}
@@ -70,7 +70,7 @@ module _ (asked : Asked) (text : List ℕ) where
   at_place (r ∷ rules) zero d h = refl
   at_place (r ∷ rules) (suc i) d h = at_place rules i d (omega arith)
 
-  -- a rule fits, and none behind it does
+  -- a specification fits, and none behind it does
   pub found_index : (rules : List Rule) (i : ℕ) (d : Rule) → i < length rules → fits asked text (spec_in (get_or rules i d)) ≡ true → filter (fits asked text) (map spec_in (drop (suc i) rules)) ≡ [] → Some i ≡ last_index asked text (map spec_in rules)
   unfolding last_index
   found_index rules i d h t e = sym (index_from 0 rules i d None h t e ∙ ap Some (omega arith))
@@ -79,7 +79,7 @@ module _ (asked : Asked) (text : List ℕ) where
   unfolding last_match
   found_member rules i d h t e = at_place rules i d h ∙ sym (member_from rules i d None h t e)
 
-  -- no rule fits
+  -- no specification fits
   pub none_index : (rules : List Rule) → filter (fits asked text) (map spec_in rules) ≡ [] → None ≡ last_index asked text (map spec_in rules)
   unfolding last_index
   none_index rules h = sym (ap (last_or None) (none_numbered 0 (map spec_in rules) h))

@@ -1,5 +1,5 @@
--- The states of a list of rules are those of its specifications.
-use Rattle.std.proofs.Common.{◌≡◌, ◌∙◌, sym, refl, ap, subst, ℕ, ◌+◌, ◌<◌, ◌≤◌, ◌⊎◌, inl, inr, List, [], ◌∷◌, ◌++◌, map, take, take-suc, length, length-append, get_or, add-one, arith}
+-- The states for specifications with their matchers are those for the specifications.
+use Rattle.std.proofs.Common.{◌≡◌, ◌∙◌, sym, refl, ap, subst, ℕ, ◌+◌, ◌<◌, ◌⊎◌, inl, inr, List, [], ◌∷◌, ◌++◌, map, take, take-suc, length, length-append, get_or, add-one, arith}
 use Rattle.std.proofs.Math.ListN.{get_or-append}
 use Rattle.std.proofs.lemmas.Bool.{cases_lt}
 use Rattle.std.proofs.lemmas.List.{get_or_push}
@@ -39,7 +39,7 @@ patterns_push : (rules : List Rule) (rule : Rule) → patterns_of (rules ++ rule
 patterns_push [] rule = refl
 patterns_push (r ∷ rules) rule = ap (λ ps. r.spec.pattern ∷ ps) (patterns_push rules rule)
 
--- the states of one rule more
+-- the states of one specification more
 pub states_more : (rules : List Rule) (i : ℕ) (d : Rule) (states : List Progress) (new : Progress) → i < length rules → AreStatesFor (patterns_of (take i rules)) states → AreStatesOf (get_or rules i d).spec.pattern new → AreStatesFor (patterns_of (take (i + 1) rules)) (states ++ new ∷ [])
 states_more rules i d states new h own this =
     let e : patterns_of (take (i + 1) rules) ≡ patterns_of (take i rules) ++ (get_or rules i d).spec.pattern ∷ [] = ap patterns_of (ap (λ n. take n rules) (add-one i) ∙ take-suc rules i d h) ∙ patterns_push (take i rules) (get_or rules i d) in

@@ -1,2 +1,3 @@
 pub mod LastMatch
 pub mod Scratches
+pub mod PatternTests

@@ -25,6 +25,6 @@ IsScratchOf specs states = AreStatesFor (map pattern_in specs) states
 abbrev pub spec_in : Rule → SpecValue
 spec_in rule = rule.spec
 
--- the patterns of the rules
+-- the patterns of the specifications
 abbrev pub patterns_of : List Rule → List Tree
 patterns_of rules = map (λ rule. rule.spec.pattern) rules

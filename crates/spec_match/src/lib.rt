@@ -1,6 +1,7 @@
 //! The last specification that applies to a path, in a list of specifications.
 #![tactic(auto)]
 
+mod pattern_test;
 mod rule;
 mod rule_set;
 mod scratch;

@@ -2,18 +2,20 @@ ghost use Rattle.std.specs.Prelude.{◌≡◌, IfOk};
 ghost use Rattle.label_base.specs.Kind.{applies, same_kind};
 ghost use Rattle.pattern_match.specs.States.{AreStatesOf};
 ghost use Rattle.spec_match.specs.LastMatch.{fits};
+ghost use Rattle.spec_match.specs.PatternTests.{IsTestOf, is_fact};
 
+use crate::pattern_test::PatternTest;
 use label_base::{Asked, EntryKind, OutOfMemory};
-use pattern_match::{Matcher, States};
+use pattern_match::States;
 use spec_reader::Spec;
 use std::alloc::Global;
 
-/// A specification and its pattern's matcher.
+/// A specification and the test of its pattern.
 #[derive(Debug, Drop)]
 pub struct Rule {
     pub spec: Spec,
-    matcher: Matcher,
-    ghost same: { matcher ≡ spec.pattern },
+    test: PatternTest,
+    ghost own: { IsTestOf spec.pattern test } by { is_fact spec.pattern test },
 }
 
 fn is_of(kind: EntryKind, asked: EntryKind) -> bool
@@ -37,15 +39,15 @@ impl Rule {
     pub fn new(alloc: Global, spec: Spec) -> Result<Rule, OutOfMemory>
         ensures { IfOk result (λ rule. rule.spec ≡ spec) }
     {
-        let matcher = Matcher::new(alloc, &spec.pattern)?;
-        Ok(Rule { spec, matcher })
+        let test = PatternTest::new(alloc, &spec.pattern)?;
+        Ok(Rule { spec, test })
     }
 
     /// The states in which the pattern is matched.
     pub fn states(&self, alloc: Global) -> Result<States, OutOfMemory>
         ensures { IfOk result (λ states. AreStatesOf self.now.spec.pattern states) }
     {
-        self.matcher.states(alloc)
+        self.test.states(alloc, &self.spec.pattern)
     }
 
     /// Whether the specification applies and its language holds the text.
@@ -57,6 +59,6 @@ impl Rule {
         if !does_apply(self.spec.kind, asked) {
             return false;
         }
-        self.matcher.matches(states, text)
+        self.test.passes(&self.spec.pattern, states, text)
     }
 }

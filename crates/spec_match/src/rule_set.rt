@@ -1,11 +1,12 @@
 ghost use Rattle.std.specs.Prelude.{◌≡◌, ◌+◌, ◌<◌, ◌^◌, IfOk, IfSome, OnOk, Some, length, map, option_and_then, slice_get};
 ghost use Rattle.label_base.specs.Path.{path_text};
+ghost use Rattle.label_base.specs.PathRef.{path_of};
 ghost use Rattle.spec_match.specs.LastMatch.{Decides, last_index, last_match};
 ghost use Rattle.spec_match.specs.Scratches.{AreStatesFor, IsScratchOf, pattern_in, patterns_of, spec_in};
 
 use crate::rule::Rule;
 use crate::scratch::Scratch;
-use label_base::{Asked, NormPath, OutOfMemory, Row, Steps};
+use label_base::{Asked, OutOfMemory, PathRef, Row, Steps};
 use pattern_match::States;
 use spec_reader::Spec;
 use std::alloc::Global;
@@ -60,7 +61,8 @@ fn find_last(rules: &[Rule], states: &mut Vec<States>, text: &[u8], asked: Asked
     ensures own { AreStatesFor (patterns_of rules.now) states.new.items }
     ensures within { IfSome result (λ i. i < length rules.now) }
     ensures index { result ≡ last_index asked text.now (map spec_in rules.now) }
-    ensures member { option_and_then (slice_get (map spec_in rules.now)) result ≡ last_match asked text.now (map spec_in rules.now) }
+    ensures member { option_and_then (slice_get (map spec_in rules.now)) result
+        ≡ last_match asked text.now (map spec_in rules.now) }
     ensures decides { Decides asked text.now (map spec_in rules.now) result }
 {
     let mut left = rules.len();
@@ -105,13 +107,14 @@ impl RuleSet {
     /// or none where there is no such specification. It takes no memory.
     ///
     /// A specification without a kind applies always, one with a kind to it and to [`Asked::Any`].
-    pub fn find_last(&self, scratch: &mut Scratch, path: &NormPath, asked: Asked) -> Option<u32>
+    pub fn find_last(&self, scratch: &mut Scratch, path: &PathRef<'_>, asked: Asked) -> Option<u32>
         requires { IsScratchOf self.now scratch.old }
         ensures own { IsScratchOf self.now scratch.new }
         ensures within { IfSome result (λ i. i < length self.now) }
-        ensures index { result ≡ last_index asked (path_text path.now) self.now }
-        ensures member { option_and_then (slice_get self.now) result ≡ last_match asked (path_text path.now) self.now }
-        ensures decides { Decides asked (path_text path.now) self.now result }
+        ensures index { result ≡ last_index asked (path_text (path_of path.now)) self.now }
+        ensures member { option_and_then (slice_get self.now) result
+            ≡ last_match asked (path_text (path_of path.now)) self.now }
+        ensures decides { Decides asked (path_text (path_of path.now)) self.now result }
     {
         match find_last(
             self.rules.as_slice(),
@@ -128,16 +131,17 @@ impl RuleSet {
     pub fn last_match<L: Ledger>(
         &self,
         scratch: &mut Scratch,
-        path: &NormPath,
+        path: &PathRef<'_>,
         asked: Asked,
         steps: &mut Steps<L>,
     ) -> Option<u32>
         requires { IsScratchOf self.now scratch.old }
         ensures own { IsScratchOf self.now scratch.new }
         ensures within { IfSome result (λ i. i < length self.now) }
-        ensures index { result ≡ last_index asked (path_text path.now) self.now }
-        ensures member { option_and_then (slice_get self.now) result ≡ last_match asked (path_text path.now) self.now }
-        ensures decides { Decides asked (path_text path.now) self.now result }
+        ensures index { result ≡ last_index asked (path_text (path_of path.now)) self.now }
+        ensures member { option_and_then (slice_get self.now) result
+            ≡ last_match asked (path_text (path_of path.now)) self.now }
+        ensures decides { Decides asked (path_text (path_of path.now)) self.now result }
         ensures count { steps.new ≡ steps.old + 1 }
     {
         steps.tick();

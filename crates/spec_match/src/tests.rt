@@ -2,7 +2,7 @@ ghost use Rattle.std.specs.Prelude.{◌≡◌, ◌<◌, ◌^◌, length};
 
 use crate::rule_set::RuleSet;
 use crate::scratch::Scratch;
-use label_base::{Asked, EntryKind, NormPath, Part, Row, Steps};
+use label_base::{Asked, EntryKind, NormPath, Part, PathRef, Row, Steps};
 use spec_reader::{Spec, read_specs};
 use std::alloc::Global;
 use std::marker::Brand;
@@ -11,7 +11,7 @@ use std::sync::ledger::{Blank, Ledger};
 fn counted<L: Ledger>(
     alloc: Global,
     rules: &RuleSet,
-    path: &NormPath,
+    path: &PathRef<'_>,
     asked: Asked,
     blank: Blank,
 ) -> Option<u32>
@@ -26,7 +26,7 @@ fn counted<L: Ledger>(
     }
 }
 
-fn looked_up(alloc: Global, rules: &RuleSet, path: &NormPath, asked: Asked) -> Option<u32> {
+fn looked_up(alloc: Global, rules: &RuleSet, path: &PathRef<'_>, asked: Asked) -> Option<u32> {
     counted::<Brand>(alloc, rules, path, asked, Blank::new(1))
 }
 
@@ -39,7 +39,7 @@ fn found(alloc: Global, specs: Row<Spec>, path: &[u8], asked: Asked) -> Option<u
     let Ok(path) = NormPath::read(alloc, path) else {
         return None;
     };
-    looked_up(alloc, &rules, &path, asked)
+    looked_up(alloc, &rules, &path.path(), asked)
 }
 
 // The index of the last match, or 99 where the specifications can't be read.
@@ -59,7 +59,7 @@ fn found_last(alloc: Global, specs: &[u8], path: &[u8]) -> Option<u32>
     let rules = RuleSet::new(alloc, specs).ok()?;
     let path = NormPath::read(alloc, path).ok()?;
     let mut scratch = Scratch::new(alloc, &rules).ok()?;
-    rules.find_last(&mut scratch, &path, Asked::Any)
+    rules.find_last(&mut scratch, &path.path(), Asked::Any)
 }
 
 #[test]

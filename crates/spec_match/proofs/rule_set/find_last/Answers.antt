@@ -1,4 +1,4 @@
-use Rattle.std.proofs.Common.{◌≡◌, ◌∙◌, ap, sym, suc, ◌-◌, true, arith, rules}
+use Rattle.std.proofs.Common.{◌≡◌, ◌∙◌, ap, sym, suc, ◌-◌, arith, rules}
 use Rattle.spec_match.specs.LastMatch.{fits}
 use Rattle.spec_match.specs.Scratches.{spec_in}
 use Rattle.spec_match.proofs.LastLemmas.{found_index, found_member, found_decides, none_index, none_member, none_decides}

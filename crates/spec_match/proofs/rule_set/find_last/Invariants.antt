@@ -4,7 +4,7 @@ use Rattle.spec_match.specs.LastMatch.{fits}
 use Rattle.spec_match.specs.Scratches.{AreStatesFor, patterns_of, spec_in}
 use Rattle.spec_match.proofs.rule_set.find_last.Given as goal
 
--- none of the rules from here on fits
+-- none of the specifications from here on fits
 abbrev pub invariant-rules : goal.invariant-rules
 invariant-rules l = record {
   own : AreStatesFor (patterns_of l.rules) l.states.items;

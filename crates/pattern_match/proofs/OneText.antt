@@ -1,0 +1,49 @@
+-- A pattern that is its literal start alone.
+use Rattle.std.proofs.Common.{◌≡◌, ◌∙◌, sym, refl, ap, subst, ℕ, Bool, true, false, List, [], ◌∷◌, ◌++◌, append-nil, length, ◌==◌, arith}
+use Rattle.std.specs.Cmp.Lexicographic.{bytes_decides}
+use Rattle.label_base.specs.Path.{same_bytes}
+use Rattle.pattern_syntax.specs.Tree.{Tree, Nothing}
+use Rattle.pattern_syntax.specs.Language.{In, holds}
+use Rattle.pattern_syntax.specs.Literal.{literal_start_of}
+use Rattle.pattern_syntax.specs.Nodes.{after_nodes, tree_of}
+use Rattle.pattern_syntax.specs.Parts.{bytes_tree}
+use Rattle.pattern_syntax.specs.Shape.{is_proper}
+use Rattle.pattern_syntax.specs.declared.node.Node.{Node}
+use Rattle.pattern_syntax.specs.declared.node.Node.TheVariants as node
+use Rattle.pattern_match.specs.Automaton.{automaton}
+use Rattle.pattern_match.specs.Starts.{behind_start}
+use Rattle.pattern_match.specs.States.{AreMarksBy, AreMarksOf, AreStatesOf, Progress, is_bare}
+use Rattle.pattern_match.proofs.Cutting.{Follows, cut_behind_start, parts_are}
+use Rattle.pattern_match.proofs.Holding.{holds_tells}
+
+pub nothing_behind : (t : Tree) (nodes : List Node) → is_proper t ≡ true → after_nodes nodes (bytes_tree (literal_start_of t) ∷ []) ≡ t ∷ []
+    → nodes ≡ [] → behind_start t ≡ Nothing
+nothing_behind t nodes p h e =
+    sym (parts_are t nodes p h).behind ∙ ap (λ ns. tree_of (node.Nothing ∷ ns)) e
+
+same : (a b : Bool) → (a ≡ true → b ≡ true) → (b ≡ true → a ≡ true) → a ≡ b
+same true b f g = sym (f refl)
+same false true f g = g refl
+same false false f g = refl
+
+pub start_alone : (t : Tree) → behind_start t ≡ Nothing → (text : List ℕ) → holds t text ≡ same_bytes text (literal_start_of t)
+start_alone t e text =
+    let start = literal_start_of t in
+    same (holds t text) (same_bytes text start) (λ h.
+    let f : Follows start Nothing text = subst (λ r. Follows start r text) e ((cut_behind_start t text).0 ((holds_tells t text).0 h)) in
+    (bytes_decides text start).1 (f.1 ∙ ap (λ r. start ++ r) f.2 ∙ append-nil start)) (λ h.
+    (holds_tells t text).1 ((cut_behind_start t text).1 (subst (λ r. Follows start r text) (sym e) ([], (bytes_decides text start).0 h ∙ sym (append-nil start), refl))))
+
+pub empty_list : {X : Type 0} (xs : List X) → (length xs == 0) ≡ true → xs ≡ []
+empty_list [] h = refl
+empty_list (x ∷ xs) h = absurd (grind (arith, h))
+
+nothing_is_bare : is_bare Nothing ≡ true
+unfolding automaton
+nothing_is_bare = refl
+
+-- no marks are those of a pattern without a rest
+pub no_states : (states : Progress) → length states.marks ≡ 0 → (tree : Tree) → behind_start tree ≡ Nothing → AreStatesOf tree states
+no_states states n tree e =
+    let m : AreMarksOf Nothing states.marks = subst (λ b. AreMarksBy b Nothing states.marks) (sym nothing_is_bare) n in
+    record { marks = subst (λ t. AreMarksOf t states.marks) (sym e) m }
