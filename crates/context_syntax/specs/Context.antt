@@ -42,6 +42,10 @@ range_text (Some r) = COLON ∷ r
 abbrev pub context_text : ContextValue → List ℕ
 context_text c = c.user ++ COLON ∷ c.role ++ COLON ∷ c.kind ++ range_text c.range
 
+-- the first one's user, role and range with the other's type
+abbrev pub with_kind_of : ContextValue → ContextValue → ContextValue
+with_kind_of context other = record context { kind = other.kind }
+
 -- the bytes spell this context
 pub record Spells (bytes : List ℕ) (c : ContextValue) : Type 0 where
   pub parts : IsContext c

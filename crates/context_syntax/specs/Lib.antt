@@ -1,5 +1,6 @@
 pub mod Context
 pub mod ContextCause
+pub mod ContextRef
 pub mod Equal
 pub mod Label
 pub mod LabelEqual

@@ -3,16 +3,17 @@ ghost use Rattle.std.specs.Prelude.{◌≡◌, ◌++◌, ◌↔◌, IfOk, IsTrue
 ghost use Rattle.std.specs.List.{list_all};
 ghost use Rattle.std.specs.Option.{option_copied};
 ghost use Rattle.label_base.specs.Answers.{Finds};
-ghost use Rattle.context_syntax.specs.Context.{ContextValue, IsContext, Spells, context_of, context_text, is_range, is_range_byte, is_word, is_word_byte, same_but_user, same_context, same_option};
+ghost use Rattle.context_syntax.specs.Context.{ContextValue, IsContext, Spells, context_of, context_text, is_range, is_range_byte, is_word, is_word_byte, same_but_user, same_context, same_option, with_kind_of};
 ghost use Rattle.context_syntax.specs.declared.context.ContextFault.TheVariants as faults;
 ghost use Rattle.context_syntax.specs.Equal.{contexts_equiv};
 
+use crate::context_ref::ContextRef;
 use label_base::{Bytes, OutOfMemory, cut_at};
 use std::alloc::Global;
 use std::marker::Model;
 
 // Parts the user, the role, the type and the range.
-const COLON: u8 = b':';
+pub(crate) const COLON: u8 = b':';
 
 /// A security context, as restorecon(8) and file_contexts(5) write it: `user:role:type`, or `user:role:type:range`.
 /// Each part is in the grammar of its place, so there is one spelling for each value.
@@ -155,22 +156,6 @@ impl Context {
         })
     }
 
-    // Where memory runs out, a part may have been added.
-    fn add_parts(&self, to: &mut Bytes) -> Result<(), OutOfMemory>
-        ensures { OnOk result (to.new ≡ to.old ++ context_text self.now) }
-    {
-        to.push(self.user.as_slice())?;
-        to.push_byte(COLON)?;
-        to.push(self.role.as_slice())?;
-        to.push_byte(COLON)?;
-        to.push(self.kind.as_slice())?;
-        if let Some(range) = &self.range {
-            to.push_byte(COLON)?;
-            to.push(range.as_slice())?;
-        }
-        Ok(())
-    }
-
     #[tactic(auto, using(crate::proofs::Spelling::read_back, crate::proofs::Spelling::spells_itself))]
     /// Adds the one spelling at the end. Where memory runs out, nothing is added.
     pub fn write(&self, alloc: Global, to: &mut Bytes) -> Result<(), OutOfMemory>
@@ -183,13 +168,13 @@ impl Context {
     {
         let _ = &self.user;
         let mut text = Bytes::new(alloc);
-        self.add_parts(&mut text)?;
+        ContextRef::whole(self).add(&mut text)?;
         to.push(text.as_slice())
     }
 
     /// This user, role and range with the other's type.
     pub fn with_kind_of(&self, alloc: Global, other: &Context) -> Result<Context, OutOfMemory>
-        ensures { IfOk result (λ made. made ≡ record self.now { kind = other.now.kind }) }
+        ensures { IfOk result (λ made. made ≡ with_kind_of self.now other.now) }
     {
         Ok(Context {
             user: Bytes::copy_of(alloc, self.user.as_slice())?,

@@ -2,11 +2,13 @@
 #![tactic(auto)]
 
 mod context;
+mod context_ref;
 mod customizable;
 mod label;
 mod type_names;
 
 pub use context::{Context, ContextFault};
+pub use context_ref::ContextRef;
 pub use customizable::{CustomFault, NoTypeName, read_customizable, types_follow_grammar};
 pub use label::Label;
 pub use type_names::TypeNames;

@@ -41,6 +41,24 @@ fn the_type_of_another_context(rt: HostRuntime) -> Result<(), Fail> {
 }
 
 #[test]
+fn a_lent_context(rt: HostRuntime) -> Result<(), Fail> {
+    let found = Context::read(rt.alloc(), b"staff_u:object_r:tmp_t:s0")?;
+    let wanted = Context::read(rt.alloc(), b"system_u:object_r:etc_t")?;
+    let mut text = Bytes::new(rt.alloc());
+    let retyped = ContextRef {
+        rest: &found,
+        kind: &wanted,
+    };
+    retyped.write(rt.alloc(), &mut text)?;
+    ContextRef::whole(&wanted).add(&mut text)?;
+    assert_eq!(rt;
+        text.as_slice(),
+        b"staff_u:object_r:etc_t:s0system_u:object_r:etc_t".as_slice()
+    );
+    Ok(())
+}
+
+#[test]
 fn labels(rt: HostRuntime) -> Result<(), Fail> {
     Label::follows_grammar(b"?");
     let absent = Label::read(rt.alloc(), b"?")?;

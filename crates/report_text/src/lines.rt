@@ -1,90 +1,145 @@
-ghost use Rattle.std.specs.Prelude.{◌≡◌, ◌++◌, OnOk, OnErr, IfOk};
-ghost use Rattle.label_base.specs.Escape.{escaped};
-ghost use Rattle.label_base.specs.Path.{path_text};
-ghost use Rattle.report_text.specs.Texts.{label_text, line_of, relabel_words, report_of};
-ghost use Rattle.report_text.specs.declared.message.Message.TheVariants.{Relabel, NoDefault};
+ghost use Rattle.std.specs.Prelude.{◌≡◌, ◌++◌, IfOk, OnErr, OnOk, map};
+ghost use Rattle.std.specs.Option.{option_copied};
+ghost use Rattle.label_base.specs.PathRef.{path_of};
+ghost use Rattle.context_syntax.specs.ContextRef.{context_lent};
+ghost use Rattle.report_text.specs.Message.{message_of};
+ghost use Rattle.report_text.specs.Message as value;
+ghost use Rattle.report_text.specs.Texts.{line_of, message_text, report_of, shown_path};
 
 use crate::message::Message;
-use context_syntax::{Context, Label};
-use label_base::{Bytes, NormPath, OutOfMemory, Row, write_escaped};
+use crate::words::*;
+use context_syntax::{Context, ContextRef, Label};
+use label_base::{Bytes, EntryKind, OutOfMemory, PathRef};
 use std::alloc::Global;
 
-fn add_path(alloc: Global, path: &NormPath, text: &mut Bytes) -> Result<(), OutOfMemory>
-    ensures { OnOk result (text.new ≡ text.old ++ escaped (path_text path.now)) }
-{
-    write_escaped(alloc, path.as_text(), text)
-}
-
-fn add_label(alloc: Global, label: &Label, text: &mut Bytes) -> Result<(), OutOfMemory>
-    ensures { OnOk result (text.new ≡ text.old ++ label_text label.now) }
-{
-    match label {
-        Label::Absent => add(NO_CONTEXT, text),
-        Label::Odd(bytes) => write_escaped(alloc, bytes.as_slice(), text),
-        Label::Is(context) => context.write(alloc, text),
-    }
-}
-
-const NO_CONTEXT: &str = "<no context>";
-
-const WOULD_RELABEL: &str = "Would relabel ";
-
-const RELABELED: &str = "Relabeled ";
-
-const FROM: &str = " from ";
-
-const TO: &str = " to ";
-
-const NO_DEFAULT: &str = "Warning no default label for ";
-
-const LINE_FEED: &str = "\n";
-
-fn add(words: &str, text: &mut Bytes) -> Result<(), OutOfMemory>
-    ensures { OnOk result (text.new ≡ text.old ++ words.now) }
-{
-    text.push(words.as_bytes())
-}
-
-fn first_words(dry: bool) -> &'static str
-    ensures { result.now ≡ relabel_words dry }
-{
-    if dry { WOULD_RELABEL } else { RELABELED }
-}
-
-/// Adds the line of a changed label, without a message of its own. After a refusal the text has a front of the line.
-pub fn add_relabel(
+fn add_relabel(
     alloc: Global,
-    path: &NormPath,
+    path: &PathRef<'_>,
     from: &Label,
-    to: &Context,
+    to: &ContextRef<'_>,
     dry: bool,
     text: &mut Bytes,
 ) -> Result<(), OutOfMemory>
-    ensures { OnOk result (text.new ≡ text.old ++ line_of (Relabel path.now from.now to.now dry)) }
+    ensures { OnOk result (text.new ≡ text.old
+        ++ message_text (value.Relabel (path_of path.now) from.now (context_lent to.now) dry)) }
 {
-    add(first_words(dry), text)?;
+    add(relabel_words(dry), text)?;
     add_path(alloc, path, text)?;
     add(FROM, text)?;
     add_label(alloc, from, text)?;
     add(TO, text)?;
-    to.write(alloc, text)?;
-    add(LINE_FEED, text)?;
-    Ok(())
+    to.add(text)
 }
 
-/// Adds the line of a path that no specification decides, without a message of its own. After a refusal the text has a
-/// front of the line.
-pub fn add_no_default(alloc: Global, path: &NormPath, text: &mut Bytes) -> Result<(), OutOfMemory>
-    ensures { OnOk result (text.new ≡ text.old ++ line_of (NoDefault path.now)) }
+fn add_customized(
+    alloc: Global,
+    path: &PathRef<'_>,
+    label: &Context,
+    text: &mut Bytes,
+) -> Result<(), OutOfMemory>
+    ensures { OnOk result (text.new ≡ text.old
+        ++ message_text (value.Customized (path_of path.now) label.now)) }
 {
-    add(NO_DEFAULT, text)?;
     add_path(alloc, path, text)?;
-    add(LINE_FEED, text)?;
-    Ok(())
+    add(NOT_RESET, text)?;
+    add_context(label, text)
 }
 
-fn add_line(alloc: Global, message: &Message, text: &mut Bytes) -> Result<(), OutOfMemory>
-    ensures { OnOk result (text.new ≡ text.old ++ line_of message.now) }
+fn add_conflict(
+    alloc: Global,
+    first: &PathRef<'_>,
+    second: &PathRef<'_>,
+    used: &Context,
+    text: &mut Bytes,
+) -> Result<(), OutOfMemory>
+    ensures { OnOk result (text.new ≡ text.old
+        ++ message_text (value.Conflict (path_of first.now) (path_of second.now) used.now)) }
+{
+    add(CONFLICTING, text)?;
+    add_path(alloc, first, text)?;
+    add(AND, text)?;
+    add_path(alloc, second, text)?;
+    add(USING, text)?;
+    add_context(used, text)?;
+    add(FULL_STOP, text)
+}
+
+// Words and a path behind them.
+fn add_before(
+    alloc: Global,
+    words: &str,
+    path: &PathRef<'_>,
+    text: &mut Bytes,
+) -> Result<(), OutOfMemory>
+    ensures { OnOk result (text.new ≡ text.old ++ words.now ++ shown_path (path_of path.now)) }
+{
+    add(words, text)?;
+    add_path(alloc, path, text)
+}
+
+// A path and words behind it.
+fn add_behind(
+    alloc: Global,
+    path: &PathRef<'_>,
+    words: &str,
+    text: &mut Bytes,
+) -> Result<(), OutOfMemory>
+    ensures { OnOk result (text.new ≡ text.old ++ shown_path (path_of path.now) ++ words.now) }
+{
+    add_path(alloc, path, text)?;
+    add(words, text)
+}
+
+fn add_no_matches(
+    pattern: &[u8],
+    kind: Option<EntryKind>,
+    given: Option<&Context>,
+    text: &mut Bytes,
+) -> Result<(), OutOfMemory>
+    ensures { OnOk result (text.new ≡ text.old
+        ++ message_text (value.NoMatches pattern.now kind (option_copied given.entry))) }
+{
+    add(NO_MATCHES, text)?;
+    text.push(pattern)?;
+    add(COMMA, text)?;
+    add_kind(kind, text)?;
+    add_given(given, text)?;
+    add(CLOSE, text)
+}
+
+fn add_found(
+    alloc: Global,
+    path: &PathRef<'_>,
+    given: Option<&Context>,
+    bare: bool,
+    text: &mut Bytes,
+) -> Result<(), OutOfMemory>
+    ensures { OnOk result (text.new ≡ text.old
+        ++ message_text (value.Found (path_of path.now) (option_copied given.entry) bare)) }
+{
+    add_place(alloc, path, bare, text)?;
+    add_given(given, text)
+}
+
+fn add_differs(
+    alloc: Global,
+    path: &PathRef<'_>,
+    has: &Label,
+    wants: &Context,
+    text: &mut Bytes,
+) -> Result<(), OutOfMemory>
+    ensures { OnOk result (text.new ≡ text.old
+        ++ message_text (value.Differs (path_of path.now) has.now wants.now)) }
+{
+    add_path(alloc, path, text)?;
+    add(HAS_CONTEXT, text)?;
+    add_label(alloc, has, text)?;
+    add(SHOULD_BE, text)?;
+    add_context(wants, text)
+}
+
+fn add_message(alloc: Global, message: &Message<'_>, text: &mut Bytes) -> Result<(), OutOfMemory>
+    ensures { OnOk result (text.new ≡ text.old ++ message_text (message_of message.now)) }
 {
     match message {
         Message::Relabel {
@@ -93,13 +148,41 @@ fn add_line(alloc: Global, message: &Message, text: &mut Bytes) -> Result<(), Ou
             to,
             dry,
         } => add_relabel(alloc, path, from, to, *dry, text),
-        Message::NoDefault { path } => add_no_default(alloc, path, text),
+        Message::Customized { path, label } => add_customized(alloc, path, label, text),
+        Message::Conflict {
+            first,
+            second,
+            used,
+        } => add_conflict(alloc, first, second, used, text),
+        Message::NoDefault { path } => add_before(alloc, NO_DEFAULT, path, text),
+        Message::Absent { path } => add_before(alloc, NO_RECORD_FOR, path, text),
+        Message::NoMatches {
+            text: pattern,
+            kind,
+            context,
+        } => add_no_matches(pattern, *kind, *context, text),
+        Message::Found {
+            path,
+            context,
+            bare,
+        } => add_found(alloc, path, *context, *bare, text),
+        Message::Verified { path } => add_behind(alloc, path, VERIFIED, text),
+        Message::Differs { path, has, wants } => add_differs(alloc, path, has, wants, text),
+        Message::NoRecord { path } => add_behind(alloc, path, HAS_NO_RECORD, text),
     }
 }
 
-/// Adds the line of a message at the end.
-pub fn line(alloc: Global, message: &Message, to: &mut Bytes) -> Result<(), OutOfMemory>
-    ensures ok { OnOk result (to.new ≡ to.old ++ line_of message.now) }
+/// Adds the line of a message at the end. Where memory runs out, a front of the line may have been added.
+pub fn add_line(alloc: Global, message: &Message<'_>, text: &mut Bytes) -> Result<(), OutOfMemory>
+    ensures { OnOk result (text.new ≡ text.old ++ line_of (message_of message.now)) }
+{
+    add_message(alloc, message, text)?;
+    add(LINE_FEED, text)
+}
+
+/// Adds the line of a message at the end. Where memory runs out, nothing is added.
+pub fn line(alloc: Global, message: &Message<'_>, to: &mut Bytes) -> Result<(), OutOfMemory>
+    ensures ok { OnOk result (to.new ≡ to.old ++ line_of (message_of message.now)) }
     ensures err { OnErr result (to.new ≡ to.old) }
 {
     let mut text = Bytes::new(alloc);
@@ -109,11 +192,11 @@ pub fn line(alloc: Global, message: &Message, to: &mut Bytes) -> Result<(), OutO
 
 /// The lines of all messages.
 #[tactic(auto, unfolding(crate::specs::Texts::report_of))]
-pub fn report(alloc: Global, messages: &Row<Message>) -> Result<Bytes, OutOfMemory>
-    ensures { IfOk result (λ text. text ≡ report_of messages.now) }
+pub fn report(alloc: Global, messages: &[Message<'_>]) -> Result<Bytes, OutOfMemory>
+    ensures { IfOk result (λ text. text ≡ report_of (map message_of messages.now)) }
 {
     let mut text = Bytes::new(alloc);
-    for message in messages.as_slice() {
+    'messages: for message in messages {
         add_line(alloc, message, &mut text)?;
     }
     Ok(text)

@@ -13,7 +13,8 @@ use Rattle.pattern_syntax.specs.Tree.{Tree}
 use Rattle.pattern_syntax.specs.Reading.{pattern_of}
 use Rattle.pattern_syntax.specs.declared.pattern_fault.PatternWhy.{PatternWhy}
 use Rattle.spec_reader.specs.SpecGrammar.{AreBad, FieldsMean, HasDecision, HasKind, IsDecision, IsKind, Parts, SpecsMean, parts_of}
-use Rattle.spec_reader.specs.SpecLines.{kind_of, spec_in, specs_of, with_context, with_decision, with_pattern, with_tree, with_type}
+use Rattle.spec_reader.specs.TypeField.{kind_of}
+use Rattle.spec_reader.specs.SpecLines.{spec_in, specs_of, with_context, with_decision, with_pattern, with_tree, with_type}
 use Rattle.spec_reader.specs.SpecValue.{SpecValue}
 use Rattle.spec_reader.specs.declared.line.TheConstants.{NO_CONTEXT}
 use Rattle.spec_reader.specs.declared.spec.Decision.{Decision}

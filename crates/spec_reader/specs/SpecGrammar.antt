@@ -7,7 +7,7 @@ use Rattle.label_base.specs.declared.lines.LinesWhy.{LinesWhy}
 use Rattle.label_base.specs.LineGrammar.{LinesMeanWithin}
 use Rattle.context_syntax.specs.Context.{Spells}
 use Rattle.pattern_syntax.specs.Reading.{pattern_of}
-use Rattle.spec_reader.specs.SpecLines.{kind_of}
+use Rattle.spec_reader.specs.TypeField.{kind_of}
 use Rattle.spec_reader.specs.SpecValue.{SpecValue}
 use Rattle.spec_reader.specs.declared.line.TheConstants.{NO_CONTEXT}
 use Rattle.spec_reader.specs.declared.spec.Decision.{Decision}

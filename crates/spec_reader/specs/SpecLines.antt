@@ -1,7 +1,6 @@
 -- What the lines of a file_contexts file say, as selabel_file(5) has it: a pattern, a type or none, and a context.
-use Rattle.std.specs.Prelude.{ℕ, codes, List, [], ◌∷◌, Option, Some, None, Result, Ok, Err, if◌then◌else◌}
+use Rattle.std.specs.Prelude.{ℕ, List, [], ◌∷◌, Option, Some, None, Result, Ok, Err, if◌then◌else◌}
 use Rattle.label_base.specs.declared.kind.EntryKind.{EntryKind}
-use Rattle.label_base.specs.declared.kind.EntryKind.TheVariants.{Regular, Directory, Link, Pipe, Socket, Block, Char}
 use Rattle.label_base.specs.declared.kind.Part.{Part}
 use Rattle.label_base.specs.declared.lines.LinesWhy.{LinesWhy}
 use Rattle.label_base.specs.Lines.{lines_within}
@@ -11,23 +10,12 @@ use Rattle.pattern_syntax.specs.Tree.{Tree}
 use Rattle.pattern_syntax.specs.Reading.{pattern_of}
 use Rattle.pattern_syntax.specs.declared.pattern_fault.PatternWhy.{PatternWhy}
 use Rattle.spec_reader.specs.SpecValue.{SpecValue}
+use Rattle.spec_reader.specs.TypeField.{kind_of}
 use Rattle.spec_reader.specs.declared.line.TheConstants.{NO_CONTEXT}
 use Rattle.spec_reader.specs.declared.spec.Decision.{Decision}
 use Rattle.spec_reader.specs.declared.spec.Decision.TheVariants.{Leave, Give}
 use Rattle.spec_reader.specs.declared.spec_fault.SpecWhy.{SpecWhy}
 use Rattle.spec_reader.specs.declared.spec_fault.SpecWhy.TheVariants.{MissingContext, BadKind, BadContext, BadPattern}
-
--- the kind that a type field names
-abbrev pub kind_of : List ℕ → Option EntryKind
-kind_of field =
-    if same_bytes field (codes "--") then Some Regular
-    else if same_bytes field (codes "-d") then Some Directory
-    else if same_bytes field (codes "-l") then Some Link
-    else if same_bytes field (codes "-p") then Some Pipe
-    else if same_bytes field (codes "-s") then Some Socket
-    else if same_bytes field (codes "-b") then Some Block
-    else if same_bytes field (codes "-c") then Some Char
-    else None
 
 abbrev pub with_tree : Part → ℕ → List ℕ → Option EntryKind → Decision → Result Tree PatternWhy → Result SpecValue SpecWhy
 with_tree part line text kind decision (Ok pattern) =

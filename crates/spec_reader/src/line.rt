@@ -3,41 +3,18 @@ ghost use Rattle.std.specs.Option.{option_map};
 ghost use Rattle.label_base.specs.Answers.{Answers, cause_of};
 ghost use Rattle.pattern_syntax.specs.PatternCause.{pattern_cause};
 ghost use Rattle.spec_reader.specs.SpecValue.{is_spec_kind};
-ghost use Rattle.spec_reader.specs.SpecLines.{kind_of, spec_in, with_decision, with_pattern};
+ghost use Rattle.spec_reader.specs.SpecLines.{spec_in, with_decision, with_pattern};
 
 use crate::spec::{Decision, Spec};
 use crate::spec_fault::SpecWhy;
+use crate::type_fields::kind_in;
 use context_syntax::{Context, ContextFault};
 use label_base::{Bytes, EntryKind, Fault, LineReader, Part, next_field};
 use pattern_syntax::{Pattern, PatternFault};
 use std::alloc::Global;
 
-// Stands in place of a context where files keep the labels that they have.
-const NO_CONTEXT: &[u8] = b"<<none>>";
-
-// The kind that a type field names.
-fn kind_in(field: &[u8]) -> Option<EntryKind>
-    ensures value { result ≡ kind_of field.now }
-    ensures kind { IfSome result (λ kind. is_spec_kind (Some kind) ≡ true) }
-{
-    if field == b"--".as_slice() {
-        Some(EntryKind::Regular)
-    } else if field == b"-d".as_slice() {
-        Some(EntryKind::Directory)
-    } else if field == b"-l".as_slice() {
-        Some(EntryKind::Link)
-    } else if field == b"-p".as_slice() {
-        Some(EntryKind::Pipe)
-    } else if field == b"-s".as_slice() {
-        Some(EntryKind::Socket)
-    } else if field == b"-b".as_slice() {
-        Some(EntryKind::Block)
-    } else if field == b"-c".as_slice() {
-        Some(EntryKind::Char)
-    } else {
-        None
-    }
-}
+/// Stands in place of a context where files keep the labels that they have.
+pub const NO_CONTEXT: &[u8] = b"<<none>>";
 
 fn refused_pattern(fault: PatternFault) -> Fault<SpecWhy>
     ensures { cause_of result ≡ option_map SpecWhy.BadPattern (pattern_cause fault) }
