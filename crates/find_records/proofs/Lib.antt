@@ -1,4 +1,10 @@
+pub mod DistinctLabels
+pub mod LabelLemmas
+pub mod NulCuts
 pub mod Outcomes
 pub mod RecordGrammar
+pub mod RowLemmas
 pub mod RunGrammar
 pub mod RunLemmas
+pub mod SoFarLemmas
+pub mod Taking

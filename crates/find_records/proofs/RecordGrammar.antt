@@ -8,7 +8,7 @@ use Rattle.label_base.specs.declared.path_fault.PathWhy.{PathWhy}
 use Rattle.label_base.specs.declared.kind.EntryKind.{EntryKind}
 use Rattle.context_syntax.specs.Label.{label_of}
 use Rattle.context_syntax.specs.declared.label.Label.{Label}
-use Rattle.find_records.specs.declared.record.Record.{Record}
+use Rattle.find_records.specs.Record.{Record}
 use Rattle.find_records.specs.declared.record.TheConstants.{SPACE}
 use Rattle.find_records.specs.declared.fault.RecordWhy.{RecordWhy}
 use Rattle.find_records.specs.declared.fault.RecordWhy.TheVariants.{MissingField, BadType, BadNumber, BadPath}

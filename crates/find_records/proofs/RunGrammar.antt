@@ -3,7 +3,7 @@ use Rattle.std.proofs.Common.{◌≡◌, ◌∙◌, ap, sym, refl, subst, ℕ, z
 use Rattle.std.specs.Prelude.{◌⊎◌, ◌↔◌, Contains, nat_lt, Result, Ok, Err}
 use Rattle.std.proofs.lemmas.Bool.{lt-ltb, le-ltb, ltb-true, ltb-false}
 use Rattle.label_base.specs.Lines.{with_front}
-use Rattle.find_records.specs.declared.record.Record.{Record}
+use Rattle.find_records.specs.Record.{Record}
 use Rattle.find_records.specs.declared.reading.TheConstants.{NUL}
 use Rattle.find_records.specs.declared.reading.RecordLimits.{RecordLimits}
 use Rattle.find_records.specs.declared.fault.RecordWhy.{RecordWhy}
@@ -30,13 +30,13 @@ ended_is : (number : ℕ) (bytes : List ℕ) (meant : Result Record RecordWhy) �
 ended_is number bytes meant h = ap (numbered number) h
 
 -- the first record of bytes that have a NUL, and the last one
-first_is : (most number : ℕ) (piece rest : List ℕ) → ¬ Contains piece NUL → records_from most number (piece ++ NUL ∷ rest) ≡ onto (meaning most number piece true) (records_from most (number + 1) rest)
+pub first_is : (most number : ℕ) (piece rest : List ℕ) → ¬ Contains piece NUL → records_from most number (piece ++ NUL ∷ rest) ≡ onto (meaning most number piece true) (records_from most (number + 1) rest)
 first_is most number piece rest h = records_more most number (piece ++ NUL ∷ rest) piece rest (pieces_at NUL piece rest h)
 
-last_is : (most number : ℕ) (bytes : List ℕ) → 0 < length bytes → ¬ Contains bytes NUL → records_from most number bytes ≡ onto (meaning most number bytes false) (records_from most (number + 1) [])
+pub last_is : (most number : ℕ) (bytes : List ℕ) → 0 < length bytes → ¬ Contains bytes NUL → records_from most number bytes ≡ onto (meaning most number bytes false) (records_from most (number + 1) [])
 last_is most number bytes some h = records_last most number bytes bytes some (pieces_lacking NUL bytes h) refl
 
-nothing_is : (most number : ℕ) → records_from most number [] ≡ Ok []
+pub nothing_is : (most number : ℕ) → records_from most number [] ≡ Ok []
 nothing_is most number = records_none most number [] refl
 
 onto_bad : (why : RecordsFault) (meant : Result Record RecordsFault) (rest : Result (List Record) RecordsFault) → meant ≡ Err why → onto meant rest ≡ Err why
@@ -46,7 +46,7 @@ onto_good : (first : Record) (records : List Record) (rest : Result (List Record
 onto_good first records (Ok rest) = refl
 onto_good first records (Err why) = refl
 
-front_none : (meant : Result (List Record) RecordsFault) → with_front [] meant ≡ meant
+pub front_none : (meant : Result (List Record) RecordsFault) → with_front [] meant ≡ meant
 front_none (Ok records) = refl
 front_none (Err why) = refl
 

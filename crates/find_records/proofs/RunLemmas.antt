@@ -1,11 +1,10 @@
 -- The records of a text, from its first one on.
 use Rattle.std.proofs.Common.{◌≡◌, ◌∙◌, ap, sym, refl, ℕ, ◌+◌, ◌<◌, ◌==◌, Bool, true, false, cond, List, [], ◌∷◌, ◌++◌, length, append_assoc, arith}
 use borrow.Author.Tests.{eqb-true}
-use Rattle.std.specs.Prelude.{Option, Some, None, Result, Ok, Err}
+use Rattle.std.specs.Prelude.{Result, Ok, Err}
 use Rattle.std.specs.List.{slice_split, onto_first}
 use Rattle.label_base.specs.Lines.{with_front}
-use Rattle.label_base.specs.Answers.{Explains}
-use Rattle.find_records.specs.declared.record.Record.{Record}
+use Rattle.find_records.specs.Record.{Record}
 use Rattle.find_records.specs.declared.fault.RecordsFault.{RecordsFault}
 use Rattle.find_records.specs.Grammar.{is_nul, with_ends, pieces_of, meaning, onto, all_from, records_from}
 
@@ -48,20 +47,7 @@ pub records_last : (most number : ℕ) (bytes f : List ℕ) → 0 < length bytes
 unfolding records_from
 records_last most number bytes f n h e = ap (all_from most number) (pieces_last bytes n (h ∙ ap (λ p. p ∷ []) e) ∙ ap (λ p. (p, false) ∷ []) (sym e))
 
--- a first record that is read, and one that is refused
-pub first_read : (all : Result (List Record) RecordsFault) (first : Result Record RecordsFault) (rest : Result (List Record) RecordsFault) (found : Record) → all ≡ onto first rest → first ≡ Ok found → all ≡ onto (Ok found) rest
-first_read all first rest found h e = h ∙ ap (λ f. onto f rest) e
-
-pub first_bad : (all : Result (List Record) RecordsFault) (first : Result Record RecordsFault) (rest : Result (List Record) RecordsFault) (cause : Option RecordsFault) → all ≡ onto first rest → Explains cause first → Explains cause all
-first_bad all first rest None h e = tt
-first_bad all first rest (Some why) h e = h ∙ ap (λ f. onto f rest) e
-
 -- the first record goes to the end of those in front
 pub front_more : (front : List Record) (first : Record) (rest : Result (List Record) RecordsFault) → with_front front (onto (Ok first) rest) ≡ with_front (front ++ first ∷ []) rest
 front_more front first (Ok rest) = ap Ok (sym (append_assoc front (first ∷ []) rest))
 front_more front first (Err why) = refl
-
--- what is wrong with the rest is wrong with all
-pub front_bad : (front : List Record) (rest all : Result (List Record) RecordsFault) (cause : Option RecordsFault) → with_front front rest ≡ all → Explains cause rest → Explains cause all
-front_bad front rest all None h e = tt
-front_bad front rest all (Some why) h e = sym h ∙ ap (with_front front) e

@@ -9,7 +9,7 @@ use Rattle.label_base.specs.declared.kind.EntryKind.{EntryKind}
 use Rattle.label_base.specs.declared.kind.EntryKind.TheVariants.{Regular, Directory, Link, Pipe, Socket, Block, Char, Other}
 use Rattle.context_syntax.specs.Label.{label_of}
 use Rattle.context_syntax.specs.declared.label.Label.{Label}
-use Rattle.find_records.specs.declared.record.Record.{Record}
+use Rattle.find_records.specs.Record.{Record}
 use Rattle.find_records.specs.declared.record.TheConstants.{SPACE}
 use Rattle.find_records.specs.declared.reading.TheConstants.{NUL}
 use Rattle.find_records.specs.declared.reading.RecordLimits.{RecordLimits}

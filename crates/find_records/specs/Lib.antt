@@ -1,3 +1,8 @@
 pub mod Cause
+pub mod Entry
 pub mod Grammar
+pub mod Labels
 pub mod Reading
+pub mod Record
+pub mod Rows
+pub mod SoFar

@@ -1,8 +1,8 @@
 -- What reading the records of a source says of the source.
-use Rattle.std.specs.Prelude.{◌≡◌, ℕ, ◌+◌, ◌≤◌, List, [], length, Option, Some, None, Result, Err}
+use Rattle.std.specs.Prelude.{◌≡◌, ℕ, ◌+◌, ◌≤◌, List, [], ◌∷◌, ◌++◌, length, Option, Some, None, Result, Ok, Err}
 use Rattle.std.specs.Io.KnownBytes.{Consumes}
 use Rattle.label_base.specs.Source.{Rose}
-use Rattle.find_records.specs.declared.record.Record.{Record}
+use Rattle.find_records.specs.Record.{Record}
 use Rattle.find_records.specs.declared.reading.RecordLimits.{RecordLimits}
 use Rattle.find_records.specs.declared.fault.RecordsFault.{RecordsFault}
 use Rattle.find_records.specs.declared.fault.RecordsFault.TheVariants.{ReadFault, TooLong, OutOfMemory}
@@ -38,3 +38,8 @@ RecordsTold (Some bytes) new limits result = RecordsRead bytes new limits result
 abbrev pub RecordsCounts : ℕ → ℕ → Result (List Record) RecordsFault → Type 0
 RecordsCounts before now (Err ReadFault) = (before ≤ now) × Rose before now
 RecordsCounts before now result = now ≡ before
+
+-- records, and one more that was read
+abbrev pub with_one : {E : Type 0} → List Record → Result Record E → Result (List Record) E
+with_one records (Ok found) = Ok (records ++ found ∷ [])
+with_one records (Err why) = Err why

@@ -1,14 +1,20 @@
 //! The records of a tree, as `find -printf '%y %D %i %Z %p\0'` writes them.
 #![tactic(auto)]
 
+mod entry;
 mod fault;
+mod labels;
 mod reading;
 mod record;
+mod records;
+mod row;
+mod so_far;
 
+pub use entry::{Entry, Told};
 pub use fault::{RecordWhy, RecordsFault};
 pub use label_base::PathWhy;
 pub use reading::{RecordLimits, read_records, records_follow_grammar};
-pub use record::Record;
+pub use records::Records;
 
 #[cfg(test)]
 mod tests;

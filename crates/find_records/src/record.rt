@@ -1,26 +1,17 @@
-ghost use Rattle.std.specs.Prelude.{◌≡◌, ◌∷◌, []};
+ghost use Rattle.std.specs.Prelude.{◌≡◌, ◌∷◌, [], ◌<◌, ◌-◌, ◌^◌, OnErr, Some, length};
 ghost use Rattle.label_base.specs.Answers.{Answers, cause_of};
-ghost use Rattle.find_records.specs.Grammar.{kind_of, path_of, record_of, with_path};
+ghost use Rattle.context_syntax.specs.Label.{label_of};
+ghost use Rattle.find_records.specs.Grammar.{kind_of, path_of, record_from, record_of, with_path};
+ghost use Rattle.find_records.specs.Reading.{with_one};
 
+use crate::entry::Told;
 use crate::fault::RecordWhy;
-use context_syntax::Label;
-use label_base::{EntryKind, Fault, NormPath, cut_at, read_number};
+use crate::records::Records;
+use label_base::{EntryKind, Fault, cut_at, read_number};
 use std::alloc::Global;
 
 // Parts the fields of a record.
 const SPACE: u8 = b' ';
-
-/// What one record says of an entry: the fields that find(1) prints for `%y %D %i %Z %p`.
-#[derive(Debug, Drop)]
-pub struct Record {
-    pub kind: EntryKind,
-    /// The number of the device on which the entry lies.
-    pub device: u64,
-    /// The number of its inode on that device.
-    pub inode: u64,
-    pub label: Label,
-    pub path: NormPath,
-}
 
 fn kind_of_letter(letter: u8) -> Option<EntryKind>
     ensures { result ≡ kind_of (letter ∷ []) }
@@ -47,20 +38,31 @@ fn read_kind(field: &[u8]) -> Option<EntryKind>
     }
 }
 
-fn read_path(alloc: Global, field: &[u8]) -> Result<NormPath, Fault<RecordWhy>>
-    ensures { Answers (λ path. path) cause_of result (path_of field.now) }
+fn add_told(alloc: Global, records: &mut Records, told: &Told<'_>) -> Result<(), Fault<RecordWhy>>
+    requires { length records.old < 2 ^ 32 - 1 }
+    ensures answer { Answers (λ _. records.new) cause_of result (with_one records.old
+        (record_from (Some told.now.kind) (Some told.now.device) (Some told.now.inode)
+        (label_of told.now.label.now) (path_of told.now.path.now))) }
+    ensures same { OnErr result (records.new ≡ records.old) }
 {
-    match NormPath::read(alloc, field) {
-        Ok(path) => Ok(path),
+    match records.push(alloc, told) {
+        Ok(()) => Ok(()),
         Err(Fault::Why(why)) => Err(Fault::Why(RecordWhy::BadPath(why))),
         Err(Fault::OutOfMemory) => Err(Fault::OutOfMemory),
     }
 }
 
-/// Reads one record, without its NUL.
+// Reads one record, without its NUL, and adds it to the others.
 #[tactic(auto, unfolding(crate::specs::Grammar::record_of))]
-pub fn read_record(alloc: Global, bytes: &[u8]) -> Result<Record, Fault<RecordWhy>>
-    ensures { Answers (λ found. found) cause_of result (record_of bytes.now) }
+pub fn add_record(
+    alloc: Global,
+    records: &mut Records,
+    bytes: &[u8],
+) -> Result<(), Fault<RecordWhy>>
+    requires { length records.old < 2 ^ 32 - 1 }
+    ensures answer { Answers (λ _. records.new) cause_of result
+        (with_one records.old (record_of bytes.now)) }
+    ensures same { OnErr result (records.new ≡ records.old) }
 {
     let (kind, rest) = cut_at(SPACE, bytes);
     let Some(rest) = rest else {
@@ -78,19 +80,22 @@ pub fn read_record(alloc: Global, bytes: &[u8]) -> Result<Record, Fault<RecordWh
     let Some(path) = path else {
         return Err(Fault::Why(RecordWhy::MissingField));
     };
-    read_fields(alloc, kind, device, inode, label, path)
+    add_fields(alloc, records, kind, device, inode, label, path)
 }
 
-fn read_fields(
+fn add_fields(
     alloc: Global,
+    records: &mut Records,
     kind: &[u8],
     device: &[u8],
     inode: &[u8],
     label: &[u8],
     path: &[u8],
-) -> Result<Record, Fault<RecordWhy>>
-    ensures { Answers (λ found. found) cause_of result
-        (with_path kind.now device.now inode.now label.now path.now) }
+) -> Result<(), Fault<RecordWhy>>
+    requires { length records.old < 2 ^ 32 - 1 }
+    ensures answer { Answers (λ _. records.new) cause_of result (with_one records.old
+        (with_path kind.now device.now inode.now label.now path.now)) }
+    ensures same { OnErr result (records.new ≡ records.old) }
 {
     let Some(kind) = read_kind(kind) else {
         return Err(Fault::Why(RecordWhy::BadType));
@@ -101,13 +106,12 @@ fn read_fields(
     let Some(inode) = read_number(inode) else {
         return Err(Fault::Why(RecordWhy::BadNumber));
     };
-    let path = read_path(alloc, path)?;
-    let label = Label::read(alloc, label)?;
-    Ok(Record {
+    let told = Told {
         kind,
         device,
         inode,
         label,
         path,
-    })
+    };
+    add_told(alloc, records, &told)
 }

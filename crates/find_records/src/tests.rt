@@ -1,8 +1,9 @@
 use crate::{
-    PathWhy, Record, RecordLimits, RecordWhy, RecordsFault, read_records, records_follow_grammar,
+    PathWhy, RecordLimits, RecordWhy, Records, RecordsFault, Told, read_records,
+    records_follow_grammar,
 };
 use context_syntax::Label;
-use label_base::{Bytes, EntryKind, MemSource, Row};
+use label_base::{Bytes, EntryKind, MemSource, ReadSource, Row};
 use std::alloc::Global;
 use std::test::Fail;
 
@@ -12,7 +13,7 @@ const LIMITS: RecordLimits = RecordLimits {
 };
 
 // What the bytes give, by a source that has pieces of ten bytes and fails at one call.
-fn read_failing(alloc: Global, bytes: &[u8], failing: u64) -> Result<Row<Record>, RecordsFault> {
+fn read_failing(alloc: Global, bytes: &[u8], failing: u64) -> Result<Records, RecordsFault> {
     let Ok(bytes) = Bytes::copy_of(alloc, bytes) else {
         return Err(RecordsFault::OutOfMemory);
     };
@@ -24,7 +25,7 @@ fn read_failing(alloc: Global, bytes: &[u8], failing: u64) -> Result<Row<Record>
     read_records(alloc, &mut source, LIMITS)
 }
 
-fn read(alloc: Global, bytes: &[u8]) -> Result<Row<Record>, RecordsFault> {
+fn read(alloc: Global, bytes: &[u8]) -> Result<Records, RecordsFault> {
     read_failing(alloc, bytes, 0)
 }
 
@@ -42,16 +43,49 @@ fn reads_records(rt: HostRuntime) -> Result<(), Fail> {
     records_follow_grammar(LIMITS, bytes);
     let records = read(rt.alloc(), bytes)?;
     assert_eq!(rt; records.len(), 2);
-    let first = records.get(0);
+    let first = records.entry(0);
     assert_eq!(rt; first.kind, EntryKind::Regular);
     assert_eq!(rt; first.device, 1);
     assert_eq!(rt; first.inode, 5);
-    assert!(rt; matches!(&first.label, Label::Is(_)));
-    assert_eq!(rt; first.path.text(rt.alloc())?.as_slice(), b"/a b".as_slice());
-    let second = records.get(1);
+    assert!(rt; matches!(first.label, Label::Is(_)));
+    assert_eq!(rt; first.path.as_text(), b"/a b".as_slice());
+    let second = records.entry(1);
     assert_eq!(rt; second.kind, EntryKind::Other);
-    assert!(rt; matches!(&second.label, Label::Absent));
-    assert_eq!(rt; second.path.text(rt.alloc())?.as_slice(), b"/c".as_slice());
+    assert!(rt; matches!(second.label, Label::Absent));
+    assert_eq!(rt; second.path.as_text(), b"/c".as_slice());
+    Ok(())
+}
+
+#[test]
+fn records_are_added(rt: HostRuntime) -> Result<(), Fail> {
+    let alloc = rt.alloc();
+    let mut records = Records::new(alloc);
+    let told = Told {
+        kind: EntryKind::Link,
+        device: 1,
+        inode: 2,
+        label: b"?",
+        path: b"/a//b",
+    };
+    records.push(alloc, &told)?;
+    assert_eq!(rt; records.len(), 1);
+    assert_eq!(rt; records.path(0).as_text(), b"/a/b".as_slice());
+    Ok(())
+}
+
+#[test]
+fn labels_are_kept_once(rt: HostRuntime) -> Result<(), Fail> {
+    let bytes = b"f 1 5 a:b:c /a\0f 1 6  /b\0f 1 7 ? /c\0d 1 8 a:b:c /d\0";
+    let limits = RecordLimits {
+        records: 4,
+        bytes: 500,
+    };
+    let mut source = ReadSource::new(bytes.as_slice());
+    let records = read_records(rt.alloc(), &mut source, limits)?;
+    assert_eq!(rt; records.len(), 4);
+    assert!(rt; records.has_same_label(0, 3));
+    assert!(rt; records.has_same_label(1, 2));
+    assert!(rt; !records.has_same_label(0, 1));
     Ok(())
 }
 

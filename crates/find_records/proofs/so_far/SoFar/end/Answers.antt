@@ -1,0 +1,13 @@
+use Rattle.std.proofs.Common.{arith}
+use Rattle.find_records.proofs.SoFarLemmas.{explained, is_none, last_meant, whole_meant}
+use Rattle.find_records.proofs.so_far.SoFar.end.Goals as goal
+
+pub returns-then-len-gt0-clause-answer : goal.returns-then-len-gt0-clause-answer
+returns-then-len-gt0-clause-answer c =
+    let s = c.args.self in
+    explained _ _ (last_meant s.most s.records s.refused s.pending _ c.in-None.is (omega (arith, c.if-len-gt0.true, c.len.ensures)) c.requires.unended (c.unended.ensures s.pending))
+
+pub returns-clause-answer : goal.returns-clause-answer
+returns-clause-answer c =
+    let s = c.args.self in
+    whole_meant s.most s.records s.refused s.pending c.in-None.is (is_none s.pending (omega (arith, c.if-len-gt0.false, c.len.ensures)))

@@ -1,0 +1,27 @@
+-- What contracts see of a borrowed entry, and of what is told of one.
+use Rattle.label_base.specs.Path.{path_names}
+use Rattle.label_base.specs.PathRef.{path_of}
+use Rattle.context_syntax.specs.Label.{label_of}
+use Rattle.find_records.specs.Record.{Record}
+use Rattle.find_records.specs.declared.entry.Entry.{Entry}
+use Rattle.find_records.specs.declared.entry.Told.{Told}
+
+-- its record
+abbrev pub entry_of : Entry → Record
+entry_of e = record {
+  kind = e.kind;
+  device = e.device;
+  inode = e.inode;
+  label = e.label.now;
+  path = path_of e.path;
+}
+
+-- the record that is told
+abbrev pub record_told : Told → Record
+record_told t = record {
+  kind = t.kind;
+  device = t.device;
+  inode = t.inode;
+  label = label_of t.label.now;
+  path = path_names t.path.now;
+}

@@ -1,0 +1,159 @@
+ghost use Rattle.std.specs.Prelude.{◌≡◌, ◌++◌, ◌∷◌, [], ◌<◌, ◌≤◌, ◌-◌, ◌+◌, ◌^◌, length, slice_get, None, Some, IfErr, IfOk, OnErr, OnOk, vec_len, vec_capacity};
+ghost use Rattle.std.specs.Option.{option_map};
+ghost use Rattle.label_base.specs.Answers.{Answers, cause_of};
+ghost use Rattle.label_base.specs.Path.{path_names, path_read};
+ghost use Rattle.label_base.specs.PathRef.{path_of};
+ghost use Rattle.context_syntax.specs.Label.{same_label};
+ghost use Rattle.find_records.specs.Record.{Record};
+ghost use Rattle.find_records.specs.Entry.{entry_of, record_told};
+ghost use Rattle.find_records.specs.Labels.{Extends};
+ghost use Rattle.find_records.specs.Rows.{IsWithin, record_in, text_in};
+
+use crate::entry::{Entry, Told};
+use crate::labels::Labels;
+use crate::row::RecordRow;
+use label_base::{Fault, PathFault, PathRef, add_path};
+use std::alloc::Global;
+use std::marker::Model;
+
+/// Records, seen as their list. A record costs no allocation of its own.
+#[derive(Drop)]
+pub struct Records {
+    // The texts of all paths, one behind the other.
+    texts: Vec<u8>,
+    labels: Labels,
+    rows: Vec<RecordRow>,
+}
+
+impl Model for Records {
+    ghost use Rattle.std.specs.Prelude.{List};
+    ghost use Rattle.find_records.specs.Record.{Record};
+    ghost use Rattle.find_records.specs.Rows.{AreRows, records_in};
+
+    ghost Value = { List Record };
+
+    ghost view = { λ r. records_in r.texts.items r.labels r.rows.items };
+
+    ghost invariant = { λ r. AreRows r.texts.items r.labels r.rows.items };
+}
+
+fn reserve_row(rows: &mut Vec<RecordRow>) -> Result<(), PathFault>
+    ensures same { rows.new.items ≡ rows.old.items }
+    ensures room { OnOk result (vec_len rows.new < vec_capacity rows.new) }
+    ensures err { IfErr result (λ fault. cause_of fault ≡ None) }
+{
+    match rows.reserve(1) {
+        Ok(()) => Ok(()),
+        Err(_) => Err(Fault::OutOfMemory),
+    }
+}
+
+// The text of a row's path.
+fn text_at<'a>(texts: &'a [u8], row: &RecordRow) -> &'a [u8]
+    requires { row.now.at + row.now.size ≤ length texts.now }
+    ensures { result.now ≡ text_in texts.now row.now }
+{
+    &texts[row.at..][..row.size as usize]
+}
+
+// Adds a record's text and label, and makes its row.
+fn row_of(
+    alloc: Global,
+    texts: &mut Vec<u8>,
+    labels: &mut Labels,
+    told: &Told<'_>,
+) -> Result<RecordRow, PathFault>
+    requires { length labels.old < 2 ^ 32 - 1 }
+    ensures answer { Answers (λ _. path_names told.now.path.now) cause_of result
+        (path_read told.now.path.now) }
+    ensures value { IfOk result (λ row.
+        record_in texts.new.items labels.new row ≡ record_told told.now) }
+    ensures within { IfOk result (λ row. IsWithin texts.new.items labels.new row) }
+    ensures more_texts { Extends texts.old.items texts.new.items }
+    ensures more_labels { Extends labels.old labels.new }
+    ensures few { length labels.new ≤ length labels.old + 1 }
+    ensures same { OnErr result (labels.new ≡ labels.old) }
+{
+    let at = texts.len();
+    add_path(alloc, texts, told.path)?;
+    let size = (texts.len() - at) as u16;
+    let label = labels.number_of(alloc, told.label)?;
+    Ok(RecordRow {
+        device: told.device,
+        inode: told.inode,
+        at,
+        label,
+        size,
+        kind: told.kind,
+    })
+}
+
+impl Records {
+    /// No records.
+    pub fn new(alloc: Global) -> Records
+        ensures { result ≡ [] }
+    {
+        Records {
+            texts: Vec::new(alloc),
+            labels: Labels::new(alloc),
+            rows: Vec::new(alloc),
+        }
+    }
+
+    /// How many records there are.
+    pub fn len(&self) -> u32
+        ensures { result ≡ length self.now }
+    {
+        self.rows.len() as u32
+    }
+
+    /// Adds a record behind the others. After a refusal the records are as they were.
+    pub fn push(&mut self, alloc: Global, told: &Told<'_>) -> Result<(), PathFault>
+        requires { length self.old < 2 ^ 32 - 1 }
+        ensures answer { Answers (λ _. path_names told.now.path.now) cause_of result
+            (path_read told.now.path.now) }
+        ensures ok { OnOk result (self.new ≡ self.old ++ record_told told.now ∷ []) }
+        ensures err { OnErr result (self.new ≡ self.old) }
+    {
+        reserve_row(&mut self.rows)?;
+        let row = row_of(alloc, &mut self.texts, &mut self.labels, told)?;
+        match self.rows.push(row) {
+            Ok(()) => Ok(()),
+            Err(_) => unreachable!(),
+        }
+    }
+
+    /// The record at a place, counted from 0.
+    pub fn entry(&self, i: u32) -> Entry<'_>
+        requires { i < length self.now }
+        ensures { slice_get self.now i ≡ Some (entry_of result) }
+    {
+        let row = &self.rows[i as usize];
+        Entry {
+            kind: row.kind,
+            device: row.device,
+            inode: row.inode,
+            label: self.labels.get(row.label),
+            path: PathRef::of_text(text_at(self.texts.as_slice(), row)),
+        }
+    }
+
+    /// Whether the records at two places, counted from 0, have the same label. Their numbers tell it.
+    pub fn has_same_label(&self, i: u32, j: u32) -> bool
+        requires first { i < length self.now }
+        requires second { j < length self.now }
+        ensures { (a b : Record) → slice_get self.now i ≡ Some a → slice_get self.now j ≡ Some b
+            → result ≡ same_label a.label b.label }
+    {
+        self.labels
+            .is_same(self.rows[i as usize].label, self.rows[j as usize].label)
+    }
+
+    /// The path of the record at a place, counted from 0.
+    pub fn path(&self, i: u32) -> PathRef<'_>
+        requires { i < length self.now }
+        ensures { option_map (λ r. r.path) (slice_get self.now i) ≡ Some (path_of result) }
+    {
+        self.entry(i).path
+    }
+}
