@@ -13,7 +13,7 @@ use Rattle.std.proofs.lemmas.List.Kept.{Any-dedup, Contains-from_dedup, IsStrict
 use Rattle.std.proofs.lemmas.List.Sorted.{IsPermutation-sym}
 use Rattle.std.proofs.lemmas.Map.Keys.{sorted_head, sorted_tail}
 use Rattle.label_base.specs.Path.{Path, path_cmp}
-use Rattle.find_records.specs.declared.record.Record.{Record}
+use Rattle.find_records.specs.Record.{Record}
 use Rattle.tree_model.specs.Numbered.{Numbered}
 use Rattle.tree_model.specs.Entries.{placed, entered, entries_of, doubled}
 use Rattle.tree_model.specs.Numbered.{numbered_cmp, numbered_from, item_of}
@@ -30,7 +30,7 @@ abbrev pub Rising : List Record → Type 0
 Rising [] = Unit {0}
 Rising (e ∷ es) = ((x : Record) → Has es x → path_cmp e.path x.path ≡ Less) × Rising es
 
-not_less_itself : (p : Path) → path_cmp p p ≡ Less → ⊥
+pub not_less_itself : (p : Path) → path_cmp p p ≡ Less → ⊥
 not_less_itself p h = let t = tied_itself path_total p in cc
 
 not_both : (p q : Path) → path_cmp p q ≡ Less → path_cmp q p ≡ Less → ⊥

@@ -11,8 +11,8 @@ use Rattle.std.specs.declared.cmp.Ordering.TheVariants.{Less, Equal, Greater}
 use Rattle.std.proofs.lemmas.List.Sorted.{searchable_from_sorted}
 use Rattle.std.proofs.lemmas.List.Sums.{position_or_len_is}
 use Rattle.label_base.specs.Path.{Path, path_cmp}
-use Rattle.find_records.specs.declared.record.Record.{Record}
-use Rattle.tree_model.specs.Tree.{find_in, is_at, ByPath}
+use Rattle.find_records.specs.Record.{Record}
+use Rattle.tree_model.specs.Tree.{find_in, is_at, no_record, ByPath, IsFrom}
 use Rattle.tree_model.proofs.SameLemmas.{path_exact, same_path_is}
 use Rattle.tree_model.proofs.RunLemmas.{path_total}
 
@@ -70,3 +70,24 @@ found_none (x ∷ xs) path i p =
 pub found_in : (xs : List Record) (path : Path) (i : ℕ) → ByPath xs → i < length xs → HoldsAt (λ e. path_cmp e.path path ≡ Equal) xs i → find_in path xs ≡ Some i
 found_in [] path i up l h = absurd (omega arith)
 found_in (x ∷ xs) path i up l h = found_at (x ∷ xs) path i x up l (h x)
+
+reversed_greater : (o r : Ordering) → o ≡ ordering_reverse r → r ≡ Less → o ≡ Less → ⊥
+reversed_greater o Less e h t = cc
+reversed_greater o Equal e h t = cc
+reversed_greater o Greater e h t = cc
+
+-- a path that an entry has is where the search for it begins
+pub first_found : (xs : List Record) (path : Path) (i : ℕ) → ByPath xs → i < length xs → path_cmp (get_or xs i no_record).path path ≡ Equal → IsFrom path xs i
+first_found xs path i up l t =
+    let d = no_record in
+    let same : is_at path (get_or xs i d) ≡ true = same_path_is (get_or xs i d).path path ∙ ap is_eq t in
+    let e : (get_or xs i d).path ≡ path = path_exact (get_or xs i d).path path same in
+    record {
+      upto = omega arith;
+      before = λ k m. subst (λ z. path_cmp (get_or xs k d).path z ≡ Less) e (up k i d m l);
+      behind = λ k m n h. elim (k_side k (i + 1)) [
+        | inl lt ↦ (let own : i ≡ k = omega (arith, m, lt) in let equal : path_cmp (get_or xs k d).path path ≡ Equal = subst (λ j. path_cmp (get_or xs j d).path path ≡ Equal) own t in cc)
+        | inr ge ↦ reversed_greater (path_cmp (get_or xs k d).path path) (path_cmp path (get_or xs k d).path) (path_total.antisymm (get_or xs k d).path path)
+            (subst (λ z. path_cmp z (get_or xs k d).path ≡ Less) e (up i k d (omega (arith, ge)) n)) h
+      ];
+    }

@@ -7,7 +7,25 @@ pub mod Verdicts
 pub mod SortedLemmas
 pub mod EntryLemmas
 pub mod FindLemmas
-pub mod LinkLemmas
-mod PlaceLemmas
-mod SearchLemmas
-mod PassLemmas
+pub mod AboveLemmas
+pub mod ExtentLemmas
+pub mod ClosedLemmas
+pub mod LiveLemmas
+pub mod MarkLemmas
+pub mod ExtentRuns
+pub mod ExcludeLemmas
+pub mod SelectLemmas
+pub mod DeadLemmas
+pub mod KeptGroups
+pub mod JobLemmas
+pub mod NameLemmas
+pub mod GroupLemmas
+pub mod StartLemmas
+pub mod NumberingLemmas
+pub mod KnownLemmas
+pub mod UpLemmas
+pub mod PlaceLemmas
+pub mod SearchLemmas
+pub mod PassLemmas
+pub mod KeptLemmas
+pub mod ParentLemmas

@@ -2,16 +2,15 @@
 use Rattle.std.proofs.Common.{◌≡◌, ◌∙◌, ap, sym, refl, ℕ, zero, suc, ◌+◌, ◌-◌, ◌<◌, ◌≤◌, List, [], ◌∷◌, ◌++◌, length, map, take, get_or, arith, inl, inr}
 use Rattle.std.specs.Prelude.{Option, Some, None, Ok, slice_get, option_map}
 use Rattle.std.proofs.Math.ListN.{get_or-map}
-use Rattle.std.proofs.lemmas.List.{take_more, map_more, length-map, length-take-le}
-use Rattle.std.proofs.lemmas.Option.{slice_get-map, slice_get_read, slice_get_within, get_or_from_slice_get}
+use Rattle.std.proofs.lemmas.List.{take_more, length-map, length-take-le}
+use Rattle.std.proofs.lemmas.Option.{slice_get-map, slice_get_read, get_or_from_slice_get}
 use Rattle.label_base.specs.Path.{Path}
 use Rattle.tree_model.specs.Entries.{unless_doubled}
-use Rattle.tree_model.specs.Links.{inode_of}
 use Rattle.std.specs.List.{dedup}
 use Rattle.std.specs.List.Sorted.{IsPermutation}
 use Rattle.std.proofs.lemmas.List.Kept.{Contains-from_dedup}
 use Rattle.std.proofs.lemmas.List.Sorted.{IsPermutation-sym}
-use Rattle.find_records.specs.declared.record.Record.{Record}
+use Rattle.find_records.specs.Record.{Record}
 use Rattle.tree_model.specs.Numbered.{Numbered, numbered_from, item_of, place_of}
 use Rattle.tree_model.specs.Runs.{same_place}
 use Rattle.tree_model.specs.Tree.{AreWithin, entries_in, no_record, path_in}
@@ -82,15 +81,6 @@ numbered_next records k number r all new l h m e f =
     let long : length (take k records) ≡ k = length-take-le k records (omega (arith, l)) in
     numbered_more 1 (number + 1) (take k records) r all new f e (omega (arith, m, long))
     ∙ ap (numbered_from 1) (sym (take_more records k r l ∙ ap (λ z. take k records ++ z ∷ []) (sym h)))
-
--- one entry more
-pub inodes_next : (entries : List Record) (k : ℕ) (r : Record) (all new : List (ℕ × ℕ)) → slice_get entries k ≡ Some r
-    → all ≡ map inode_of (take k entries) → new ≡ all ++ inode_of r ∷ [] → new ≡ map inode_of (take (k + 1) entries)
-inodes_next entries k r all new g e f =
-    let l = slice_get_within entries k r g in
-    f ∙ ap (λ z. z ++ inode_of r ∷ []) e
-    ∙ ap (λ z. map inode_of (take k entries) ++ inode_of z ∷ []) (sym (get_or_from_slice_get entries k r r g))
-    ∙ sym (map_more inode_of entries k r l)
 
 -- a tree that is given has the entries, and no record is doubled
 pub calm_tree : (d : Option (ℕ × ℕ)) (entries kept : List Record) → unless_doubled d entries ≡ Ok kept → d ≡ None

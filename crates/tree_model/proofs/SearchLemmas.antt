@@ -8,8 +8,8 @@ use Rattle.std.specs.Prelude.{Some, None}
 use Rattle.std.specs.declared.cmp.Ordering.{Ordering}
 use Rattle.std.specs.declared.cmp.Ordering.TheVariants.{Less, Equal, Greater}
 use Rattle.label_base.specs.Path.{Path, path_cmp}
-use Rattle.find_records.specs.declared.record.Record.{Record}
-use Rattle.tree_model.specs.Tree.{ByPath, entries_in, no_record, path_in, find_in}
+use Rattle.find_records.specs.Record.{Record}
+use Rattle.tree_model.specs.Tree.{ByPath, IsFrom, entries_in, no_record, path_in, find_in}
 use Rattle.tree_model.proofs.FindLemmas as entries
 use Rattle.tree_model.proofs.PlaceLemmas.{path_at, length_entries}
 
@@ -49,3 +49,20 @@ module _ (records : List Record) (root path : Path) (root_is : root ≡ []) wher
         λ k e a b. let l : k < length places = omega (arith, b, w) in read places k 0 e l ∙ p.0 k 0 a b,
         λ k e a b. let l : k < length places = omega (arith, b, n) in read places k 0 e l ∙ p.1 k 0 a l,
       )
+
+  -- the first entry that is not before the path
+  pub from_found : (places : List ℕ) (i : ℕ) → ByPath (entries_in records places) → i < length places → HoldsAt (λ p. at_place p ≡ Equal) places i → IsFrom path (entries_in records places) i
+  from_found places i up l h =
+      entries.first_found (entries_in records places) path i up (let n = length_entries records places in omega (arith, l, n)) (read places i 0 no_record l ∙ h 0)
+
+  pub from_none : (places : List ℕ) (i : ℕ) → ByPath (entries_in records places) → i ≤ length places
+      → (IsNonDecreasingBy (λ p. ordering_index (at_place p)) places → IsPartitionPoint (λ p. at_place p ≡ Less) (λ p. at_place p ≡ Greater) places i)
+      → IsFrom path (entries_in records places) i
+  from_none places i up w h =
+      let p = h (searchable_places places up) in
+      let n = length_entries records places in
+      record {
+        upto = omega (arith, w, n);
+        before = λ k a. (let l : k < length places = omega (arith, a, w) in read places k 0 no_record l ∙ p.0 k 0 (omega arith) a);
+        behind = λ k a b t. (let l : k < length places = omega (arith, b, n) in let g : at_place (get_or places k 0) ≡ Greater = p.1 k 0 a l in let f = read places k 0 no_record l in cc);
+      }

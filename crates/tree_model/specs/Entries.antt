@@ -1,4 +1,5 @@
--- The entries of a tree: the records, those equal in every field counted once, in the order of their paths.
+-- The entries of a tree: the records, those equal in every field counted once, in the order of their
+-- paths.
 use Rattle.std.specs.Prelude.{ℕ, ◌+◌, Bool, ◌&&◌, ◌==◌, not, List, [], ◌∷◌, ◌++◌, length, Option, Some, None, Result, Ok, Err, if◌then◌else◌}
 use Rattle.std.specs.List.{list_any}
 use Rattle.std.specs.Cmp.Lexicographic.{pointwise}
@@ -7,14 +8,16 @@ use Rattle.std.specs.declared.cmp.Ordering.TheVariants.{Less, Equal, Greater}
 use Rattle.label_base.specs.Kind.{same_kind}
 use Rattle.label_base.specs.Path.{Path, path_cmp, same_bytes}
 use Rattle.context_syntax.specs.Label.{same_label}
-use Rattle.find_records.specs.declared.record.Record.{Record}
+use Rattle.find_records.specs.Record.{Record}
 
 abbrev pub same_path : Path → Path → Bool
 same_path = pointwise same_bytes
 
 -- equal in every field
 abbrev pub same_record : Record → Record → Bool
-same_record a b = (a.inode == b.inode) && (a.device == b.device) && same_kind a.kind b.kind && same_label a.label b.label && same_path a.path b.path
+same_record a b =
+    (a.inode == b.inode) && (a.device == b.device) && same_kind a.kind b.kind
+    && same_label a.label b.label && same_path a.path b.path
 
 -- one path, and another kind, device, inode or label
 abbrev pub conflict : Record → Record → Bool
@@ -25,17 +28,19 @@ abbrev pub first_from : ℕ → Path → List Record → ℕ
 first_from n path [] = n
 first_from n path (r ∷ rs) = if same_path r.path path then n else first_from (n + 1) path rs
 
--- with these records before: the first number with its path, and the number, of the first record whose path
--- an earlier one has with another kind, device, inode or label
+-- with these records before: the first number with its path, and the number, of the first record whose
+-- path an earlier one has with another kind, device, inode or label
 abbrev pub doubled_after : List Record → List Record → Option (ℕ × ℕ)
 doubled_after earlier [] = None
 doubled_after earlier (r ∷ rs) =
-    if list_any (conflict r) earlier then Some (first_from 1 r.path earlier, length earlier + 1) else doubled_after (earlier ++ r ∷ []) rs
+    if list_any (conflict r) earlier then Some (first_from 1 r.path earlier, length earlier + 1)
+    else doubled_after (earlier ++ r ∷ []) rs
 
 unfoldable pub doubled : List Record → Option (ℕ × ℕ)
 doubled records = doubled_after [] records
 
--- a record before entries, in their place, or behind the first of them, by how it compares with that one
+-- a record before entries, in their place, or behind the first of them, by how it compares with that
+-- one
 abbrev pub placed : Ordering → Record → Record → List Record → List Record → List Record
 placed Less r e es behind = r ∷ e ∷ es
 placed Equal r e es behind = e ∷ es

@@ -3,3 +3,13 @@ pub mod Numbered
 pub mod Runs
 pub mod Tree
 pub mod Links
+pub mod Extents
+pub mod Known
+pub mod Up
+pub mod Groups
+pub mod GroupLists
+pub mod RunLists
+pub mod Kept
+pub mod Selection
+pub mod Jobs
+pub mod LiveLists

@@ -5,7 +5,7 @@ use Rattle.std.specs.Cmp.Lexicographic.{lists_total, nat_list_cmp_total}
 use Rattle.std.specs.Ordering.{nat_cmp, then_cmp, on}
 use Rattle.std.specs.declared.cmp.Ordering.{Ordering}
 use Rattle.label_base.specs.Path.{path_cmp}
-use Rattle.find_records.specs.declared.record.Record.{Record}
+use Rattle.find_records.specs.Record.{Record}
 
 pub record Numbered : Type 0 where
   pub number : ℕ
@@ -16,7 +16,9 @@ abbrev pub numbered_cmp : Numbered → Numbered → Ordering
 numbered_cmp = then_cmp (on (λ n. n.item.path) path_cmp) (on (λ n. n.number) nat_cmp)
 
 pub numbered_total : IsTotalOrder numbered_cmp
-numbered_total = then_total (on_total (λ n. n.item.path) (lists_total nat_list_cmp_total)) (on_total (λ n. n.number) nat_cmp_total)
+numbered_total =
+    then_total (on_total (λ n. n.item.path) (lists_total nat_list_cmp_total))
+    (on_total (λ n. n.number) nat_cmp_total)
 
 -- the records with their numbers, from n on
 abbrev pub numbered_from : ℕ → List Record → List Numbered

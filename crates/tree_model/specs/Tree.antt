@@ -1,11 +1,11 @@
 -- What a tree tells of its entries.
-use Rattle.std.specs.Prelude.{◌≡◌, ℕ, ◌<◌, ◌^◌, Bool, List, [], ◌∷◌, length, map, get_or, Option, Some, None, is_some}
+use Rattle.std.specs.Prelude.{◌≡◌, ℕ, ◌<◌, ◌≤◌, ◌^◌, Bool, List, [], ◌∷◌, length, map, get_or, Option, Some, None}
 use Rattle.std.specs.List.{AllPairs, position}
 use Rattle.std.specs.declared.cmp.Ordering.TheVariants.{Less}
 use Rattle.label_base.specs.Path.{Path, path_cmp}
 use Rattle.label_base.specs.declared.kind.EntryKind.TheVariants.{Regular}
 use Rattle.context_syntax.specs.declared.label.Label.TheVariants.{Absent}
-use Rattle.find_records.specs.declared.record.Record.{Record}
+use Rattle.find_records.specs.Record.{Record}
 use Rattle.tree_model.specs.Entries.{same_path}
 use Rattle.tree_model.specs.declared.fault.TreeFault.{TreeFault}
 use Rattle.tree_model.specs.declared.fault.TreeFault.TheVariants.{Doubled, OutOfMemory}
@@ -31,7 +31,8 @@ AreWithin count (place ∷ places) = (place < count) × AreWithin count places
 abbrev pub path_in : Path → List Record → ℕ → Path
 path_in root records place = get_or (map (λ r. r.path) records) place root
 
--- places of records that are the entries of a tree: in the order of their paths, and few enough to be numbered in 32 bits
+-- places of records that are the entries of a tree: in the order of their paths, and few enough to be
+-- numbered in 32 bits
 pub record IsTree (records : List Record) (places : List ℕ) (root : Path) : Type 0 where
   pub by_path : ByPath (entries_in records places)
   pub within : AreWithin (length records) places
@@ -46,10 +47,13 @@ tree_cause OutOfMemory = None
 abbrev pub is_at : Path → Record → Bool
 is_at path entry = same_path entry.path path
 
+-- the index of the first entry whose path is not before this one
+pub record IsFrom (path : Path) (entries : List Record) (first : ℕ) : Type 0 where
+  pub upto : first ≤ length entries
+  pub before : (e : ℕ) → e < first → path_cmp (get_or entries e no_record).path path ≡ Less
+  pub behind : (e : ℕ) → first ≤ e → e < length entries
+      → path_cmp (get_or entries e no_record).path path ≡ Less → ⊥
+
 -- the place of the entry with this path
 abbrev pub find_in : Path → List Record → Option ℕ
 find_in path entries = position (is_at path) entries
-
--- an entry has the path /
-abbrev pub has_root : List Record → Bool
-has_root entries = is_some (find_in [] entries)

@@ -1,14 +1,24 @@
 //! The tree of the entries that records tell.
 #![tactic(auto)]
 
+mod admit;
 mod building;
+mod closed;
+mod exclude;
+mod extents;
 mod fault;
-mod links;
+mod groups;
+mod guess;
+mod jobs;
+mod marks;
 mod numbered;
 mod same;
+mod selection;
+mod sorted;
 mod tree;
 
 pub use fault::TreeFault;
+pub use selection::{Choice, Selected};
 pub use tree::Tree;
 
 #[cfg(test)]

@@ -1,56 +1,63 @@
 ghost use Rattle.std.specs.Cmp.{eq_by_cmp_equiv, partial_equiv_from_equiv, po};
 ghost use Rattle.std.specs.Cmp.Rules.{comparing};
 ghost use Rattle.std.specs.Ordering.{as_partial_cmp, eq_by_cmp};
-ghost use Rattle.std.specs.Prelude.{◌≡◌, refl};
+ghost use Rattle.std.specs.Prelude.{◌≡◌, ◌<◌, ◌≤◌, length, refl};
 ghost use Rattle.tree_model.specs.Numbered.{numbered_cmp, numbered_total};
 ghost use Rattle.tree_model.specs.Runs.{same_place};
+ghost use Rattle.find_records.specs.Entry.{entry_of};
+ghost use Rattle.tree_model.specs.Known.{with_number};
 
-use find_records::Record;
+use find_records::{Entry, Records};
 use label_base::PathKey;
 use std::cmp::Ordering;
 use std::marker::Model;
 
-/// A record and its number. Such are ordered by their paths, and those of one path by their numbers.
-#[derive(Debug, Drop)]
+/// A record and its number, from 1 on. Such are ordered by their paths, and those of one path by their
+/// numbers.
+#[derive(Drop)]
 pub struct Numbered<'a> {
     // The record's path.
     key: PathKey<'a>,
     number: u32,
-    item: &'a Record,
+    records: &'a Records,
 }
 
 impl<'a> Model for Numbered<'a> {
-    ghost use Rattle.std.specs.Prelude.{◌≡◌};
     ghost use Rattle.tree_model.specs.Numbered.{Numbered};
+    ghost use Rattle.tree_model.specs.Known.{IsKnown, with_number};
 
     ghost Value = { Numbered };
 
-    ghost view = { λ n. record { number = n.number; item = n.item.now } };
+    ghost view = { λ n. with_number n.records.now n.number };
 
-    ghost invariant = { λ n. n.key ≡ n.item.now.path };
+    ghost invariant = { λ n. IsKnown n.key n.number n.records.now };
 }
 
 impl<'a> Numbered<'a> {
-    pub fn new(number: u32, item: &'a Record) -> Numbered<'a>
-        ensures { result ≡ record { number = number; item = item.now } }
+    pub fn new(records: &'a Records, number: u32) -> Numbered<'a>
+        requires low { 1 ≤ number }
+        requires high { number ≤ length records.now }
+        ensures { result ≡ with_number records.now number }
     {
+        let entry = records.entry(number - 1);
         Numbered {
-            key: item.path.key(),
+            key: entry.path.key(),
             number,
-            item,
+            records,
         }
     }
 
     pub fn number(&self) -> u32
-        ensures { result ≡ self.now.number }
+        ensures value { result ≡ self.now.number }
+        ensures low { 1 ≤ result }
     {
         self.number
     }
 
-    pub fn item(&self) -> &Record
-        ensures { result.now ≡ self.now.item }
+    pub fn entry(&self) -> Entry<'a>
+        ensures { entry_of result ≡ self.now.item }
     {
-        self.item
+        self.records.entry(self.number - 1)
     }
 
     pub fn is_same_place(&self, other: &Numbered<'a>) -> bool

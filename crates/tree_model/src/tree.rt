@@ -1,68 +1,74 @@
-ghost use Rattle.std.specs.Prelude.{◌≡◌, ◌↔◌, ℕ, ◌<◌, ◌^◌, ◌-◌, IfOk, Some, length, slice_get};
+ghost use Rattle.std.specs.Prelude.{◌≡◌, ◌↔◌, ℕ, ◌<◌, ◌≤◌, ◌^◌, ◌&&◌, nat_le, nat_lt, IfOk, IfSome, Some, length, slice_get};
 ghost use Rattle.std.specs.List.{Contains};
 ghost use Rattle.label_base.specs.Answers.{Answers};
-ghost use Rattle.find_records.specs.declared.record.Record.{Record};
+ghost use Rattle.label_base.specs.PathRef.{path_of};
+ghost use Rattle.find_records.specs.Entry.{entry_of};
+ghost use Rattle.find_records.specs.Record.{Record};
 ghost use Rattle.tree_model.specs.Entries.{tree_of};
-ghost use Rattle.tree_model.specs.Links.{has_links};
-ghost use Rattle.tree_model.specs.Tree.{ByPath, tree_cause, find_in, has_root, path_in};
+ghost use Rattle.tree_model.specs.Extents.{extent_of, in_extent, parent_of};
+ghost use Rattle.tree_model.specs.Groups.{closed_at, group_of, groups_in, label_in, names_in};
+ghost use Rattle.tree_model.specs.Jobs.{shape_of};
+ghost use Rattle.tree_model.specs.Selection.{selected_by};
+ghost use Rattle.tree_model.specs.Tree.{ByPath, tree_cause, find_in};
+ghost use Rattle.walk_steps.specs.Shaped.{IsValid};
 
-use crate::building::order_of;
+use crate::extents::{all_ends, all_parents, parent_told, word_at};
 use crate::fault::TreeFault;
-use crate::links::has_two_names;
-use find_records::Record;
-use label_base::{NormPath, OutOfMemory, Row};
+use crate::groups::{Groups, flag_at, make_groups, part_at};
+use crate::jobs::shape_in;
+use crate::selection::{Choice, Selected, select_in};
+use crate::sorted::Sorted;
+use context_syntax::Label;
+use find_records::{Entry, Records};
+use label_base::{OutOfMemory, PathRef};
 use std::alloc::Global;
 use std::marker::Model;
+use walk_steps::Shape;
 
 /// The entries of a tree, seen as their list in the order of their paths.
-#[derive(Debug, Drop)]
+#[derive(Drop)]
 pub struct Tree {
-    // In the order in which they were given, so that none is moved.
-    records: Row<Record>,
-    // The places of the entries among the records.
-    order: Vec<u32>,
-    // The path `/`, to be compared with.
-    root: NormPath,
+    sorted: Sorted,
+    // The extent of each entry.
+    ends: Vec<u32>,
+    // A word for each entry, which tells its parent.
+    parents: Vec<u32>,
+    groups: Groups,
 }
 
 impl Model for Tree {
     ghost use Rattle.std.specs.Prelude.{List};
-    ghost use Rattle.find_records.specs.declared.record.Record.{Record};
-    ghost use Rattle.tree_model.specs.Tree.{IsTree, entries_in};
+    ghost use Rattle.find_records.specs.Record.{Record};
+    ghost use Rattle.tree_model.specs.Kept.{IsKept};
 
     ghost Value = { List Record };
 
-    ghost view = { λ t. entries_in t.records t.order.items };
+    ghost view = { λ t. t.sorted };
 
-    ghost invariant = { λ t. IsTree t.records t.order.items t.root };
-}
-
-// The path of the record at a place.
-fn path_in<'a>(records: &'a [Record], root: &'a NormPath, place: u32) -> &'a NormPath
-    ensures { result.now ≡ path_in root.now records.now place }
-{
-    match records.get(place as usize) {
-        Some(record) => &record.path,
-        None => root,
-    }
+    ghost invariant = { λ t. IsKept t.sorted t.ends.items t.parents.items t.groups };
 }
 
 impl Tree {
-    /// The tree of records, as find(1) finds them: in the order of their paths, and each record once, however
-    /// often it is given.
+    /// The tree of records, as find(1) finds them: in the order of their paths, and each record once,
+    /// however often it is given. There must be fewer than 2^32 of them.
     ///
-    /// Two records of one path that differ make no tree.
-    pub fn new(alloc: Global, records: Row<Record>) -> Result<Tree, TreeFault>
+    /// Two records of one path that differ make no tree: [`TreeFault::Doubled`]. Want of memory is the
+    /// only other fault.
+    pub fn new(alloc: Global, records: Records) -> Result<Tree, TreeFault>
         requires { length records < 2 ^ 32 }
         ensures answer { Answers (λ tree. tree) tree_cause result (tree_of records) }
         ensures by_path { IfOk result (λ tree. ByPath tree) }
         ensures same { IfOk result (λ tree. (r : Record) → Contains tree r ↔ Contains records r) }
     {
-        let order = order_of(alloc, records.as_slice())?;
+        let sorted = Sorted::new(alloc, records)?;
+        let ends = all_ends(alloc, &sorted)?;
+        let parents = all_parents(alloc, &sorted, ends.as_slice())?;
+        let groups = make_groups(alloc, &sorted, ends.as_slice())?;
         Ok(Tree {
-            records,
-            order,
-            root: NormPath::root(alloc),
+            sorted,
+            ends,
+            parents,
+            groups,
         })
     }
 
@@ -70,44 +76,109 @@ impl Tree {
     pub fn len(&self) -> u32
         ensures { result ≡ length self.now }
     {
-        self.order.len() as u32
+        self.sorted.len()
     }
 
-    /// The entry at a place.
-    pub fn entry(&self, e: u32) -> &Record
+    /// The entry with an index.
+    pub fn entry(&self, e: u32) -> Entry<'_>
         requires { e < length self.now }
-        ensures { slice_get self.now e ≡ Some result.now }
+        ensures { slice_get self.now e ≡ Some (entry_of result) }
     {
-        self.records.get(self.order[e as usize] as usize)
+        self.sorted.entry(e)
     }
 
-    /// The place of the entry with a path.
-    pub fn find(&self, path: &NormPath) -> Option<u32>
-        ensures { result ≡ find_in path.now self.now }
+    /// The index of the entry with a path.
+    pub fn find(&self, path: &PathRef<'_>) -> Option<u32>
+        ensures { result ≡ find_in (path_of path.now) self.now }
     {
-        let records = self.records.as_slice();
-        let root = &self.root;
-        match self
-            .order
-            .as_slice()
-            .binary_search_by(|place| path_in(records, root, *place).cmp(path))
-        {
-            Ok(at) => Some(at as u32),
-            Err(_) => None,
-        }
+        self.sorted.find(path)
     }
 
-    /// Whether an entry has the path `/`.
-    pub fn has_root(&self) -> bool
-        ensures { result ≡ has_root self.now }
+    /// The index of the nearest directory above an entry, if the tree has one. It is made once, and this
+    /// looks at it.
+    pub fn parent(&self, e: u32) -> Option<u32>
+        requires { e < length self.now }
+        ensures value { result ≡ parent_of self.now e }
+        ensures before { IfSome result (λ d. d < e) }
     {
-        self.find(&self.root).is_some()
+        parent_told(word_at(self.parents.as_slice(), e))
     }
 
-    /// Whether two entries are names of one inode: have one device and one inode number.
-    pub fn has_hard_links(&self, alloc: Global) -> Result<bool, OutOfMemory>
-        ensures { IfOk result (λ has. has ≡ has_links self.now) }
+    /// One more than the index of the last entry at or below an entry: those from it up to there are just
+    /// the entries at or below it. It is made once, and this looks at it.
+    pub fn extent(&self, d: u32) -> u32
+        requires { d < length self.now }
+        ensures value { result ≡ extent_of self.now d }
+        ensures behind { d < result }
+        ensures within { result ≤ length self.now }
+        ensures run { (e : ℕ) → e < length self.now
+            → in_extent self.now d e ≡ (nat_le d e && nat_lt e result) }
     {
-        has_two_names(alloc, self)
+        word_at(self.ends.as_slice(), d)
+    }
+
+    /// How many groups there are. A group is all entries of one device and one inode.
+    pub fn groups(&self) -> u32
+        ensures { result ≡ groups_in self.now }
+    {
+        self.groups.total
+    }
+
+    /// The group of an entry. Groups are numbered by their first entries.
+    pub fn group(&self, e: u32) -> u32
+        requires { e < length self.now }
+        ensures value { result ≡ group_of self.now e }
+        ensures within { result < groups_in self.now }
+    {
+        word_at(self.groups.group_of.as_slice(), e)
+    }
+
+    /// The entries of a group, which are the names of its inode, in ascending order. There is one at
+    /// least.
+    pub fn names_of(&self, g: u32) -> &[u32]
+        requires { g < groups_in self.now }
+        ensures value { result.now ≡ names_in self.now g }
+        ensures some { 0 < length result.now }
+    {
+        part_at(
+            self.groups.names.as_slice(),
+            self.groups.starts.as_slice(),
+            g,
+        )
+    }
+
+    /// The label of a group, which is that of its first entry.
+    pub fn label(&self, g: u32) -> &Label
+        requires { g < groups_in self.now }
+        ensures { result.now ≡ label_in self.now g }
+    {
+        let first = word_at(self.names_of(g), 0);
+        self.entry(first).label
+    }
+
+    /// Whether all entries of the groups that have one at or below an entry are at or below it.
+    pub fn closed(&self, d: u32) -> bool
+        requires { d < length self.now }
+        ensures { result ≡ closed_at self.now d }
+    {
+        flag_at(self.groups.closed.as_slice(), d)
+    }
+
+    /// The entries that a choice means.
+    pub fn select(&self, alloc: Global, choice: &Choice) -> Result<Selected, OutOfMemory>
+        requires { length choice.now.operands < 2 ^ 32 }
+        ensures value { IfOk result (λ selected. selected ≡ selected_by choice.now self.now) }
+        ensures count { IfOk result (λ selected. length selected.live ≡ length self.now) }
+    {
+        select_in(alloc, &self.sorted, self.ends.as_slice(), choice)
+    }
+
+    /// The tree as workers see it: a job for each directory, numbered from 1 in their order, and job 0,
+    /// which holds all entries without a parent.
+    pub fn shape(&self, alloc: Global) -> Result<Shape, OutOfMemory>
+        ensures value { IfOk result (λ shape. shape ≡ shape_of self.now) }
+        ensures valid { IfOk result (λ shape. IsValid shape) }
+    {
+        shape_in(alloc, &self.sorted, self.parents.as_slice(), &self.groups)
     }
 }

@@ -1,10 +1,8 @@
-use Rattle.std.proofs.Common.{arith}
-use Rattle.tree_model.proofs.PlaceLemmas.{numbered_next}
+use Rattle.std.proofs.Common.{◌∙◌, ap, ◌++◌, ◌∷◌, [], arith}
+use Rattle.tree_model.proofs.KnownLemmas.{next_numbered}
 use Rattle.tree_model.proofs.building.number_all.Goals as goal
 
 pub records-preserved : goal.records-preserved
 records-preserved c =
-    record {
-      count = omega (arith, c.records.invariant.count);
-      all = numbered_next c.args.records.now c.records.item-index c.records.number c.item-item.result c.records.all.items c.push.new.self.items c.records-test.true c.item-item.is c.records.invariant.count c.records.invariant.all (rw (← c.new.ensures) c.in_ok-push.ensures.items);
-    }
+    next_numbered c.args.records.now c.records.place c.records.all.items c.push.new.self.items (omega (arith, c.records-test.true, c.len-place-end.ensures)) c.records.invariant
+    (c.in_ok-push.ensures.items ∙ ap (λ x. c.records.all.items ++ x ∷ []) c.new.ensures)

@@ -1,0 +1,50 @@
+-- Groups: the entries of one device and one inode. They are numbered by their first entries.
+use Rattle.std.specs.Prelude.{ℕ, Bool, ◌==◌, List, [], ◌∷◌, ◌++◌, length, map, filter, Option, Some, None, if◌then◌else◌}
+use Rattle.std.specs.List.{list_any, position_or_len}
+use Rattle.label_base.specs.Bounded.{all_below, all_numbers, least_below, implies}
+use Rattle.context_syntax.specs.declared.label.Label.{Label}
+use Rattle.context_syntax.specs.declared.label.Label.TheVariants.{Absent}
+use Rattle.find_records.specs.Record.{Record}
+use Rattle.tree_model.specs.Extents.{entry_at, in_extent}
+use Rattle.tree_model.specs.Links.{inode_of, same_inode}
+
+-- one inode more behind the others, unless it is there
+abbrev pub with_inode : List (ℕ × ℕ) → ℕ × ℕ → List (ℕ × ℕ)
+with_inode seen inode = if list_any (same_inode inode) seen then seen else seen ++ inode ∷ []
+
+-- those seen, and behind them the others, each once
+abbrev pub inodes_behind : List (ℕ × ℕ) → List (ℕ × ℕ) → List (ℕ × ℕ)
+inodes_behind seen [] = seen
+inodes_behind seen (inode ∷ inodes) = inodes_behind (with_inode seen inode) inodes
+
+-- each device and inode once, in the order of their first entries
+abbrev pub inodes_of : List Record → List (ℕ × ℕ)
+inodes_of entries = inodes_behind [] (map inode_of entries)
+
+-- where the entry's inode stands among them
+abbrev pub group_of : List Record → ℕ → ℕ
+group_of entries e =
+    position_or_len (same_inode (inode_of (entry_at entries e))) (inodes_of entries)
+
+-- how many groups there are
+abbrev pub groups_in : List Record → ℕ
+groups_in entries = length (inodes_of entries)
+
+-- the entries of the group, in ascending order
+abbrev pub names_in : List Record → ℕ → List ℕ
+names_in entries g = filter (λ e. group_of entries e == g) (all_numbers (length entries))
+
+abbrev pub label_at : List Record → Option ℕ → Label
+label_at entries None = Absent
+label_at entries (Some e) = (entry_at entries e).label
+
+-- the label of the least entry of the group; without one, none
+abbrev pub label_in : List Record → ℕ → Label
+label_in entries g = label_at entries (least_below (length entries) (λ e. group_of entries e == g))
+
+-- every group that has an entry at or below d has all its entries there
+abbrev pub closed_at : List Record → ℕ → Bool
+closed_at entries d =
+    all_below (length entries) (λ e. implies (in_extent entries d e)
+    (all_below (length entries) (λ x.
+    implies (group_of entries x == group_of entries e) (in_extent entries d x))))

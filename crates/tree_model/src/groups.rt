@@ -1,0 +1,242 @@
+ghost use Rattle.std.specs.Prelude.{◌≡◌, ◌+◌, ◌-◌, ◌<◌, ◌≤◌, ◌^◌, ◌++◌, [], false, length, take, drop, map, get_or, IfOk, OnOk};
+ghost use Rattle.std.specs.List.{position_or_len};
+ghost use Rattle.tree_model.specs.GroupLists.{AreGroups, AreHeads, AreNext, AreStarts, groups_behind, names_at, names_below, next_at};
+ghost use Rattle.tree_model.specs.Groups.{groups_in, with_inode};
+ghost use Rattle.tree_model.specs.Kept.{KeepsGroups};
+ghost use Rattle.tree_model.specs.Links.{inode_of, same_inode};
+ghost use Rattle.tree_model.specs.Extents.{EndsFrom};
+ghost use Rattle.tree_model.specs.Tree.{ByPath};
+
+use crate::closed::closed_by;
+use crate::sorted::Sorted;
+use indexmap::IndexSet;
+use label_base::OutOfMemory;
+use std::alloc::Global;
+
+/// An inode by its device and its number there.
+pub type Inode = (u64, u64);
+
+/// The group of each entry, and how many groups there are.
+#[derive(Drop)]
+pub struct Numbering {
+    pub group_of: Vec<u32>,
+    pub count: u32,
+}
+
+// The number of an inode, which is added behind the others if it is new.
+fn number_of(seen: &mut IndexSet<Inode>, inode: Inode) -> Result<usize, OutOfMemory>
+    ensures number { IfOk result (λ number.
+        number ≡ position_or_len (same_inode inode) seen.old.keys) }
+    ensures seen { OnOk result (seen.new.keys ≡ with_inode seen.old.keys inode) }
+{
+    let (number, _) = seen.insert_full(inode)?;
+    Ok(number)
+}
+
+/// Numbers the groups by their first entries.
+pub fn number_groups(alloc: Global, sorted: &Sorted) -> Result<Numbering, OutOfMemory>
+    ensures groups { IfOk result (λ numbering.
+        numbering.group_of.items ≡ groups_behind [] (map inode_of sorted.now)) }
+    ensures count { IfOk result (λ numbering. numbering.count ≡ groups_in sorted.now) }
+    ensures sized { IfOk result (λ numbering.
+        length numbering.group_of.items ≡ length sorted.now) }
+    ensures inside { IfOk result (λ numbering.
+        AreGroups numbering.count numbering.group_of.items) }
+{
+    let mut seen = IndexSet::new(alloc);
+    let mut group_of = Vec::with_capacity(alloc, sorted.len() as usize)?;
+    'entries: for e in 0..sorted.len() {
+        let entry = sorted.entry(e);
+        let group = number_of(&mut seen, (entry.device, entry.inode))?;
+        group_of.push(group as u32)?;
+    }
+    Ok(Numbering {
+        group_of,
+        count: seen.len() as u32,
+    })
+}
+
+// The first entry of each group, and for each entry the next one of its group. Where there is none, the
+// number of entries.
+#[derive(Drop)]
+pub struct Chains {
+    pub first: Vec<u32>,
+    pub next: Vec<u32>,
+}
+
+// Puts an entry before the others of its group.
+#[tactic(auto, using(crate::proofs::NameLemmas::head_put, crate::proofs::NameLemmas::next_put))]
+fn put_first(first: &mut Vec<u32>, next: &mut Vec<u32>, groups: &[u32], e: u32)
+    requires groups { AreGroups (length first.old.items) groups.now }
+    requires within { e < length groups.now }
+    requires first { AreHeads groups.now (e + 1) first.old.items }
+    requires next { AreNext groups.now (e + 1) next.old.items }
+    ensures count { length first.new.items ≡ length first.old.items }
+    ensures first { AreHeads groups.now e first.new.items }
+    ensures next { AreNext groups.now e next.new.items }
+{
+    let group = groups[e as usize] as usize;
+    next[e as usize] = first[group];
+    first[group] = e;
+}
+
+#[tactic(auto, using(crate::proofs::NameLemmas::heads_none, crate::proofs::NameLemmas::next_none))]
+pub fn make_chains(alloc: Global, groups: &[u32], count: u32) -> Result<Chains, OutOfMemory>
+    requires { AreGroups count groups.now }
+    ensures count { IfOk result (λ chains. length chains.first.items ≡ count) }
+    ensures first { IfOk result (λ chains. AreHeads groups.now 0 chains.first.items) }
+    ensures next { IfOk result (λ chains. AreNext groups.now 0 chains.next.items) }
+{
+    let end = groups.len() as u32;
+    let mut first = vec![in alloc; end; count as usize]?;
+    let mut next = vec![in alloc; end; groups.len()]?;
+    let mut place = end;
+    'entries: while place > 0 {
+        place -= 1;
+        put_first(&mut first, &mut next, groups, place);
+    }
+    Ok(Chains { first, next })
+}
+
+// Adds an entry and those behind it of its group.
+#[tactic(auto, using(crate::proofs::NameLemmas::next_is))]
+fn push_names(
+    names: &mut Vec<u32>,
+    next: &[u32],
+    groups: &[u32],
+    group: u32,
+    first: u32,
+) -> Result<(), OutOfMemory>
+    requires groups { length groups.now < 2 ^ 32 }
+    requires next { AreNext groups.now 0 next.now }
+    requires first { first ≡ next_at groups.now 0 group }
+    ensures { OnOk result (names.new.items ≡ names.old.items ++ names_at groups.now 0 group) }
+{
+    let mut e = first;
+    'names: while (e as usize) < next.len() {
+        names.push(e)?;
+        e = next[e as usize];
+    }
+    Ok(())
+}
+
+/// The entries of all groups, one group behind the other, and where those of each group begin; at last,
+/// how many entries there are.
+#[derive(Drop)]
+pub struct Names {
+    pub names: Vec<u32>,
+    pub starts: Vec<u32>,
+}
+
+// Notes where the entries of a group begin, and adds them.
+#[tactic(auto, using(crate::proofs::StartLemmas::start_next, crate::proofs::StartLemmas::few_below))]
+fn push_group(
+    kept: &mut Names,
+    chains: &Chains,
+    groups: &[u32],
+    group: u32,
+) -> Result<(), OutOfMemory>
+    requires groups { length groups.now < 2 ^ 32 }
+    requires within { group < length chains.now.first.items }
+    requires first { AreHeads groups.now 0 chains.now.first.items }
+    requires next { AreNext groups.now 0 chains.now.next.items }
+    requires names { kept.old.names.items ≡ names_below groups.now group }
+    requires starts { AreStarts groups.now group kept.old.starts.items }
+    ensures names { OnOk result (kept.new.names.items ≡ names_below groups.now (group + 1)) }
+    ensures starts { OnOk result (AreStarts groups.now (group + 1) kept.new.starts.items) }
+{
+    kept.starts.push(kept.names.len() as u32)?;
+    let first = chains.first[group as usize];
+    push_names(
+        &mut kept.names,
+        chains.next.as_slice(),
+        groups,
+        group,
+        first,
+    )
+}
+
+/// Lists the entries group by group.
+#[tactic(auto, using(crate::proofs::StartLemmas::start_next, crate::proofs::StartLemmas::few_below))]
+pub fn list_names(alloc: Global, chains: &Chains, groups: &[u32]) -> Result<Names, OutOfMemory>
+    requires groups { length groups.now < 2 ^ 32 }
+    requires count { length chains.now.first.items < 2 ^ 32 }
+    requires first { AreHeads groups.now 0 chains.now.first.items }
+    requires next { AreNext groups.now 0 chains.now.next.items }
+    ensures names { IfOk result (λ kept.
+        kept.names.items ≡ names_below groups.now (length chains.now.first.items)) }
+    ensures starts { IfOk result (λ kept.
+        AreStarts groups.now (length chains.now.first.items + 1) kept.starts.items) }
+{
+    let count = chains.first.len() as u32;
+    let mut kept = Names {
+        names: Vec::with_capacity(alloc, groups.len())?,
+        starts: Vec::with_capacity(alloc, count as usize + 1)?,
+    };
+    'groups: for group in 0..count {
+        push_group(&mut kept, chains, groups, group)?;
+    }
+    kept.starts.push(kept.names.len() as u32)?;
+    Ok(kept)
+}
+
+/// What a tree keeps of its groups.
+#[derive(Drop)]
+pub struct Groups {
+    /// How many there are.
+    pub total: u32,
+    /// The group of each entry.
+    pub group_of: Vec<u32>,
+    /// The entries of all groups, one group behind the other.
+    pub names: Vec<u32>,
+    /// Where the entries of each group begin among those; at last, how many entries there are.
+    pub starts: Vec<u32>,
+    /// For each entry whether its extent is closed.
+    pub closed: Vec<bool>,
+}
+
+/// The groups of entries, by their extents.
+pub fn make_groups(alloc: Global, sorted: &Sorted, ends: &[u32]) -> Result<Groups, OutOfMemory>
+    requires by_path { ByPath sorted.now }
+    requires ends { EndsFrom 0 sorted.now ends.now }
+    ensures { IfOk result (λ groups. KeepsGroups sorted.now groups.total
+        groups.group_of.items groups.names.items groups.starts.items groups.closed.items) }
+{
+    let numbering = number_groups(alloc, sorted)?;
+    let chains = make_chains(alloc, numbering.group_of.as_slice(), numbering.count)?;
+    let closed = closed_by(
+        alloc,
+        numbering.group_of.as_slice(),
+        ends,
+        chains.first.as_slice(),
+    )?;
+    let kept = list_names(alloc, &chains, numbering.group_of.as_slice())?;
+    Ok(Groups {
+        total: numbering.count,
+        group_of: numbering.group_of,
+        names: kept.names,
+        starts: kept.starts,
+        closed,
+    })
+}
+
+/// The part of the names that are those of a group.
+pub fn part_at<'a>(names: &'a [u32], starts: &[u32], g: u32) -> &'a [u32]
+    requires known { g + 1 < length starts.now }
+    requires order { get_or starts.now g 0 ≤ get_or starts.now (g + 1) 0 }
+    requires within { get_or starts.now (g + 1) 0 ≤ length names.now }
+    ensures { result.now ≡ take (get_or starts.now (g + 1) 0 - get_or starts.now g 0)
+        (drop (get_or starts.now g 0) names.now) }
+{
+    let from = starts[g as usize] as usize;
+    let to = starts[g as usize + 1] as usize;
+    &names[from..to]
+}
+
+/// The flag of an entry.
+pub fn flag_at(flags: &[bool], e: u32) -> bool
+    requires { e < length flags.now }
+    ensures { result ≡ get_or flags.now e false }
+{
+    flags[e as usize]
+}

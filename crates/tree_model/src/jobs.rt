@@ -1,0 +1,155 @@
+ghost use Rattle.std.specs.Prelude.{◌≡◌, ◌+◌, ◌<◌, ◌≤◌, ◌^◌, ◌++◌, ◌∷◌, [], if◌then◌else◌, length, map, filter, IfOk, IfSome, OnOk};
+ghost use Rattle.label_base.specs.Bounded.{all_numbers};
+ghost use Rattle.tree_model.specs.Extents.{ParentsTo, is_directory, parent_of};
+ghost use Rattle.tree_model.specs.Jobs.{AreJobs, directories_below, home_of, job_for, shape_of};
+ghost use Rattle.tree_model.specs.Kept.{KeepsGroups};
+ghost use Rattle.tree_model.specs.Tree.{ByPath};
+ghost use Rattle.walk_steps.specs.Shaped.{IsValid};
+
+use crate::extents::{parent_told, word_at};
+use crate::groups::Groups;
+use crate::sorted::Sorted;
+use label_base::{OutOfMemory, Row};
+use std::alloc::Global;
+use walk_steps::Shape;
+
+// How many directories there are up to an entry, by how many there are before it.
+#[tactic(auto, using(crate::proofs::JobLemmas::below_more, crate::proofs::JobLemmas::below_same, crate::proofs::JobLemmas::below_few))]
+fn count_with(sorted: &Sorted, e: u32, before: u32) -> u32
+    requires known { e < length sorted.now }
+    requires few { length sorted.now < 2 ^ 32 }
+    requires before { before ≡ directories_below sorted.now e }
+    ensures { result ≡ directories_below sorted.now (e + 1) }
+{
+    if sorted.is_directory(e) {
+        before + 1
+    } else {
+        before
+    }
+}
+
+// For each entry how many directories there are up to it.
+#[tactic(auto, using(crate::proofs::JobLemmas::jobs_next))]
+fn all_jobs(alloc: Global, sorted: &Sorted) -> Result<Vec<u32>, OutOfMemory>
+    ensures { IfOk result (λ jobs. AreJobs sorted.now (length sorted.now) jobs.items) }
+{
+    let mut jobs = Vec::with_capacity(alloc, sorted.len() as usize)?;
+    let mut count = 0u32;
+    'entries: for e in 0..sorted.len() {
+        count = count_with(sorted, e, count);
+        jobs.push(count)?;
+    }
+    Ok(jobs)
+}
+
+// The job that holds an entry.
+fn home_of(sorted: &Sorted, parents: &[u32], jobs: &[u32], e: u32) -> u32
+    requires by_path { ByPath sorted.now }
+    requires known { e < length sorted.now }
+    requires parents { ParentsTo (length sorted.now) sorted.now parents.now }
+    requires jobs { AreJobs sorted.now (length sorted.now) jobs.now }
+    ensures { result ≡ home_of sorted.now e }
+{
+    match parent_told(word_at(parents, e)) {
+        Some(d) => word_at(jobs, d),
+        None => 0,
+    }
+}
+
+// The job that holds each entry.
+#[tactic(auto, using(crate::proofs::JobLemmas::homes_more))]
+fn all_homes(
+    alloc: Global,
+    sorted: &Sorted,
+    parents: &[u32],
+    jobs: &[u32],
+) -> Result<Row<u32>, OutOfMemory>
+    requires by_path { ByPath sorted.now }
+    requires parents { ParentsTo (length sorted.now) sorted.now parents.now }
+    requires jobs { AreJobs sorted.now (length sorted.now) jobs.now }
+    ensures { IfOk result (λ homes.
+        homes ≡ map (home_of sorted.now) (all_numbers (length sorted.now))) }
+{
+    let mut homes = Row::new(alloc);
+    'entries: for e in 0..sorted.len() {
+        homes.push(home_of(sorted, parents, jobs, e))?;
+    }
+    Ok(homes)
+}
+
+// Adds the home of an entry, if that is a directory.
+fn push_parent(
+    sorted: &Sorted,
+    parents: &[u32],
+    jobs: &[u32],
+    e: u32,
+    to: &mut Row<u32>,
+) -> Result<(), OutOfMemory>
+    requires by_path { ByPath sorted.now }
+    requires known { e < length sorted.now }
+    requires parents { ParentsTo (length sorted.now) sorted.now parents.now }
+    requires jobs { AreJobs sorted.now (length sorted.now) jobs.now }
+    ensures { OnOk result (to.new ≡ (if is_directory sorted.now e
+        then to.old ++ home_of sorted.now e ∷ [] else to.old)) }
+{
+    if sorted.is_directory(e) {
+        to.push(home_of(sorted, parents, jobs, e))
+    } else {
+        Ok(())
+    }
+}
+
+// The job that holds each directory.
+#[tactic(auto, using(crate::proofs::JobLemmas::parents_more))]
+fn all_parents(
+    alloc: Global,
+    sorted: &Sorted,
+    parents: &[u32],
+    jobs: &[u32],
+) -> Result<Row<u32>, OutOfMemory>
+    requires by_path { ByPath sorted.now }
+    requires parents { ParentsTo (length sorted.now) sorted.now parents.now }
+    requires jobs { AreJobs sorted.now (length sorted.now) jobs.now }
+    ensures { IfOk result (λ all. all ≡ map (home_of sorted.now)
+        (filter (is_directory sorted.now) (all_numbers (length sorted.now)))) }
+{
+    let mut all = Row::new(alloc);
+    'entries: for e in 0..sorted.len() {
+        push_parent(sorted, parents, jobs, e, &mut all)?;
+    }
+    Ok(all)
+}
+
+// A row with these words.
+fn row_of(alloc: Global, words: &[u32]) -> Result<Row<u32>, OutOfMemory>
+    ensures { IfOk result (λ row. row ≡ words.now) }
+{
+    let mut row = Row::new(alloc);
+    'words: for word in words {
+        row.push(*word)?;
+    }
+    Ok(row)
+}
+
+/// The tree as workers see it, by the parents and the groups of its entries.
+pub fn shape_in(
+    alloc: Global,
+    sorted: &Sorted,
+    parents: &[u32],
+    groups: &Groups,
+) -> Result<Shape, OutOfMemory>
+    requires by_path { ByPath sorted.now }
+    requires parents { ParentsTo (length sorted.now) sorted.now parents.now }
+    requires groups { KeepsGroups sorted.now groups.now.total groups.now.group_of.items
+        groups.now.names.items groups.now.starts.items groups.now.closed.items }
+    ensures value { IfOk result (λ shape. shape ≡ shape_of sorted.now) }
+    ensures valid { IfOk result (λ shape. IsValid shape) }
+{
+    let jobs = all_jobs(alloc, sorted)?;
+    Ok(Shape {
+        parents: all_parents(alloc, sorted, parents, jobs.as_slice())?,
+        homes: all_homes(alloc, sorted, parents, jobs.as_slice())?,
+        group_of: row_of(alloc, groups.group_of.as_slice())?,
+        groups: groups.total,
+    })
+}

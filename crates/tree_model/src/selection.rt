@@ -1,0 +1,157 @@
+ghost use Rattle.std.specs.Prelude.{◌≡◌, ◌+◌, ◌++◌, ◌<◌, ◌^◌, ◌&&◌, not, false, take, drop, length, get_or, IfOk, OnOk};
+ghost use Rattle.tree_model.specs.Extents.{EndsFrom};
+ghost use Rattle.tree_model.specs.LiveLists.{AreFlags};
+ghost use Rattle.tree_model.specs.Selection.{absent_from, is_admitted, is_excluded, is_live, selected_by, whole_at};
+ghost use Rattle.tree_model.specs.Tree.{ByPath};
+
+use crate::admit::mark_operand;
+use crate::exclude::clear_below;
+use crate::marks::all_dead;
+use crate::sorted::Sorted;
+use crate::tree::Tree;
+use label_base::{NormPath, OutOfMemory, Row};
+use std::alloc::Global;
+use std::marker::Model;
+
+/// Which entries of a tree are meant.
+#[derive(Debug, Drop)]
+pub struct Choice {
+    /// The paths that are named.
+    pub operands: Row<NormPath>,
+    /// The paths that are left out, with all below them.
+    pub excluded: Row<NormPath>,
+    /// Whether what lies below an operand is meant too.
+    pub recurse: bool,
+    /// Whether an entry is meant only where all from its operand down to it lie on the operand's
+    /// device.
+    pub one_device: bool,
+}
+
+/// The entries of a tree that are meant: they are live.
+#[derive(Debug, Drop)]
+pub struct Selected {
+    // For each entry the least index from it on of one that isn't live, or the number of entries.
+    dead: Vec<u32>,
+    absent: Row<u32>,
+}
+
+impl Model for Selected {
+    ghost use Rattle.tree_model.specs.LiveLists.{AreDead, live_of};
+    ghost use Rattle.tree_model.specs.Selection.{SelectedValue};
+
+    ghost Value = { SelectedValue };
+
+    ghost view = { λ s. record { live = live_of s.dead.items; absent = s.absent } };
+
+    ghost invariant = { λ s. AreDead (live_of s.dead.items) 0 s.dead.items };
+}
+
+// Marks what the operand with an index admits, or notes that no entry has its path.
+fn admit_operand(
+    sorted: &Sorted,
+    ends: &[u32],
+    choice: &Choice,
+    index: u32,
+    live: &mut Vec<bool>,
+    absent: &mut Row<u32>,
+) -> Result<(), OutOfMemory>
+    requires by_path { ByPath sorted.now }
+    requires ends { EndsFrom 0 sorted.now ends.now }
+    requires within { index < length choice.now.operands }
+    requires flags { AreFlags (length sorted.now)
+        (is_admitted choice.now sorted.now (take index choice.now.operands)) live.old.items }
+    ensures flags { AreFlags (length sorted.now)
+        (is_admitted choice.now sorted.now (take (index + 1) choice.now.operands)) live.new.items }
+    ensures absent { OnOk result (
+        absent.new ++ absent_from (index + 1) sorted.now (drop (index + 1) choice.now.operands)
+        ≡ absent.old ++ absent_from index sorted.now (drop index choice.now.operands)) }
+{
+    let path = choice.operands.get(index as usize).path();
+    match sorted.find(&path) {
+        Some(o) => {
+            mark_operand(sorted, ends, live, choice, o);
+            Ok(())
+        }
+        None => absent.push(index),
+    }
+}
+
+// Clears what is at or below the excluded path with an index.
+fn exclude_path(sorted: &Sorted, ends: &[u32], choice: &Choice, index: usize, live: &mut Vec<bool>)
+    requires by_path { ByPath sorted.now }
+    requires ends { EndsFrom 0 sorted.now ends.now }
+    requires within { index < length choice.now.excluded }
+    requires flags { AreFlags (length sorted.now)
+        (λ e. is_admitted choice.now sorted.now choice.now.operands e
+        && not (is_excluded sorted.now (take index choice.now.excluded) e)) live.old.items }
+    ensures { AreFlags (length sorted.now)
+        (λ e. is_admitted choice.now sorted.now choice.now.operands e
+        && not (is_excluded sorted.now (take (index + 1) choice.now.excluded) e)) live.new.items }
+{
+    let path = choice.excluded.get(index).path();
+    clear_below(sorted, ends, live, &path);
+}
+
+// Clears what is at or below the excluded paths.
+fn exclude_all(sorted: &Sorted, ends: &[u32], choice: &Choice, live: &mut Vec<bool>)
+    requires by_path { ByPath sorted.now }
+    requires ends { EndsFrom 0 sorted.now ends.now }
+    requires flags { AreFlags (length sorted.now)
+        (is_admitted choice.now sorted.now choice.now.operands) live.old.items }
+    ensures { AreFlags (length sorted.now) (is_live choice.now sorted.now) live.new.items }
+{
+    'paths: for index in 0..choice.excluded.len() {
+        exclude_path(sorted, ends, choice, index, live);
+    }
+}
+
+/// The entries that a choice means, by the extents of all entries.
+pub fn select_in(
+    alloc: Global,
+    sorted: &Sorted,
+    ends: &[u32],
+    choice: &Choice,
+) -> Result<Selected, OutOfMemory>
+    requires by_path { ByPath sorted.now }
+    requires ends { EndsFrom 0 sorted.now ends.now }
+    requires few { length choice.now.operands < 2 ^ 32 }
+    ensures value { IfOk result (λ selected. selected ≡ selected_by choice.now sorted.now) }
+    ensures count { IfOk result (λ selected. length selected.live ≡ length sorted.now) }
+{
+    let mut live = vec![in alloc; false; sorted.len() as usize]?;
+    let mut absent = Row::new(alloc);
+    'operands: for index in 0..choice.operands.len() as u32 {
+        admit_operand(sorted, ends, choice, index, &mut live, &mut absent)?;
+    }
+    exclude_all(sorted, ends, choice, &mut live);
+    let dead = all_dead(alloc, live.as_slice())?;
+    Ok(Selected { dead, absent })
+}
+
+impl Selected {
+    /// Whether an entry is meant.
+    #[tactic(auto, using(crate::proofs::DeadLemmas::live_read, crate::proofs::DeadLemmas::count_live))]
+    pub fn is_live(&self, e: u32) -> bool
+        requires { e < length self.now.live }
+        ensures { result ≡ get_or self.now.live e false }
+    {
+        self.dead[e as usize] != e
+    }
+
+    /// Whether the extent of an entry is closed, and all of it is meant, where this was selected from the
+    /// tree or from one that differs in labels alone.
+    pub fn is_whole(&self, tree: &Tree, d: u32) -> bool
+        requires known { d < length tree.now }
+        requires count { length self.now.live ≡ length tree.now }
+        ensures { result ≡ whole_at tree.now self.now.live d }
+    {
+        tree.closed(d) && tree.extent(d) <= self.dead[d as usize]
+    }
+
+    /// The indices of the operands that no entry has, in ascending order.
+    pub fn absent(&self) -> &Row<u32>
+        ensures { result.now ≡ self.now.absent }
+    {
+        &self.absent
+    }
+}
