@@ -1,7 +1,7 @@
 -- The substitution of the front of a path.
-use Rattle.std.specs.Prelude.{◌≡◌, Bool, true, false, ◌&&◌, ◌||◌, not, nat_lt, List, [], ◌∷◌, ◌++◌, length, drop, Option, Some, None, filter}
+use Rattle.std.specs.Prelude.{◌≡◌, Bool, true, false, ◌&&◌, ◌||◌, not, List, [], ◌∷◌, ◌++◌, length, drop, Option, Some, None, filter}
 use Rattle.std.specs.List.{last_or, list_any}
-use Rattle.label_base.specs.Path.{Path, at_or_below}
+use Rattle.label_base.specs.Path.{Path, at_or_below, strictly_below}
 
 pub record SubValue : Type 0 where
   pub source : Path
@@ -35,9 +35,6 @@ substituted first second path = by_last second (by_last first path)
 -- some line of the first stage covers the path, or some line of the second does
 abbrev pub is_covered : List SubValue → List SubValue → Path → Bool
 is_covered first second path = list_any (covers path) first || list_any (covers path) second
-
-abbrev pub strictly_below : Path → Path → Bool
-strictly_below path top = at_or_below path top && nat_lt (length top) (length path)
 
 -- the source of some line lies strictly below the path
 abbrev pub has_below : List SubValue → Path → Bool

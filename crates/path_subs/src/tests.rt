@@ -51,14 +51,14 @@ fn applies_both_stages(rt: HostRuntime) -> Result<(), Fail> {
         ("/myweb/a", "/var/run/web/a", true),
     ] {
         let path = NormPath::read(rt.alloc(), given.as_bytes())?;
-        let changed = subs.apply(rt.alloc(), &path)?;
+        let changed = subs.apply(rt.alloc(), &path.path())?;
         assert_eq!(rt;
             changed.text(rt.alloc())?.as_slice(),
             want.as_bytes(),
             "at {given}"
         );
         assert_eq!(rt;
-            subs.changed(rt.alloc(), &path)?.is_some(),
+            subs.changed(rt.alloc(), &path.path())?.is_some(),
             covered,
             "at {given}"
         );
@@ -81,7 +81,7 @@ fn knows_plain_paths(rt: HostRuntime) -> Result<(), Fail> {
         ("/x", true),
     ] {
         let path = NormPath::read(rt.alloc(), given.as_bytes())?;
-        assert_eq!(rt; subs.plain_at(&path), plain, "at {given}");
+        assert_eq!(rt; subs.plain_at(&path.path()), plain, "at {given}");
     }
     Ok(())
 }

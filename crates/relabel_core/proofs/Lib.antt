@@ -1,1 +1,6 @@
-pub mod WalkLemmas
+pub mod Settled
+pub mod PassLemmas
+pub mod NotedLemmas
+pub mod ReportLemmas
+pub mod CountLemmas
+pub mod SelectedLemmas

@@ -1,2 +1,9 @@
+pub mod Numbers
+pub mod Decide
+pub mod Verdicts
 pub mod Walk
-pub mod Lines
+pub mod OnePass
+pub mod LabelAfter
+pub mod Walked
+pub mod Answer
+pub mod Report

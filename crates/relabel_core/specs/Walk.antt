@@ -1,47 +1,245 @@
--- What one walk over a tree means: each entry by itself, no running state.
-use Rattle.std.specs.Prelude.{true, List, Option, Some, None, if◌then◌else◌}
+-- What one walk over a tree means. There is no running state: each definition speaks of one entry or
+-- one group.
+use Rattle.std.specs.Prelude.{ℕ, ◌+◌, Bool, false, ◌&&◌, ◌==◌, List, [], ◌++◌, length, filter, map, get_or, slice_get, Option, Some, None, is_some, option_and_then, if◌then◌else◌}
 use Rattle.std.specs.List.{filter_map}
-use Rattle.label_base.specs.Path.{path_text}
+use Rattle.label_base.specs.Bounded.{all_numbers, any_below, least_below}
+use Rattle.label_base.specs.Path.{Path, path_text}
 use Rattle.label_base.specs.declared.kind.Asked.TheVariants.{Of}
-use Rattle.context_syntax.specs.Context.{ContextValue}
-use Rattle.context_syntax.specs.Label.{same_label}
+use Rattle.context_syntax.specs.Context.{ContextValue, same_context}
 use Rattle.context_syntax.specs.declared.label.Label.{Label}
-use Rattle.context_syntax.specs.declared.label.Label.TheVariants.{Is}
+use Rattle.context_syntax.specs.declared.label.Label.TheVariants as label_kinds
 use Rattle.spec_reader.specs.SpecValue.{SpecValue}
 use Rattle.spec_reader.specs.declared.spec.Decision.{Decision}
 use Rattle.spec_reader.specs.declared.spec.Decision.TheVariants.{Leave, Give}
-use Rattle.spec_match.specs.LastMatch.{last_match}
+use Rattle.spec_match.specs.LastMatch.{last_index}
 use Rattle.path_subs.specs.Subs.{substituted}
-use Rattle.find_records.specs.declared.record.Record.{Record}
-use Rattle.report_text.specs.declared.message.Message.{Message}
-use Rattle.report_text.specs.declared.message.Message.TheVariants.{Relabel, NoDefault}
+use Rattle.find_records.specs.Record.{Record}
+use Rattle.tree_model.specs.Extents.{entry_at}
+use Rattle.tree_model.specs.Groups.{group_of, label_in}
+use Rattle.report_text.specs.Message.{MessageValue, Relabel, Customized, Conflict, NoDefault, Absent, NoMatches}
+use Rattle.relabel_core.specs.Decide as verdicts
+use Rattle.relabel_core.specs.Decide.{VerdictValue, label_by, verdict_for}
+use Rattle.relabel_core.specs.declared.options.Options.{Options}
 use Rattle.relabel_core.specs.declared.rules.Rules.{Rules}
 
--- the specification that decides an entry: the last match of its substituted path, for its kind
-unfoldable pub decided : Rules → Record → Option SpecValue
-decided rules entry = last_match (Of entry.kind) (path_text (substituted rules.subs.first rules.subs.second entry.path)) rules.rules
+-- What is walked. entries: the entries of the tree, in the order of their paths. live: for each entry
+-- whether the run is asked for it. absent: the operands without an entry, in their order.
+pub record Walk : Type 0 where
+  pub entries : List Record
+  pub live : List Bool
+  pub absent : List Path
+  pub rules : Rules
+  pub options : Options
 
--- the context that a label is to give way to, where the whole context is wanted
-abbrev pub change : Label → ContextValue → Option ContextValue
-change current wanted = if same_label current (Is wanted) then None else Some wanted
+abbrev pub count : Walk → ℕ
+count w = length w.entries
 
--- the message of an entry whose label is to change to this, when nothing is changed
-abbrev pub change_message : Record → Option ContextValue → Option Message
-change_message entry None = None
-change_message entry (Some context) = Some (Relabel entry.path entry.label context true)
+abbrev pub path_at : Walk → ℕ → Path
+path_at w e = (entry_at w.entries e).path
 
-abbrev pub decision_message : Record → Decision → Option Message
-decision_message entry Leave = None
-decision_message entry (Give wanted) = change_message entry (change entry.label wanted)
+-- the entry is looked at
+abbrev pub walked : Walk → ℕ → Bool
+walked w e = get_or w.live e false
 
-abbrev pub decided_message : Record → Option SpecValue → Option Message
-decided_message entry None = Some (NoDefault entry.path)
-decided_message entry (Some spec) = decision_message entry spec.decision
+abbrev pub one_if : Bool → ℕ
+one_if b = if b then 1 else 0
 
--- the message of an entry, if it has one
-abbrev pub entry_message : Rules → Record → Option Message
-entry_message rules entry = decided_message entry (decided rules entry)
+-- how many entries below n are looked at
+abbrev pub walked_below : Walk → ℕ → ℕ
+walked_below w n = length (filter (walked w) (all_numbers n))
 
--- the messages of a walk, in the order of the entries
-abbrev pub messages : Rules → List Record → List Message
-messages rules entries = filter_map (entry_message rules) entries
+-- ---- what is decided
+
+-- the index of the last specification for the entry's kind whose language holds its substituted
+-- path (selabel_file(5))
+unfoldable pub index_for : Rules → Record → Option ℕ
+index_for rules entry =
+    last_index (Of entry.kind)
+    (path_text (substituted rules.subs.first rules.subs.second entry.path)) rules.rules
+
+-- the index of the specification that decides an entry
+unfoldable pub deciding : Walk → ℕ → Option ℕ
+deciding w e = if walked w e then index_for w.rules (entry_at w.entries e) else None
+
+-- the context that a decision gives
+abbrev pub context_in : Decision → Option ContextValue
+context_in Leave = None
+context_in (Give context) = Some context
+
+-- the context that a specification gives
+abbrev pub given_by : SpecValue → Option ContextValue
+given_by spec = context_in spec.decision
+
+abbrev pub given_at : List SpecValue → Option ℕ → Option ContextValue
+given_at specs found = option_and_then given_by (option_and_then (slice_get specs) found)
+
+-- the context that is decided for an entry; none where nothing decides it, nor where its
+-- specification says <<none>>
+unfoldable pub wanted : Walk → ℕ → Option ContextValue
+wanted w e = given_at w.rules.rules (deciding w e)
+
+-- ---- which name of a group decides
+
+-- the entry is a name of the group, and a context is decided for it
+abbrev pub can_win : Walk → ℕ → ℕ → Bool
+can_win w g e = (group_of w.entries e == g) && is_some (wanted w e)
+
+-- the winner of a group: the first of its entries for which a context is decided
+unfoldable pub winner : Walk → ℕ → Option ℕ
+winner w g = least_below (count w) (can_win w g)
+
+-- ---- what follows from the winner of a group, where there is one
+
+abbrev pub verdict_where : Walk → ℕ → Option ContextValue → VerdictValue
+verdict_where w g None = verdicts.Keep
+verdict_where w g (Some context) =
+    verdict_for (label_in w.entries g) context w.options.force w.rules.types
+
+-- the verdict on the label of a group
+abbrev pub verdict_with : Walk → ℕ → Option ℕ → VerdictValue
+verdict_with w g found = verdict_where w g (option_and_then (wanted w) found)
+
+-- the label of a group after the walk
+abbrev pub new_label_with : Walk → ℕ → Option ℕ → Label
+new_label_with w g found =
+    if w.options.dry
+    then label_in w.entries g
+    else label_by (verdict_with w g found) (label_in w.entries g)
+
+abbrev pub is_at : Option ℕ → ℕ → Bool
+is_at None e = false
+is_at (Some k) e = k == e
+
+-- the label of an entry after the walk: its group's, which changes at the winner
+abbrev pub label_with : Walk → ℕ → Option ℕ → Label
+label_with w e found =
+    if is_at found e
+    then new_label_with w (group_of w.entries e) found
+    else label_in w.entries (group_of w.entries e)
+
+-- a label that is kept as customized is a context
+abbrev pub customized_line : Path → Label → Option MessageValue
+customized_line path label_kinds.Absent = None
+customized_line path (label_kinds.Odd bytes) = None
+customized_line path (label_kinds.Is context) = Some (Customized path context)
+
+-- the line of a verdict on a label, told at this path
+abbrev pub verdict_line : Path → Label → (dry : Bool) → VerdictValue → Option MessageValue
+verdict_line path label dry verdicts.Keep = None
+verdict_line path label dry verdicts.Customized = customized_line path label
+verdict_line path label dry (verdicts.Change context) = Some (Relabel path label context dry)
+
+-- the line of a group's winner
+abbrev pub winner_line : Walk → ℕ → Option ℕ → Option MessageValue
+winner_line w e found =
+    if w.options.verbose
+    then verdict_line (path_at w e) (label_in w.entries (group_of w.entries e)) w.options.dry
+    (verdict_with w (group_of w.entries e) found)
+    else None
+
+-- the line of a name that is decided to the one context, where its group's winner is decided to the
+-- other
+abbrev pub conflict_line : (first second : Path) (context used : Option ContextValue)
+    → Option MessageValue
+conflict_line first second None used = None
+conflict_line first second (Some context) None = None
+conflict_line first second (Some context) (Some used) =
+    if same_context context used then None else Some (Conflict first second used)
+
+-- the conflict of an entry with the winner of its group
+abbrev pub conflict_with : Walk → ℕ → Option ℕ → Option MessageValue
+conflict_with w e None = None
+conflict_with w e (Some k) = conflict_line (path_at w k) (path_at w e) (wanted w e) (wanted w k)
+
+-- the line of an entry that no specification decides
+abbrev pub no_default_line : Walk → ℕ → Option MessageValue
+no_default_line w e =
+    if w.options.verbose && walked w e then Some (NoDefault (path_at w e)) else None
+
+-- the line of an entry that a specification decides
+abbrev pub decided_line : Walk → ℕ → Option ℕ → Option MessageValue
+decided_line w e found = if is_at found e then winner_line w e found else conflict_with w e found
+
+-- the line of an entry that the specification at this index decides
+abbrev pub line_where : Walk → ℕ → Option ℕ → Option ℕ → Option MessageValue
+line_where w e found None = no_default_line w e
+line_where w e found (Some index) = decided_line w e found
+
+-- the line of an entry
+abbrev pub line_with : Walk → ℕ → Option ℕ → Option MessageValue
+line_with w e found = line_where w e found (deciding w e)
+
+-- ---- what the walk answers
+
+abbrev pub group_winner : Walk → ℕ → Option ℕ
+group_winner w e = winner w (group_of w.entries e)
+
+abbrev pub verdict : Walk → ℕ → VerdictValue
+verdict w g = verdict_with w g (winner w g)
+
+abbrev pub new_label : Walk → ℕ → Label
+new_label w g = new_label_with w g (winner w g)
+
+unfoldable pub label_after : Walk → ℕ → Label
+label_after w e = label_with w e (group_winner w e)
+
+-- the labels of the entries after the walk
+abbrev pub labels : Walk → List Label
+labels w = map (label_after w) (all_numbers (count w))
+
+unfoldable pub line : Walk → ℕ → Option MessageValue
+line w e = line_with w e (group_winner w e)
+
+-- the lines of the entries, in the order of the entries
+abbrev pub entry_lines : Walk → List MessageValue
+entry_lines w = filter_map (line w) (all_numbers (count w))
+
+-- the lines of the operands without an entry
+abbrev pub absent_lines : Walk → List MessageValue
+absent_lines w = if w.options.ignore_absent then [] else map Absent w.absent
+
+-- the specification at the index decides some entry
+abbrev pub has_decided : Walk → ℕ → Bool
+has_decided w i = any_below (count w) (λ e. is_at (deciding w e) i)
+
+abbrev pub no_matches : SpecValue → MessageValue
+no_matches spec = NoMatches spec.text spec.kind (given_by spec)
+
+abbrev pub line_of_spec : Option SpecValue → Option MessageValue
+line_of_spec None = None
+line_of_spec (Some spec) = Some (no_matches spec)
+
+-- the line of a specification that decides no entry
+abbrev pub unmatched_line : Walk → ℕ → Option MessageValue
+unmatched_line w i = if has_decided w i then None else line_of_spec (slice_get w.rules.rules i)
+
+-- the lines of the specifications that decide no entry, in the order of the list
+abbrev pub unmatched_lines : Walk → List MessageValue
+unmatched_lines w =
+    if w.options.warn_unmatched
+    then filter_map (unmatched_line w) (all_numbers (length w.rules.rules))
+    else []
+
+-- the messages of the walk
+abbrev pub messages : Walk → List MessageValue
+messages w = absent_lines w ++ entry_lines w ++ unmatched_lines w
+
+-- the entry is decided to another context than its group's winner
+abbrev pub has_conflict : Walk → ℕ → Bool
+has_conflict w e = is_some (conflict_with w e (group_winner w e))
+
+-- how many entries below n have a conflict
+abbrev pub conflicts_below : Walk → ℕ → ℕ
+conflicts_below w n = length (filter (has_conflict w) (all_numbers n))
+
+-- the operands without an entry count, unless they are ignored
+abbrev pub absent_errors : Walk → ℕ
+absent_errors w = if w.options.ignore_absent then 0 else length w.absent
+
+-- conflicts count where links are strict
+abbrev pub conflict_errors : Walk → ℕ
+conflict_errors w = if w.options.strict_links then conflicts_below w (count w) else 0
+
+-- how many errors the walk met
+abbrev pub errors : Walk → ℕ
+errors w = absent_errors w + conflict_errors w

@@ -1,17 +1,30 @@
 //! The walk over a tree with one worker: which label each entry is to have, and the report that tells it.
 #![tactic(auto)]
 
-mod deciding;
-mod line;
+mod errors;
+mod given;
+mod label_after;
+mod laws;
+mod lent;
+mod lines;
+mod looking_up;
+mod numbers;
+mod options;
+mod report;
 mod rules;
-mod sequential;
 mod verdict;
+mod walked;
+mod walking;
 
-pub use deciding::{look_up, look_up_counted};
-pub use line::add_line;
+pub use label_after::LabelAfter;
+pub use laws::one_pass_is_walk;
+pub use lent::{Lent, lend};
+pub use looking_up::{look_up, look_up_counted};
+pub use options::Options;
 pub use rules::Rules;
-pub use sequential::{Walked, walk, walk_uncounted};
-pub use verdict::decide;
+pub use verdict::{Verdict, decide};
+pub use walked::Walked;
+pub use walking::{walk, walk_uncounted};
 
 #[cfg(test)]
 mod tests;

@@ -1,11 +1,14 @@
+use context_syntax::TypeNames;
 use path_subs::Subs;
 use spec_match::RuleSet;
 
-/// What decides the entries of a tree.
+/// What decides the labels of a tree.
 #[derive(Debug, Drop)]
 pub struct Rules {
     /// The specifications, in the order in which the last match decides.
     pub rules: RuleSet,
     /// The substitutions that a path goes through before it is looked up.
     pub subs: Subs,
+    /// The customizable types.
+    pub types: TypeNames,
 }

@@ -1,27 +1,78 @@
-ghost use Rattle.std.specs.Prelude.{◌≡◌};
-ghost use Rattle.std.specs.Option.{option_copied};
-ghost use Rattle.context_syntax.specs.Label.{same_label};
-ghost use Rattle.context_syntax.specs.declared.label.Label.TheVariants.{Is};
-ghost use Rattle.relabel_core.specs.Walk.{change};
+ghost use Rattle.std.specs.Prelude.{◌≡◌, false};
+ghost use Rattle.relabel_core.specs.Decide.{is_change, label_by, type_verdict, verdict_for, verdict_on, whole_verdict};
+ghost use Rattle.relabel_core.specs.Verdicts.{verdict_of};
 
-use context_syntax::{Context, Label};
+use context_syntax::{Context, ContextRef, Label, TypeNames};
 
-fn is_context(label: &Label, wanted: &Context) -> bool
-    ensures { result ≡ same_label label.now (Is wanted.now) }
-{
-    match label {
-        Label::Is(context) => *context == *wanted,
-        Label::Absent | Label::Odd(_) => false,
-    }
+/// What becomes of a label.
+#[derive(Clone, Copy, Debug)]
+pub enum Verdict<'a> {
+    /// It stays.
+    Keep,
+    /// It stays, since an administrator may have chosen its type.
+    Customized,
+    /// It gives way to a context.
+    Change(ContextRef<'a>),
 }
 
-/// The context that a label is to give way to, where the whole context is wanted, as with the option `-F` of
-/// restorecon(8). None where the label is that context already.
-pub fn decide<'a>(current: &Label, wanted: &'a Context) -> Option<&'a Context>
-    ensures { option_copied result ≡ change current.now wanted.now }
+// By force, the whole context.
+fn decide_whole<'a>(current: &Context, wanted: &'a Context) -> Verdict<'a>
+    ensures { verdict_of result ≡ whole_verdict current.now wanted.now }
 {
-    if is_context(current, wanted) {
-        return None;
+    if *current == *wanted {
+        return Verdict::Keep;
     }
-    Some(wanted)
+    Verdict::Change(ContextRef::whole(wanted))
+}
+
+// Without force, the type alone.
+fn decide_type<'a>(current: &'a Context, wanted: &'a Context, types: &TypeNames) -> Verdict<'a>
+    ensures { verdict_of result ≡ type_verdict types.now current.now wanted.now }
+{
+    if current.kind == wanted.kind {
+        return Verdict::Keep;
+    }
+    if types.has(current.kind.as_slice()) {
+        return Verdict::Customized;
+    }
+    Verdict::Change(ContextRef {
+        rest: current,
+        kind: wanted,
+    })
+}
+
+fn decide_context<'a>(
+    current: &'a Context,
+    wanted: &'a Context,
+    force: bool,
+    types: &TypeNames,
+) -> Verdict<'a>
+    ensures { verdict_of result ≡ verdict_on force types.now current.now wanted.now }
+{
+    if force {
+        return decide_whole(current, wanted);
+    }
+    decide_type(current, wanted, types)
+}
+
+/// What becomes of a label where a context is wanted, as restorecon(8) decides it. With `force` the whole context is given,
+/// and customizable types give way too; without it the type alone is given to a label that is a context. It takes no memory.
+///
+/// A second decision on the label that the first one leaves changes nothing.
+#[tactic(auto, using(crate::proofs::Settled::settled))]
+pub fn decide<'a>(
+    current: &'a Label,
+    wanted: &'a Context,
+    force: bool,
+    types: &TypeNames,
+) -> Verdict<'a>
+    ensures value { verdict_of result ≡ verdict_for current.now wanted.now force types.now }
+    ensures settles { is_change (verdict_for
+        (label_by (verdict_for current.now wanted.now force types.now) current.now)
+        wanted.now force types.now) ≡ false }
+{
+    match current {
+        Label::Absent | Label::Odd(_) => Verdict::Change(ContextRef::whole(wanted)),
+        Label::Is(context) => decide_context(context, wanted, force, types),
+    }
 }

@@ -1,0 +1,139 @@
+-- The parts of a walk's report.
+use Rattle.std.proofs.Common.{◌≡◌, ◌∙◌, sym, refl, ap, ap₂, subst, ℕ, zero, suc, ◌+◌, ◌<◌, ◌≤◌, ◌==◌, ◌||◌, Bool, true, false, List, [], ◌∷◌, ◌++◌, length, drop, set, get_or, replicate, Option, Some, None, inl, inr, arith, if◌then◌else◌, eq-eqb, ne_eqb, add-one, append-nil, append_assoc, length-set, get_or-set_same, get_or-set_other}
+use Rattle.std.specs.Prelude.{nat_lt, slice_get}
+use Rattle.std.specs.List.{cons_option, filter_map, flat_map}
+use Rattle.std.proofs.lemmas.Bool.{cases_eq, lt-ltb}
+use Rattle.std.proofs.lemmas.Grind.{flat_map-append}
+use Rattle.std.proofs.lemmas.List.{at_drop_more, drop_all, get_or-replicate, length-replicate}
+use Rattle.std.proofs.lemmas.List.Elements.{filter_map-append}
+use Rattle.label_base.specs.Bounded.{all_numbers}
+use Rattle.label_base.specs.Path.{Path}
+use Rattle.report_text.specs.Message.{MessageValue, Absent}
+use Rattle.report_text.specs.Texts.{line_of, report_of}
+use Rattle.relabel_core.specs.Report.{AreRaised, absent_text, optional_text, raised_at, text_below, unflagged_line}
+use Rattle.relabel_core.specs.Walk.{Walk, count, deciding, is_at, line_of_spec, unmatched_line, unmatched_lines}
+
+one_text : (message : Option MessageValue) → flat_map line_of (cons_option message []) ≡ optional_text message
+one_text None = refl
+one_text (Some message) = append-nil (line_of message)
+
+pub text_more : (line : ℕ → Option MessageValue) (n : ℕ) → text_below line (n + 1) ≡ text_below line n ++ optional_text (line n)
+unfolding report_of
+text_more line n =
+    ap (λ m. text_below line m) (add-one n) ∙ ap (λ ms. flat_map line_of ms) (filter_map-append line (all_numbers n) (n ∷ []))
+    ∙ flat_map-append line_of (filter_map line (all_numbers n)) (filter_map line (n ∷ []))
+    ∙ ap (λ t. text_below line n ++ t) (one_text (line n))
+
+pub none_written : (to : List ℕ) → to ≡ to ++ report_of []
+unfolding report_of
+none_written to = sym (append-nil to)
+
+-- one line more, where there is one
+pub line_written : (line : ℕ → Option MessageValue) (n : ℕ) (old before now : List ℕ) (message : Option MessageValue)
+    → before ≡ old ++ text_below line n → message ≡ line n → now ≡ before ++ optional_text message → now ≡ old ++ text_below line (n + 1)
+line_written line n old before now message b m w =
+    w ∙ ap₂ (λ t o. t ++ optional_text o) b m ∙ append_assoc old (text_below line n) (optional_text (line n))
+    ∙ ap (λ t. old ++ t) (sym (text_more line n))
+
+pub report_append : (xs ys : List MessageValue) → report_of (xs ++ ys) ≡ report_of xs ++ report_of ys
+unfolding report_of
+report_append xs ys = flat_map-append line_of xs ys
+
+pub all_written : (a b c : List MessageValue) (old one two three : List ℕ)
+    → one ≡ old ++ report_of a → two ≡ one ++ report_of b → three ≡ two ++ report_of c → three ≡ old ++ report_of (a ++ b ++ c)
+all_written a b c old one two three p q r =
+    r ∙ ap (λ t. t ++ report_of c) (q ∙ ap (λ t. t ++ report_of b) p ∙ append_assoc old (report_of a) (report_of b) ∙ ap (λ t. old ++ t) (sym (report_append a b)))
+    ∙ append_assoc old (report_of (a ++ b)) (report_of c) ∙ ap (λ t. old ++ t) (sym (report_append (a ++ b) c))
+
+-- ---- operands
+
+absent_first : (operands : List Path) (i : ℕ) (is : List ℕ) → absent_text operands (i ∷ is) ≡ line_of (Absent (get_or operands i [])) ++ absent_text operands is
+unfolding report_of
+absent_first operands i is = refl
+
+-- the line of one operand more, of those that are left
+pub absent_next : (operands : List Path) (indices : List ℕ) (k : ℕ) (before now all : List ℕ) → k < length indices
+    → before ++ absent_text operands (drop k indices) ≡ all → now ≡ before ++ line_of (Absent (get_or operands (get_or indices k 0) []))
+    → now ++ absent_text operands (drop (k + 1) indices) ≡ all
+absent_next operands indices k before now all l b w =
+    let i = get_or indices k 0 in
+    let rest = absent_text operands (drop (k + 1) indices) in
+    let here : absent_text operands (drop k indices) ≡ line_of (Absent (get_or operands i [])) ++ rest =
+    at_drop_more (absent_text operands) indices k 0 l ∙ absent_first operands i (drop (k + 1) indices) in
+    ap (λ t. t ++ rest) w ∙ append_assoc before (line_of (Absent (get_or operands i []))) rest ∙ ap (λ t. before ++ t) (sym here) ∙ b
+
+pub absent_end : (operands : List Path) (indices : List ℕ) (k : ℕ) (to all : List ℕ) → length indices ≤ k
+    → to ++ absent_text operands (drop k indices) ≡ all → to ≡ all
+unfolding report_of
+absent_end operands indices k to all l b =
+    sym (append-nil to) ∙ ap (λ is. to ++ absent_text operands is) (sym (drop_all k indices l)) ∙ b
+
+-- ---- flags
+
+or_false : (b : Bool) → b ≡ b || false
+or_false true = refl
+or_false false = refl
+
+or_true : (b : Bool) → true ≡ b || true
+or_true true = refl
+or_true false = refl
+
+same_flag : (flags : List Bool) (i : ℕ) → i < length flags → get_or (raised_at flags (Some i)) i false ≡ true
+same_flag flags i l =
+    ap (λ b. get_or (if b then set flags i true else flags) i false) (lt-ltb i (length flags) l) ∙ get_or-set_same flags i true false l
+
+other_flag : (b : Bool) (flags : List Bool) (j i : ℕ) → (i ≡ j → ⊥) → get_or (if b then set flags j true else flags) i false ≡ get_or flags i false
+other_flag true flags j i n = get_or-set_other flags j i true false n
+other_flag false flags j i n = refl
+
+flag_raised : (flags : List Bool) (found : Option ℕ) (i : ℕ) → i < length flags
+    → get_or (raised_at flags found) i false ≡ (get_or flags i false || is_at found i)
+flag_raised flags None i l = or_false (get_or flags i false)
+flag_raised flags (Some j) i l =
+    elim (cases_eq j i) [
+      | inl same ↦
+          subst (λ k. get_or (raised_at flags (Some k)) i false ≡ (get_or flags i false || (k == i))) {x = i} {y = j} (sym same)
+          (same_flag flags i l ∙ or_true (get_or flags i false) ∙ ap (λ b. get_or flags i false || b) (sym (eq-eqb i i refl)))
+      | inr differ ↦
+          other_flag (nat_lt j (length flags)) flags j i (λ same. differ (sym same)) ∙ or_false (get_or flags i false)
+          ∙ ap (λ b. get_or flags i false || b) (sym (ne_eqb j i differ))
+    ]
+
+set_if_length : (b : Bool) (flags : List Bool) (i : ℕ) → length (if b then set flags i true else flags) ≡ length flags
+set_if_length true flags i = length-set flags i true
+set_if_length false flags i = refl
+
+raised_length : (flags : List Bool) (found : Option ℕ) → length (raised_at flags found) ≡ length flags
+raised_length flags None = refl
+raised_length flags (Some i) = set_if_length (nat_lt i (length flags)) flags i
+
+pub none_raised : (w : Walk) (flags : List Bool) → flags ≡ replicate (length w.rules.rules) false → AreRaised w 0 flags
+none_raised w flags is = record {
+  each_spec = ap length is ∙ length-replicate (length w.rules.rules) false;
+  raised = λ i l. ap (λ fs. get_or fs i false) is ∙ get_or-replicate (length w.rules.rules) i false false l;
+}
+
+next_raised : (w : Walk) (n : ℕ) (flags : List Bool) → AreRaised w n flags → AreRaised w (suc n) (raised_at flags (deciding w n))
+next_raised w n flags old = record {
+  each_spec = raised_length flags (deciding w n) ∙ old.each_spec;
+  raised = λ i l. flag_raised flags (deciding w n) i (omega (arith, l, old.each_spec)) ∙ ap (λ b. b || is_at (deciding w n) i) (old.raised i l);
+}
+
+pub raised_more : (w : Walk) (n : ℕ) (flags now : List Bool) (found : Option ℕ) → AreRaised w n flags → found ≡ deciding w n
+    → now ≡ raised_at flags found → AreRaised w (n + 1) now
+raised_more w n flags now found old is made = rw (add-one n, made, is) (next_raised w n flags old)
+
+unflagged_same : (w : Walk) (flags : List Bool) (m : ℕ) → AreRaised w (count w) flags → m ≤ length w.rules.rules
+    → filter_map (unflagged_line w.rules flags) (all_numbers m) ≡ filter_map (unmatched_line w) (all_numbers m)
+unflagged_same w flags zero raised l = refl
+unflagged_same w flags (suc m) raised l =
+    filter_map-append (unflagged_line w.rules flags) (all_numbers m) (m ∷ [])
+    ∙ ap₂ (λ ms b. ms ++ cons_option (if b then None else line_of_spec (slice_get w.rules.rules m)) [])
+    (unflagged_same w flags m raised (omega (arith, l))) (raised.raised m (omega (arith, l)))
+    ∙ sym (filter_map-append (unmatched_line w) (all_numbers m) (m ∷ []))
+
+pub unmatched_text : (w : Walk) (flags : List Bool) → w.options.warn_unmatched ≡ true → AreRaised w (count w) flags
+    → text_below (unflagged_line w.rules flags) (length w.rules.rules) ≡ report_of (unmatched_lines w)
+unmatched_text w flags warned raised =
+    ap report_of (unflagged_same w flags (length w.rules.rules) raised (omega arith))
+    ∙ ap (λ b. report_of (if b then filter_map (unmatched_line w) (all_numbers (length w.rules.rules)) else [])) (sym warned)

@@ -1,0 +1,13 @@
+use Rattle.std.proofs.Common.{subst, sym}
+use Rattle.relabel_core.specs.Walked.{IsFor}
+use Rattle.relabel_core.proofs.SelectedLemmas.{selected_is_for}
+use Rattle.relabel_core.proofs.lent.lend.Goals as goal
+
+pub returns-clause-fit : goal.returns-clause-fit
+returns-clause-fit c =
+    let choice = c.args.choice.now in
+    let entries = c.args.tree.now in
+    record {
+      selected = subst (λ chosen. IsFor entries choice.operands chosen) (sym c.requires.chosen) (selected_is_for choice entries);
+      few = c.requires.few;
+    }

@@ -1,0 +1,19 @@
+use Rattle.std.proofs.Common.{◌≡◌, ◌∙◌, sym, ap₂, subst, ◌<◌, IfSome}
+use Rattle.tree_model.specs.Groups.{groups_in}
+use Rattle.relabel_core.specs.Numbers.{found_in}
+use Rattle.relabel_core.specs.Answer.{walk_in}
+use Rattle.relabel_core.specs.Walk.{count, group_winner}
+use Rattle.relabel_core.proofs.NotedLemmas.{winner_noted, winner_within}
+use Rattle.relabel_core.proofs.walked.Walked.winner.Goals as goal
+
+is_winner : (c : goal.After-found_in) → c.found_in.result ≡ group_winner (walk_in c.args.self.now) c.args.e
+is_winner c =
+    let walked = c.args.self.now in
+    c.found_in.ensures ∙ ap₂ found_in c.as_slice.ensures.value c.group.ensures.value
+    ∙ winner_noted (walk_in walked) walked.decided.items walked.winners.items _ walked.noted (subst (λ k. k < groups_in walked.lent.tree.now) c.group.ensures.value c.group.ensures.within)
+
+pub returns-clause-value : goal.returns-clause-value
+returns-clause-value c = is_winner c
+
+pub returns-clause-within : goal.returns-clause-within
+returns-clause-within c = subst (λ found. IfSome found (λ k. k < count (walk_in c.args.self.now))) (sym (is_winner c)) (winner_within (walk_in c.args.self.now) _)

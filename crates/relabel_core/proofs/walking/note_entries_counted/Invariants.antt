@@ -1,0 +1,12 @@
+use Rattle.std.proofs.Common.{◌≤◌, ◌+◌}
+use Rattle.spec_match.specs.Scratches.{IsScratchOf}
+use Rattle.relabel_core.specs.Walk.{walked_below}
+use Rattle.relabel_core.specs.Walked.{AreNoted, walk_of}
+use Rattle.relabel_core.proofs.walking.note_entries_counted.Given as goal
+
+abbrev pub invariant-entries : goal.invariant-entries
+invariant-entries g l = record {
+  own : IsScratchOf l.lent.rules.now.rules l.scratch;
+  noted : AreNoted (walk_of l.lent) l.e l.noted.decided.items l.noted.winners.items;
+  count : l.steps ≤ l.initial.steps + walked_below (walk_of l.lent) l.e;
+}

@@ -1,0 +1,26 @@
+-- Rows of numbers, in which a place may have none.
+use Rattle.std.specs.Prelude.{ℕ, Bool, true, false, List, length, get_or, set, Option, Some, None, is_none, nat_lt, ◌==◌, ◌&&◌, if◌then◌else◌}
+use Rattle.relabel_core.specs.declared.numbers.TheConstants.{NONE}
+
+abbrev pub as_found : ℕ → Option ℕ
+as_found number = if number == NONE then None else Some number
+
+-- the number at an index
+abbrev pub found_in : List ℕ → ℕ → Option ℕ
+found_in numbers i = as_found (get_or numbers i NONE)
+
+abbrev pub number_of : Option ℕ → ℕ
+number_of None = NONE
+number_of (Some number) = number
+
+-- a number put at an index where none is
+abbrev pub entered_at : List ℕ → ℕ → ℕ → List ℕ
+entered_at numbers i number =
+    if nat_lt i (length numbers) && is_none (found_in numbers i)
+    then set numbers i number
+    else numbers
+
+-- the same where the flag is set
+abbrev pub entered_if : Bool → List ℕ → ℕ → ℕ → List ℕ
+entered_if true numbers i number = entered_at numbers i number
+entered_if false numbers i number = numbers

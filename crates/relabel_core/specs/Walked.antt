@@ -1,0 +1,57 @@
+-- What a walk keeps, and what contracts see of it.
+use Rattle.std.specs.Prelude.{◌≡◌, ℕ, ◌<◌, ◌≤◌, ◌+◌, ◌^◌, List, [], length, map, get_or}
+use Rattle.label_base.specs.Bounded.{least_below}
+use Rattle.label_base.specs.Path.{Path}
+use Rattle.find_records.specs.Record.{Record}
+use Rattle.tree_model.specs.Groups.{groups_in}
+use Rattle.tree_model.specs.Selection.{SelectedValue, selected_by}
+use Rattle.tree_model.specs.declared.selection.Choice.{Choice}
+use Rattle.relabel_core.specs.Numbers.{found_in}
+use Rattle.relabel_core.specs.Walk.{Walk, can_win, deciding}
+use Rattle.relabel_core.specs.declared.lent.Lent.{Lent}
+use Rattle.relabel_core.specs.declared.options.Options.{Options}
+use Rattle.relabel_core.specs.declared.rules.Rules.{Rules}
+
+-- the operands with these indices
+abbrev pub operands_at : List Path → List ℕ → List Path
+operands_at operands indices = map (λ i. get_or operands i []) indices
+
+-- the walk that these mean
+abbrev pub walk_of : Lent → Walk
+walk_of lent = record {
+  entries = lent.tree.now;
+  live = lent.chosen.now.live;
+  absent = operands_at lent.operands.now lent.chosen.now.absent;
+  rules = lent.rules.now;
+  options = lent.options;
+}
+
+-- the walk over a tree of what a choice selects there
+abbrev pub walk_for : List Record → Choice → Rules → Options → Walk
+walk_for entries choice rules options = record {
+  entries = entries;
+  live = (selected_by choice entries).live;
+  absent = operands_at choice.operands (selected_by choice entries).absent;
+  rules = rules;
+  options = options;
+}
+
+-- what was selected tells of each entry, and of at most as many absent operands as there are
+pub record IsFor (entries : List Record) (operands : List Path) (chosen : SelectedValue)
+    : Type 0 where
+  pub each_entry : length chosen.live ≡ length entries
+  pub absent_few : length chosen.absent ≤ length operands
+
+-- what is lent goes together, and is few enough to be numbered in 32 bits
+pub record IsFit (lent : Lent) : Type 0 where
+  pub selected : IsFor lent.tree.now lent.operands.now lent.chosen.now
+  pub few : length lent.tree.now + length lent.operands.now < 2 ^ 32
+
+-- what is noted when the entries below n were looked up: for each the specification that decides it,
+-- and for each group its winner among them
+pub record AreNoted (w : Walk) (n : ℕ) (decided winners : List ℕ) : Type 0 where
+  pub each_entry : length decided ≡ n
+  pub decided_are : (e : ℕ) → e < n → found_in decided e ≡ deciding w e
+  pub each_group : length winners ≡ groups_in w.entries
+  pub winners_are : (g : ℕ) → g < groups_in w.entries
+      → found_in winners g ≡ least_below n (can_win w g)

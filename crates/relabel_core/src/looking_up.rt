@@ -1,0 +1,54 @@
+ghost use Rattle.std.specs.Prelude.{◌≡◌, ◌+◌, ◌≤◌, ◌<◌, IfOk, IfSome, length};
+ghost use Rattle.find_records.specs.Entry.{entry_of};
+ghost use Rattle.spec_match.specs.Scratches.{IsScratchOf};
+ghost use Rattle.relabel_core.specs.Walk.{index_for};
+
+use crate::rules::Rules;
+use find_records::Entry;
+use label_base::{Asked, OutOfMemory, Steps};
+use spec_match::Scratch;
+use std::alloc::Global;
+use std::sync::ledger::Ledger;
+
+/// The index of the specification that decides an entry: the last one for its kind whose language holds its substituted
+/// path (selabel_file(5)). There is none where no specification does.
+#[tactic(auto, unfolding(crate::specs::Walk::index_for))]
+pub fn look_up(
+    alloc: Global,
+    rules: &Rules,
+    entry: &Entry<'_>,
+    scratch: &mut Scratch,
+) -> Result<Option<u32>, OutOfMemory>
+    requires { IsScratchOf rules.now.rules scratch.old }
+    ensures own { IsScratchOf rules.now.rules scratch.new }
+    ensures found { IfOk result (λ found. found ≡ index_for rules.now (entry_of entry.now)) }
+    ensures within { IfOk result (λ found. IfSome found (λ i. i < length rules.now.rules)) }
+{
+    let asked = Asked::Of(entry.kind);
+    match rules.subs.changed(alloc, &entry.path)? {
+        Some(path) => Ok(rules.rules.find_last(scratch, &path.path(), asked)),
+        None => Ok(rules.rules.find_last(scratch, &entry.path, asked)),
+    }
+}
+
+/// The same as [`look_up`], counted as at most one step.
+#[tactic(auto, unfolding(crate::specs::Walk::index_for))]
+pub fn look_up_counted<L: Ledger>(
+    alloc: Global,
+    rules: &Rules,
+    entry: &Entry<'_>,
+    scratch: &mut Scratch,
+    steps: &mut Steps<L>,
+) -> Result<Option<u32>, OutOfMemory>
+    requires { IsScratchOf rules.now.rules scratch.old }
+    ensures own { IsScratchOf rules.now.rules scratch.new }
+    ensures found { IfOk result (λ found. found ≡ index_for rules.now (entry_of entry.now)) }
+    ensures within { IfOk result (λ found. IfSome found (λ i. i < length rules.now.rules)) }
+    ensures count { steps.new ≤ steps.old + 1 }
+{
+    let asked = Asked::Of(entry.kind);
+    match rules.subs.changed(alloc, &entry.path)? {
+        Some(path) => Ok(rules.rules.last_match(scratch, &path.path(), asked, steps)),
+        None => Ok(rules.rules.last_match(scratch, &entry.path, asked, steps)),
+    }
+}

@@ -1,0 +1,249 @@
+ghost use Rattle.std.specs.Prelude.{◌≡◌, ◌<◌, IfSome, length, option_and_then, option_map};
+ghost use Rattle.std.specs.Option.{option_copied};
+ghost use Rattle.relabel_core.specs.Walk.{is_at};
+ghost use Rattle.relabel_core.specs.Walked.{AreNoted, IsFit, walk_of};
+
+use crate::given::given_at;
+use crate::label_after::LabelAfter;
+use crate::lent::Lent;
+use crate::lines::{conflict_line, label_by, verdict_line};
+use crate::numbers::found_in;
+use crate::verdict::{Verdict, decide};
+use context_syntax::{Context, Label};
+use label_base::PathRef;
+use report_text::Message;
+
+/// What a walk over a tree answers. It lends the tree and the rules, and keeps two numbers of its own: for each entry the
+/// specification that decides it, and for each group of names of one inode its winner. Labels and lines are made from these,
+/// entry by entry.
+#[derive(Drop)]
+pub struct Walked<'a> {
+    pub(crate) lent: Lent<'a>,
+    // For each entry the index of its specification.
+    pub(crate) decided: Vec<u32>,
+    // For each group the index of its winner.
+    pub(crate) winners: Vec<u32>,
+    ghost fit: { IsFit lent },
+    ghost noted: { AreNoted (walk_of lent) (length lent.tree.now) decided.items winners.items },
+}
+
+fn is_at(found: Option<u32>, e: u32) -> bool
+    ensures { result ≡ is_at found e }
+{
+    match found {
+        None => false,
+        Some(k) => k == e,
+    }
+}
+
+impl<'a> Walked<'a> {
+    ghost use Rattle.label_base.specs.PathRef.{path_of};
+    ghost use Rattle.tree_model.specs.Groups.{group_of, groups_in, label_in};
+    ghost use Rattle.report_text.specs.Message.{message_of};
+    ghost use Rattle.relabel_core.specs.Answer.{walk_in};
+    ghost use Rattle.relabel_core.specs.LabelAfter.{label_told};
+    ghost use Rattle.relabel_core.specs.Verdicts.{verdict_of};
+    ghost use Rattle.relabel_core.specs.Walk.{conflict_with, count, deciding, decided_line, group_winner, has_conflict, label_after, label_with, line, line_where, new_label_with, no_default_line, path_at, verdict_where, verdict_with, walked, wanted, winner_line};
+
+    /// How many entries were walked over.
+    pub fn len(&self) -> u32
+        ensures { result ≡ count (walk_in self.now) }
+    {
+        self.lent.tree.len()
+    }
+
+    fn path(&self, e: u32) -> PathRef<'a>
+        requires { e < count (walk_in self.now) }
+        ensures { path_of result ≡ path_at (walk_in self.now) e }
+    {
+        self.lent.tree.entry(e).path
+    }
+
+    fn group(&self, e: u32) -> u32
+        requires { e < count (walk_in self.now) }
+        ensures value { result ≡ group_of self.now.lent.tree.now e }
+        ensures within { result < groups_in self.now.lent.tree.now }
+    {
+        self.lent.tree.group(e)
+    }
+
+    /// The index of the specification that decides an entry, if one does.
+    pub fn deciding(&self, e: u32) -> Option<u32>
+        requires { e < count (walk_in self.now) }
+        ensures { result ≡ deciding (walk_in self.now) e }
+    {
+        found_in(self.decided.as_slice(), e)
+    }
+
+    /// The winner of an entry's group, if it has one: the first of its entries for which a context is decided.
+    pub fn winner(&self, e: u32) -> Option<u32>
+        requires { e < count (walk_in self.now) }
+        ensures value { result ≡ group_winner (walk_in self.now) e }
+        ensures within { IfSome result (λ k. k < count (walk_in self.now)) }
+    {
+        found_in(self.winners.as_slice(), self.group(e))
+    }
+
+    /// The context that is decided for an entry, if one is.
+    #[tactic(auto, unfolding(crate::specs::Walk::wanted))]
+    pub fn wanted(&self, e: u32) -> Option<&'a Context>
+        requires { e < count (walk_in self.now) }
+        ensures { option_copied result ≡ wanted (walk_in self.now) e }
+    {
+        given_at(self.lent.rules, self.deciding(e))
+    }
+
+    // The context that is decided for the winner of a group.
+    fn wanted_by(&self, found: Option<u32>) -> Option<&'a Context>
+        requires { IfSome found (λ k. k < count (walk_in self.now)) }
+        ensures { option_copied result ≡ option_and_then (wanted (walk_in self.now)) found }
+    {
+        match found {
+            Some(k) => self.wanted(k),
+            None => None,
+        }
+    }
+
+    // The verdict on the label of an entry's group, where this context is wanted.
+    fn verdict_where(&self, e: u32, context: Option<&'a Context>) -> Verdict<'a>
+        requires { e < count (walk_in self.now) }
+        ensures { verdict_of result
+            ≡ verdict_where (walk_in self.now) (group_of self.now.lent.tree.now e)
+            (option_copied context.entry) }
+    {
+        match context {
+            None => Verdict::Keep,
+            Some(context) => decide(
+                self.old_label(e),
+                context,
+                self.lent.options.force,
+                &self.lent.rules.types,
+            ),
+        }
+    }
+
+    // The label of an entry's group before the walk.
+    fn old_label(&self, e: u32) -> &'a Label
+        requires { e < count (walk_in self.now) }
+        ensures { result.now ≡ label_in self.now.lent.tree.now (group_of self.now.lent.tree.now e) }
+    {
+        self.lent.tree.label(self.group(e))
+    }
+
+    // The verdict on the label of an entry's group, by its winner.
+    fn verdict_with(&self, e: u32, found: Option<u32>) -> Verdict<'a>
+        requires entry { e < count (walk_in self.now) }
+        requires winner { IfSome found (λ k. k < count (walk_in self.now)) }
+        ensures { verdict_of result
+            ≡ verdict_with (walk_in self.now) (group_of self.now.lent.tree.now e) found }
+    {
+        self.verdict_where(e, self.wanted_by(found))
+    }
+
+    // The label of an entry's group after the walk, by its winner.
+    fn new_label_with(&self, e: u32, found: Option<u32>) -> LabelAfter<'a>
+        requires entry { e < count (walk_in self.now) }
+        requires winner { IfSome found (λ k. k < count (walk_in self.now)) }
+        ensures { label_told result
+            ≡ new_label_with (walk_in self.now) (group_of self.now.lent.tree.now e) found }
+    {
+        if self.lent.options.dry {
+            return LabelAfter::Kept(self.old_label(e));
+        }
+        label_by(&self.verdict_with(e, found), self.old_label(e))
+    }
+
+    // The label of an entry after the walk, by the winner of its group.
+    fn label_with(&self, e: u32, found: Option<u32>) -> LabelAfter<'a>
+        requires entry { e < count (walk_in self.now) }
+        requires winner { IfSome found (λ k. k < count (walk_in self.now)) }
+        ensures { label_told result ≡ label_with (walk_in self.now) e found }
+    {
+        if is_at(found, e) {
+            return self.new_label_with(e, found);
+        }
+        LabelAfter::Kept(self.old_label(e))
+    }
+
+    /// The label of an entry after the walk: that of its group, which changes at the group's winner.
+    #[tactic(auto, unfolding(crate::specs::Walk::label_after))]
+    pub fn label_at(&self, e: u32) -> LabelAfter<'a>
+        requires { e < count (walk_in self.now) }
+        ensures { label_told result ≡ label_after (walk_in self.now) e }
+    {
+        self.label_with(e, self.winner(e))
+    }
+
+    // The line of a group's winner.
+    fn winner_line(&self, e: u32, found: Option<u32>) -> Option<Message<'a>>
+        requires entry { e < count (walk_in self.now) }
+        requires winner { IfSome found (λ k. k < count (walk_in self.now)) }
+        ensures { option_map message_of result ≡ winner_line (walk_in self.now) e found }
+    {
+        if !self.lent.options.verbose {
+            return None;
+        }
+        verdict_line(
+            &self.path(e),
+            self.old_label(e),
+            self.lent.options.dry,
+            &self.verdict_with(e, found),
+        )
+    }
+
+    // The conflict of an entry with the winner of its group.
+    fn conflict_with(&self, e: u32, found: Option<u32>) -> Option<Message<'a>>
+        requires entry { e < count (walk_in self.now) }
+        requires winner { IfSome found (λ k. k < count (walk_in self.now)) }
+        ensures { option_map message_of result ≡ conflict_with (walk_in self.now) e found }
+    {
+        match found {
+            None => None,
+            Some(k) => conflict_line(&self.path(k), &self.path(e), self.wanted(e), self.wanted(k)),
+        }
+    }
+
+    // The line of an entry that no specification decides.
+    fn no_default_line(&self, e: u32) -> Option<Message<'a>>
+        requires { e < count (walk_in self.now) }
+        ensures { option_map message_of result ≡ no_default_line (walk_in self.now) e }
+    {
+        if self.lent.options.verbose && self.lent.chosen.is_live(e) {
+            return Some(Message::NoDefault { path: self.path(e) });
+        }
+        None
+    }
+
+    // The line of an entry that a specification decides.
+    fn decided_line(&self, e: u32, found: Option<u32>) -> Option<Message<'a>>
+        requires entry { e < count (walk_in self.now) }
+        requires winner { IfSome found (λ k. k < count (walk_in self.now)) }
+        ensures { option_map message_of result ≡ decided_line (walk_in self.now) e found }
+    {
+        if is_at(found, e) {
+            return self.winner_line(e, found);
+        }
+        self.conflict_with(e, found)
+    }
+
+    /// What is told of an entry, if anything is.
+    #[tactic(auto, unfolding(crate::specs::Walk::line))]
+    pub fn message_at(&self, e: u32) -> Option<Message<'a>>
+        requires { e < count (walk_in self.now) }
+        ensures { option_map message_of result ≡ line (walk_in self.now) e }
+    {
+        match self.deciding(e) {
+            None => self.no_default_line(e),
+            Some(_) => self.decided_line(e, self.winner(e)),
+        }
+    }
+
+    /// Whether an entry is decided to another context than the winner of its group.
+    #[tactic(auto, using(crate::proofs::CountLemmas::some_told))]
+    pub fn has_conflict(&self, e: u32) -> bool
+        requires { e < count (walk_in self.now) }
+        ensures { result ≡ has_conflict (walk_in self.now) e }
+    {
+        self.conflict_with(e, self.winner(e)).is_some()
+    }
+}
