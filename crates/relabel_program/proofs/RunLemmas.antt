@@ -1,24 +1,23 @@
 -- What the end of a run says, from what its parts say.
 use Rattle.std.proofs.Common.{◌≡◌, ◌∙◌, ap, sym, subst, refl, ℕ, ◌≤◌, arith, ◌⊎◌, inl, inr, List, []}
-use Rattle.std.specs.Prelude.{Option, Some, None, Result, Ok, Err, IsOk, is_ok, IfSome, IfErr, IfOk}
+use Rattle.std.specs.Prelude.{Bool, true, false, ◌==◌, if◌then◌else◌, Option, Some, None, Result, Ok, Err, is_ok, IfSome, IfErr}
 use Rattle.std.specs.Io.KnownBytes.{Appends}
 use Rattle.label_base.specs.Sink.{AppendsFront}
 use Rattle.label_base.specs.Source.{Rose}
 use Rattle.label_base.specs.Store.{Files}
-use Rattle.find_records.specs.declared.record.Record.{Record}
-use Rattle.report_text.specs.Texts.{report_of}
-use Rattle.relabel_core.specs.Walk.{messages}
+use Rattle.find_records.specs.Record.{Record}
 use Rattle.relabel_core.specs.declared.rules.Rules.{Rules}
-use Rattle.relabel_program.specs.Answer.{answer, names_in, policy}
-use Rattle.relabel_program.specs.Causes.{and_then, CauseCounts, Counts, Explained, Gives, IsInputCause, IsPolicyCause, IsReadingCause}
+use Rattle.relabel_program.specs.Answer.{answer, names_in, policy, reported_by}
+use Rattle.relabel_program.specs.Causes.{and_then, CauseCounts, Explained, IsInputCause, IsPolicyCause, IsReported, end_cause}
 use Rattle.relabel_program.specs.Faults.{fault_line}
 use Rattle.relabel_program.specs.Input.{entries_of}
-use Rattle.relabel_program.specs.Run.{Ends, FileFailed, InputFailed, IsLaterCause, LineOrFront, PolicyDecides, ReadCounts, Reports, ReportsFront, Run, TellsFault}
+use Rattle.relabel_program.specs.Run.{Ends, FileFailed, InputFailed, IsLaterCause, LineOrFront, PolicyDecides, ReadCounts, Reports, Run, TellsFault, WritesReport}
 use Rattle.relabel_program.specs.Words.{usage}
 use Rattle.relabel_program.specs.declared.cause.Cause.{Cause}
-use Rattle.relabel_program.specs.declared.cause.Cause.TheVariants.{Done, Usage, Missing, SpecRefused, SubRefused, Limit, InputRefused, ReadFault, WriteFault, OutOfMemory}
+use Rattle.relabel_program.specs.declared.cause.Cause.TheVariants.{Done, Usage, WalkErrors, ReadFault, WriteFault, OutOfMemory}
 use Rattle.relabel_program.specs.declared.cause.UsageWhy.{UsageWhy}
 use Rattle.relabel_program.specs.declared.names.FileNames.{FileNames}
+use Rattle.relabel_program.specs.declared.reported.Reported.{Reported}
 
 -- ---- options and results
 
@@ -53,8 +52,19 @@ decides_later (Ok found) rules cause untouched accepted kind = kind
 
 is_later : (cause : Cause) → IsInputCause cause → IsLaterCause cause
 is_later Done kind = absurd kind
+is_later (WalkErrors count) kind = absurd kind
 is_later WriteFault kind = absurd kind
 is_later cause kind = kind
+
+not_of_policy : (cause : Cause) → IsPolicyCause cause → IsReported cause → ⊥
+not_of_policy Done kind reported = kind
+not_of_policy (WalkErrors count) kind reported = kind
+not_of_policy cause kind reported = reported
+
+not_of_input : (cause : Cause) → IsInputCause cause → IsReported cause → ⊥
+not_of_input Done kind reported = kind
+not_of_input (WalkErrors count) kind reported = kind
+not_of_input cause kind reported = reported
 
 -- an explained cause goes through what follows
 explained_next : {A B : Type 0} (meant : Result A Cause) (next : A → Result B Cause) (cause : Cause) → Explained meant cause → Explained (and_then meant next) cause
@@ -62,15 +72,17 @@ explained_next meant next ReadFault told = tt
 explained_next meant next OutOfMemory told = tt
 explained_next meant next cause told = ap (λ r. and_then r next) told
 
-ends_explained : {O : Type 0} (written : O → Option (List ℕ)) (old new : O) (meant : Result (List ℕ) Cause) (cause : Cause)
-    → (cause ≡ Done → ⊥) → (cause ≡ WriteFault → ⊥) → Explained meant cause → Ends written old new meant cause
-ends_explained written old new meant Done done failed told = absurd (done refl)
+ends_explained : {O : Type 0} (written : O → Option (List ℕ)) (old new : O) (meant : Result Reported Cause) (cause : Cause)
+    → (IsReported cause → ⊥) → (cause ≡ WriteFault → ⊥) → Explained meant cause → Ends written old new meant cause
+ends_explained written old new meant Done done failed told = absurd (done tt)
+ends_explained written old new meant (WalkErrors count) done failed told = absurd (done tt)
 ends_explained written old new meant WriteFault done failed told = absurd (failed refl)
 ends_explained written old new meant cause done failed told = told
 
 pub tells_line : {O : Type 0} (written : O → Option (List ℕ)) (faults : O → ℕ) (old new : O) (names : FileNames) (cause : Cause)
     → LineOrFront written faults old new (fault_line names cause) → TellsFault written faults old new names cause
 tells_line written faults old new names Done line = tt
+tells_line written faults old new names (WalkErrors count) line = tt
 tells_line written faults old new names WriteFault line = tt
 tells_line written faults old new names cause line = line
 
@@ -84,46 +96,78 @@ counts_of_input store store_now before now ReadFault same counts = (omega (arith
 counts_of_input store store_now before now OutOfMemory same counts = (omega (arith, same), omega (arith, counts))
 counts_of_input store store_now before now cause same counts = (same, counts)
 
+-- ---- causes of a report
+
+reported_cond : (b : Bool) (errors : ℕ) → IsReported (if b then Done else WalkErrors errors)
+reported_cond true errors = tt
+reported_cond false errors = tt
+
+is_reported : (errors : ℕ) → IsReported (end_cause errors)
+is_reported errors = reported_cond (errors == 0) errors
+
+reported_later : (cause : Cause) → IsReported cause → IsLaterCause cause
+reported_later Done kind = tt
+reported_later (WalkErrors count) kind = tt
+reported_later cause kind = absurd kind
+
+ends_reported : {O : Type 0} (written : O → Option (List ℕ)) (old new : O) (meant : Result Reported Cause) (cause : Cause)
+    → IsReported cause → Reports written old new meant cause → Ends written old new meant cause
+ends_reported written old new meant Done kind reports = reports
+ends_reported written old new meant (WalkErrors count) kind reports = reports
+ends_reported written old new meant cause kind reports = absurd kind
+
+tells_nothing : {O : Type 0} (written : O → Option (List ℕ)) (faults : O → ℕ) (old new : O) (names : FileNames) (cause : Cause)
+    → IsReported cause → TellsFault written faults old new names cause
+tells_nothing written faults old new names Done kind = tt
+tells_nothing written faults old new names (WalkErrors count) kind = tt
+tells_nothing written faults old new names cause kind = absurd kind
+
+reported_counts : (store store_now input input_now : ℕ) (cause : Cause) → IsReported cause → store_now ≡ store → input_now ≡ input
+    → ReadCounts store store_now input input_now cause
+reported_counts store store_now input input_now Done kind same input_same = (same, input_same)
+reported_counts store store_now input input_now (WalkErrors count) kind same input_same = (same, input_same)
+reported_counts store store_now input input_now cause kind same input_same = absurd kind
+
 -- ---- answers
 
 policy_ends : {O : Type 0} (written : O → Option (List ℕ)) (old new : O) (words : List (List ℕ)) (told : Files) (bytes : List ℕ) (cause : Cause)
     → IsPolicyCause cause → Explained (policy words told) cause → Ends written old new (answer words told bytes) cause
 unfolding answer
 policy_ends written old new words told bytes cause kind explained =
-    ends_explained written old new (answer words told bytes) cause (λ is. subst IsPolicyCause is kind) (λ is. subst IsPolicyCause is kind)
-    (explained_next (policy words told) (λ rules. and_then (entries_of bytes) (λ entries. Ok (report_of (messages rules entries)))) cause explained)
+    ends_explained written old new (answer words told bytes) cause (not_of_policy cause kind) (λ is. subst IsPolicyCause is kind)
+    (explained_next (policy words told) (λ rules. and_then (entries_of bytes) (λ entries. Ok (reported_by rules entries))) cause explained)
 
 answer_next : (words : List (List ℕ)) (told : Files) (bytes : List ℕ) (rules : Rules) → policy words told ≡ Ok rules
-    → answer words told bytes ≡ and_then (entries_of bytes) (λ entries. Ok (report_of (messages rules entries)))
+    → answer words told bytes ≡ and_then (entries_of bytes) (λ entries. Ok (reported_by rules entries))
 unfolding answer
 answer_next words told bytes rules is =
-    ap (λ found. and_then found (λ rules. and_then (entries_of bytes) (λ entries. Ok (report_of (messages rules entries))))) is
+    ap (λ found. and_then found (λ rules. and_then (entries_of bytes) (λ entries. Ok (reported_by rules entries)))) is
 
 input_ends : {O : Type 0} (written : O → Option (List ℕ)) (old new : O) (words : List (List ℕ)) (told : Files) (bytes : List ℕ) (rules : Rules) (cause : Cause)
     → IsInputCause cause → policy words told ≡ Ok rules → Explained (entries_of bytes) cause → Ends written old new (answer words told bytes) cause
 input_ends written old new words told bytes rules cause kind is explained =
-    ends_explained written old new (answer words told bytes) cause (λ is. subst IsInputCause is kind) (λ is. subst IsInputCause is kind)
+    ends_explained written old new (answer words told bytes) cause (not_of_input cause kind) (λ is. subst IsInputCause is kind)
     (subst (λ meant. Explained meant cause) (sym (answer_next words told bytes rules is))
-    (explained_next (entries_of bytes) (λ entries. Ok (report_of (messages rules entries))) cause explained))
+    (explained_next (entries_of bytes) (λ entries. Ok (reported_by rules entries)) cause explained))
 
-answer_report : (words : List (List ℕ)) (told : Files) (bytes : List ℕ) (rules : Rules) (entries : List Record) (report : List ℕ)
-    → policy words told ≡ Ok rules → entries_of bytes ≡ Ok entries → report ≡ report_of (messages rules entries) → answer words told bytes ≡ Ok report
-answer_report words told bytes rules entries report is read made =
-    answer_next words told bytes rules is ∙ ap (λ found. and_then found (λ entries. Ok (report_of (messages rules entries)))) read ∙ ap Ok (sym made)
+answer_report : (words : List (List ℕ)) (told : Files) (bytes : List ℕ) (rules : Rules) (entries : List Record) (reported : Reported)
+    → policy words told ≡ Ok rules → entries_of bytes ≡ Ok entries → reported ≡ reported_by rules entries → answer words told bytes ≡ Ok reported
+answer_report words told bytes rules entries reported is read made =
+    answer_next words told bytes rules is ∙ ap (λ found. and_then found (λ entries. Ok (reported_by rules entries))) read ∙ ap Ok (sym made)
 
 -- ---- completeness
 
 -- the cause of an answer, and its text
-abbrev pub cause_of : Result (List ℕ) Cause → Cause
-cause_of (Ok report) = Done
+abbrev pub cause_of : Result Reported Cause → Cause
+cause_of (Ok reported) = end_cause reported.errors
 cause_of (Err cause) = cause
 
-abbrev pub text_of : FileNames → Result (List ℕ) Cause → List ℕ
-text_of names (Ok report) = report
+abbrev pub text_of : FileNames → Result Reported Cause → List ℕ
+text_of names (Ok reported) = reported.report
 text_of names (Err cause) = fault_line names cause
 
 -- the answer's cause came with the answer's text
-pub record Completes {O : Type 0} (written : O → Option (List ℕ)) (old new : O) (names : FileNames) (meant : Result (List ℕ) Cause) (cause : Cause) : Type 0 where
+pub record Completes {O : Type 0} (written : O → Option (List ℕ)) (old new : O) (names : FileNames) (meant : Result Reported Cause) (cause : Cause) : Type 0 where
   pub cause_is : cause ≡ cause_of meant
   pub text_is : Appends (written old) (written new) (text_of names meant)
 
@@ -132,16 +176,24 @@ whole_line : {O : Type 0} (written : O → Option (List ℕ)) (faults : O → �
 whole_line written faults old new line calm (inl whole) = whole
 whole_line written faults old new line calm (inr front) = absurd (calm front.1)
 
-refused : {O : Type 0} (written : O → Option (List ℕ)) (old new : O) (names : FileNames) (meant : Result (List ℕ) Cause) (cause : Cause)
+refused : {O : Type 0} (written : O → Option (List ℕ)) (old new : O) (names : FileNames) (meant : Result Reported Cause) (cause : Cause)
     → meant ≡ Err cause → Appends (written old) (written new) (fault_line names cause) → Completes written old new names meant cause
 refused written old new names meant cause is line =
     record { cause_is = sym (ap cause_of is); text_is = subst (λ (text : List ℕ). Appends (written old) (written new) text) (sym (ap (text_of names) is)) line }
 
-completes : {O : Type 0} (written : O → Option (List ℕ)) (faults : O → ℕ) (old new : O) (names : FileNames) (meant : Result (List ℕ) Cause) (cause : Cause)
+whole_report : {O : Type 0} (written : O → Option (List ℕ)) (old new : O) (names : FileNames) (meant : Result Reported Cause) (cause : Cause)
+    → Reports written old new meant cause → Completes written old new names meant cause
+whole_report written old new names meant cause ends = record {
+  cause_is = ends.cause_is ∙ sym (ap cause_of ends.is_meant);
+  text_is = subst (λ (text : List ℕ). Appends (written old) (written new) text) (sym (ap (text_of names) ends.is_meant)) ends.whole;
+}
+
+completes : {O : Type 0} (written : O → Option (List ℕ)) (faults : O → ℕ) (old new : O) (names : FileNames) (meant : Result Reported Cause) (cause : Cause)
     → (Rose (faults old) (faults new) → ⊥) → Ends written old new meant cause → TellsFault written faults old new names cause
     → (cause ≡ ReadFault → ⊥) → (cause ≡ WriteFault → ⊥) → Completes written old new names meant cause ⊎ (cause ≡ OutOfMemory)
-completes written faults old new names meant Done calm ends told no_read no_write =
-    inl (record { cause_is = sym (ap cause_of ends.1); text_is = subst (λ (text : List ℕ). Appends (written old) (written new) text) (sym (ap (text_of names) ends.1)) ends.2 })
+completes written faults old new names meant Done calm ends told no_read no_write = inl (whole_report written old new names meant Done ends)
+completes written faults old new names meant (WalkErrors count) calm ends told no_read no_write =
+    inl (whole_report written old new names meant (WalkErrors count) ends)
 completes written faults old new names meant WriteFault calm ends told no_read no_write = absurd (no_write refl)
 completes written faults old new names meant ReadFault calm ends told no_read no_write = absurd (no_read refl)
 completes written faults old new names meant OutOfMemory calm ends told no_read no_write = inr refl
@@ -176,7 +228,7 @@ module _ {S I O : Type 0} (files : S → Option Files) (read_faults write_faults
         files_decide = decides;
         is_meant = all_some (files store) (λ told. all_some (left input) (λ bytes. tt));
         fault_told = line;
-        all_read = λ is. absurd (cc);
+        all_read = λ reported. absurd reported;
         read_failed = λ is. absurd (cc);
         write_failed = λ is. absurd (cc);
         counts = (later, input_later);
@@ -197,7 +249,7 @@ module _ {S I O : Type 0} (files : S → Option Files) (read_faults write_faults
         files_decide = if_some (files store) (λ told explained. decides_refusal (policy words told) cause (input_now ≡ input) explained kind still) explains;
         is_meant = if_some (files store) (λ told explained. all_some (left input) (λ bytes. policy_ends written out out_now words told bytes cause kind explained)) explains;
         fault_told = tells_line written out_faults out out_now (names_in words) cause line;
-        all_read = λ is. absurd (subst IsPolicyCause is kind);
+        all_read = λ reported. absurd (not_of_policy cause kind reported);
         read_failed = λ is. inl ((subst (CauseCounts (read_faults store) (read_faults store_now)) is counts).1, still);
         write_failed = λ is. absurd (subst IsPolicyCause is kind);
         counts = subst (λ now. ReadCounts (read_faults store) (read_faults store_now) (input_faults input) now cause) (sym (ap input_faults still)) (counts_of_store (read_faults store) (read_faults store_now) (input_faults input) cause counts);
@@ -219,7 +271,7 @@ module _ {S I O : Type 0} (files : S → Option Files) (read_faults write_faults
         files_decide = if_some (files store) (λ told is. decides_later (policy words told) rules cause (input_now ≡ input) is (is_later cause kind)) accepted;
         is_meant = if_some (files store) (λ told is. if_some (left input) (λ bytes explained. input_ends written out out_now words told bytes rules cause kind is explained) explains) accepted;
         fault_told = tells_line written out_faults out out_now (names_in words) cause line;
-        all_read = λ is. absurd (subst IsInputCause is kind);
+        all_read = λ reported. absurd (not_of_input cause kind reported);
         read_failed = λ is. inr (record {
           rose = (subst (CauseCounts (input_faults input) (input_faults input_now)) is counts).1;
           no_file_failed = no_file_failed;
@@ -229,45 +281,70 @@ module _ {S I O : Type 0} (files : S → Option Files) (read_faults write_faults
         counts = counts_of_input (read_faults store) (read_faults store_now) (input_faults input) (input_faults input_now) cause no_file_failed counts;
       }
 
-  -- the report, written or not
-  pub finished : (cause : Cause) (rules : Rules) (entries : List Record) (report : List ℕ)
+  -- the report was written
+  wrote_report : (cause : Cause) (rules : Rules) (entries : List Record) (reported : Reported) → IsReported cause
       → files store_now ≡ files store → write_faults store_now ≡ write_faults store
       → WordsRead words store store_now (Ok rules)
       → IfSome (files store) (λ told. policy words told ≡ Ok rules) → read_faults store_now ≡ read_faults store
       → IfSome (left input) (λ bytes. entries_of bytes ≡ Ok entries) → input_faults input_now ≡ input_faults input
       → IfSome (left input) (λ bytes. left input_now ≡ Some [])
-      → report ≡ report_of (messages rules entries)
-      → (cause ≡ Done) × Appends (written out) (written out_now) report
-      ⊎ (cause ≡ WriteFault) × AppendsFront (written out) (written out_now) report × Rose (out_faults out) (out_faults out_now)
+      → reported ≡ reported_by rules entries
+      → (cause ≡ end_cause reported.errors) → Appends (written out) (written out_now) reported.report
       → Ran cause
-  finished cause rules entries report same none read accepted no_file_failed entered no_input_failed ended made (inl done) =
-      subst Ran (sym done.0) (record {
+  wrote_report cause rules entries reported kind same none read accepted no_file_failed entered no_input_failed ended made is whole =
+      record {
         same_files = same;
         none_written = none;
         wrong_words = if_some (usage words) (λ wrong is. absurd (cc)) read.wrong;
-        only_wrong_words = λ index why is. absurd (cc);
-        files_decide = if_some (files store) (λ told is. decides_later (policy words told) rules Done (input_now ≡ input) is tt) accepted;
-        is_meant = if_some (files store) (λ told is. if_some (left input) (λ bytes entered. (report, answer_report words told bytes rules entries report is entered made, done.1)) entered) accepted;
-        fault_told = tt;
+        only_wrong_words = λ index why is. absurd (subst IsReported is kind);
+        files_decide = if_some (files store) (λ told is. decides_later (policy words told) rules cause (input_now ≡ input) is (reported_later cause kind)) accepted;
+        is_meant = if_some (files store) (λ told accepted. if_some (left input) (λ bytes entered. ends_reported written out out_now (answer words told bytes) cause kind
+            (record { reported = reported; is_meant = answer_report words told bytes rules entries reported accepted entered made; cause_is = is; whole = whole })) entered) accepted;
+        fault_told = tells_nothing written out_faults out out_now (names_in words) cause kind;
         all_read = λ _. ended;
-        read_failed = λ is. absurd (cc);
-        write_failed = λ is. absurd (cc);
-        counts = (no_file_failed, no_input_failed);
-      })
-  finished cause rules entries report same none read accepted no_file_failed entered no_input_failed ended made (inr failed) =
-      subst Ran (sym failed.0) (record {
+        read_failed = λ is. absurd (subst IsReported is kind);
+        write_failed = λ is. absurd (subst IsReported is kind);
+        counts = reported_counts (read_faults store) (read_faults store_now) (input_faults input) (input_faults input_now) cause kind no_file_failed no_input_failed;
+      }
+
+  -- a front of the report was written
+  lost_report : (rules : Rules) (entries : List Record) (reported : Reported)
+      → files store_now ≡ files store → write_faults store_now ≡ write_faults store
+      → WordsRead words store store_now (Ok rules)
+      → IfSome (files store) (λ told. policy words told ≡ Ok rules) → read_faults store_now ≡ read_faults store
+      → IfSome (left input) (λ bytes. entries_of bytes ≡ Ok entries) → input_faults input_now ≡ input_faults input
+      → reported ≡ reported_by rules entries
+      → AppendsFront (written out) (written out_now) reported.report → Rose (out_faults out) (out_faults out_now)
+      → Ran WriteFault
+  lost_report rules entries reported same none read accepted no_file_failed entered no_input_failed made front rose =
+      record {
         same_files = same;
         none_written = none;
         wrong_words = if_some (usage words) (λ wrong is. absurd (cc)) read.wrong;
         only_wrong_words = λ index why is. absurd (cc);
         files_decide = if_some (files store) (λ told is. decides_later (policy words told) rules WriteFault (input_now ≡ input) is tt) accepted;
-        is_meant = if_some (files store) (λ told is. if_some (left input) (λ bytes entered. (report, answer_report words told bytes rules entries report is entered made, failed.1)) entered) accepted;
+        is_meant = if_some (files store) (λ told is. if_some (left input) (λ bytes entered. (reported, answer_report words told bytes rules entries reported is entered made, front)) entered) accepted;
         fault_told = tt;
-        all_read = λ is. absurd (cc);
+        all_read = λ reported. absurd reported;
         read_failed = λ is. absurd (cc);
-        write_failed = λ _. failed.2;
+        write_failed = λ _. rose;
         counts = (no_file_failed, no_input_failed);
-      })
+      }
+
+  -- the report, written whole or not
+  pub finished : (cause : Cause) (rules : Rules) (entries : List Record) (reported : Reported)
+      → files store_now ≡ files store → write_faults store_now ≡ write_faults store
+      → WordsRead words store store_now (Ok rules)
+      → IfSome (files store) (λ told. policy words told ≡ Ok rules) → read_faults store_now ≡ read_faults store
+      → IfSome (left input) (λ bytes. entries_of bytes ≡ Ok entries) → input_faults input_now ≡ input_faults input
+      → IfSome (left input) (λ bytes. left input_now ≡ Some [])
+      → reported ≡ reported_by rules entries
+      → WritesReport written out_faults out out_now reported cause
+      → Ran cause
+  finished cause rules entries reported same none read accepted no_file_failed entered no_input_failed ended made (inl done) =
+      wrote_report cause rules entries reported (subst IsReported (sym done.0) (is_reported reported.errors)) same none read accepted no_file_failed entered no_input_failed ended made done.0 done.1
+  finished cause rules entries reported same none read accepted no_file_failed entered no_input_failed ended made (inr failed) =
+      subst Ran (sym failed.0) (lost_report rules entries reported same none read accepted no_file_failed entered no_input_failed made failed.1 failed.2)
 
   line_for : (names : FileNames) (a b : Cause) → names ≡ names_in words → a ≡ b → LineOrFront written out_faults out out_now (fault_line names a)
       → LineOrFront written out_faults out out_now (fault_line (names_in words) b)

@@ -1,6 +1,6 @@
 -- The search for the first wrong word, one index further.
-use Rattle.std.proofs.Common.{◌≡◌, ◌∙◌, ap, sym, refl, ℕ, suc, ◌+◌, ◌-◌, ◌<◌, ◌≤◌, true, false, cond, List, slice_get, arith}
-use Rattle.std.specs.Prelude.{Option, Some, None}
+use Rattle.std.proofs.Common.{◌≡◌, ◌∙◌, ap, sym, ℕ, suc, ◌+◌, ◌-◌, ◌<◌, ◌≤◌, true, false, cond, List, slice_get, arith}
+use Rattle.std.specs.Prelude.{Some, None}
 use Rattle.relabel_program.specs.Words.{first_wrong, is_right_at, usage, usage_at, usage_why}
 
 left_over : (i : ℕ) → i < 7 → 7 - i ≡ suc (7 - (i + 1))

@@ -1,13 +1,25 @@
 -- What a part of a run may answer in place of a value. A cause that no row names is refused.
-use Rattle.std.specs.Prelude.{◌≡◌, ℕ, ◌≤◌, Result, Ok, Err}
+use Rattle.std.specs.Prelude.{◌≡◌, ℕ, ◌≤◌, ◌==◌, Result, Ok, Err, if◌then◌else◌}
 use Rattle.label_base.specs.Source.{Rose}
 use Rattle.relabel_program.specs.declared.cause.Cause.{Cause}
-use Rattle.relabel_program.specs.declared.cause.Cause.TheVariants.{Done, Usage, Missing, SpecRefused, SubRefused, Limit, InputRefused, ReadFault, WriteFault, OutOfMemory}
+use Rattle.relabel_program.specs.declared.cause.Cause.TheVariants.{Done, Usage, Missing, SpecRefused, SubRefused, CustomRefused, RecordRefused, Unended, Doubled, Limit, WalkErrors, ReadFault, OutOfMemory}
+use Rattle.relabel_program.specs.declared.cause.LimitKind.{LimitKind}
+use Rattle.relabel_program.specs.declared.cause.LimitKind.TheVariants.{File, Specs, Records, RecordBytes}
 
 -- the next part, where the one before it gave a value
 abbrev pub and_then : {A B : Type 0} → Result A Cause → (A → Result B Cause) → Result B Cause
 and_then (Ok a) next = next a
 and_then (Err cause) next = Err cause
+
+-- how a run ends that wrote its report, which tells so many errors
+abbrev pub end_cause : ℕ → Cause
+end_cause errors = if errors == 0 then Done else WalkErrors errors
+
+-- the causes of a run that wrote its report
+abbrev pub IsReported : Cause → Type 0
+IsReported Done = Unit {0}
+IsReported (WalkErrors count) = Unit {0}
+IsReported cause = ⊥
 
 -- the causes of a failed read and of want of memory, which say nothing of the bytes
 abbrev pub IsReadingCause : Cause → Type 0
@@ -15,12 +27,25 @@ IsReadingCause ReadFault = Unit {0}
 IsReadingCause OutOfMemory = Unit {0}
 IsReadingCause cause = ⊥
 
+-- the limits of the files
+abbrev pub IsFileLimit : LimitKind → Type 0
+IsFileLimit (File part) = Unit {0}
+IsFileLimit Specs = Unit {0}
+IsFileLimit which = ⊥
+
+-- the limits of the input
+abbrev pub IsInputLimit : LimitKind → Type 0
+IsInputLimit Records = Unit {0}
+IsInputLimit RecordBytes = Unit {0}
+IsInputLimit which = ⊥
+
 -- the causes that a look at the files can have
 abbrev pub IsFileCause : Cause → Type 0
 IsFileCause (Missing name) = Unit {0}
 IsFileCause (SpecRefused part line why) = Unit {0}
 IsFileCause (SubRefused part line) = Unit {0}
-IsFileCause (Limit which) = Unit {0}
+IsFileCause (CustomRefused line) = Unit {0}
+IsFileCause (Limit which) = IsFileLimit which
 IsFileCause cause = IsReadingCause cause
 
 -- the causes that the words and a look at the files can have
@@ -30,7 +55,10 @@ IsPolicyCause cause = IsFileCause cause
 
 -- the causes that reading the input can have
 abbrev pub IsInputCause : Cause → Type 0
-IsInputCause InputRefused = Unit {0}
+IsInputCause (RecordRefused number why) = Unit {0}
+IsInputCause (Unended number) = Unit {0}
+IsInputCause (Doubled first second) = Unit {0}
+IsInputCause (Limit which) = IsInputLimit which
 IsInputCause cause = IsReadingCause cause
 
 -- a cause is what is meant; a failed read and want of memory say nothing of it

@@ -2,15 +2,20 @@
 use Rattle.std.specs.Prelude.{ℕ, List, [], ◌++◌}
 use Rattle.std.specs.Fmt.{decimal}
 use Rattle.label_base.specs.Escape.{escaped}
+use Rattle.label_base.specs.declared.path_fault.PathWhy.{PathWhy}
+use Rattle.label_base.specs.declared.path_fault.PathWhy.TheVariants.{Empty, PathTooLong, HasNul, NotAbsolute, DotPart}
+use Rattle.find_records.specs.declared.fault.RecordWhy.{RecordWhy}
+use Rattle.find_records.specs.declared.fault.RecordWhy.TheVariants as records
+use Rattle.label_base.specs.declared.kind.Part.TheVariants.{Customizable}
 use Rattle.pattern_syntax.specs.declared.pattern_fault.PatternWhy.{PatternWhy}
 use Rattle.pattern_syntax.specs.declared.pattern_fault.PatternWhy.TheVariants as pattern
 use Rattle.spec_reader.specs.declared.spec_fault.SpecWhy.{SpecWhy}
 use Rattle.spec_reader.specs.declared.spec_fault.SpecWhy.TheVariants.{MissingContext, BadKind, BadContext, BadPattern}
 use Rattle.relabel_program.specs.Names.{name_of}
 use Rattle.relabel_program.specs.declared.cause.Cause.{Cause}
-use Rattle.relabel_program.specs.declared.cause.Cause.TheVariants.{Done, Usage, Missing, SpecRefused, SubRefused, Limit, InputRefused, ReadFault, WriteFault, OutOfMemory}
+use Rattle.relabel_program.specs.declared.cause.Cause.TheVariants.{Done, Usage, Missing, SpecRefused, SubRefused, CustomRefused, RecordRefused, Unended, Doubled, Limit, WalkErrors, ReadFault, WriteFault, OutOfMemory}
 use Rattle.relabel_program.specs.declared.cause.LimitKind.{LimitKind}
-use Rattle.relabel_program.specs.declared.cause.LimitKind.TheVariants.{File, Specs}
+use Rattle.relabel_program.specs.declared.cause.LimitKind.TheVariants.{File, Specs, Records, RecordBytes}
 use Rattle.relabel_program.specs.declared.cause.UsageWhy.{UsageWhy}
 use Rattle.relabel_program.specs.declared.cause.UsageWhy.TheVariants.{UnknownTool, NotYet}
 use Rattle.relabel_program.specs.declared.names.FileNames.{FileNames}
@@ -40,9 +45,24 @@ spec_text BadKind = texts.BAD_TYPE.now
 spec_text BadContext = texts.BAD_CONTEXT.now
 spec_text (BadPattern why) = pattern_text why
 
+abbrev pub path_text : PathWhy → List ℕ
+path_text Empty = texts.PATH_EMPTY.now
+path_text PathTooLong = texts.PATH_TOO_LONG.now
+path_text HasNul = texts.PATH_HAS_NUL.now
+path_text NotAbsolute = texts.PATH_NOT_ABSOLUTE.now
+path_text DotPart = texts.PATH_DOT_PART.now
+
+abbrev pub record_text : RecordWhy → List ℕ
+record_text records.MissingField = texts.MISSING_FIELD.now
+record_text records.BadType = texts.BAD_TYPE.now
+record_text records.BadNumber = texts.BAD_NUMBER.now
+record_text (records.BadPath why) = path_text why
+
 abbrev pub limit_text : FileNames → LimitKind → List ℕ
 limit_text names (File part) = texts.LIMIT_BYTES.now ++ escaped (name_of names part)
 limit_text names Specs = texts.LIMIT_SPECS.now
+limit_text names Records = texts.LIMIT_RECORDS.now
+limit_text names RecordBytes = texts.LIMIT_RECORD_BYTES.now
 
 -- a line of a file, counted from 1
 abbrev pub place_text : List ℕ → ℕ → List ℕ
@@ -51,12 +71,22 @@ place_text name line = escaped name ++ texts.LINE.now ++ decimal line
 -- what stands between the program's name and the line feed
 abbrev pub refusal_text : FileNames → Cause → List ℕ
 refusal_text names Done = []
-refusal_text names (Usage index why) = texts.USAGE_WORD.now ++ decimal index ++ texts.COLON.now ++ usage_text why
+refusal_text names (Usage index why) =
+    texts.USAGE_WORD.now ++ decimal index ++ texts.COLON.now ++ usage_text why
 refusal_text names (Missing name) = escaped name ++ texts.NOT_FOUND.now
-refusal_text names (SpecRefused part line why) = place_text (name_of names part) line ++ texts.COLON.now ++ spec_text why
-refusal_text names (SubRefused part line) = place_text (name_of names part) line ++ texts.NOT_A_SUBSTITUTION.now
+refusal_text names (SpecRefused part line why) =
+    place_text (name_of names part) line ++ texts.COLON.now ++ spec_text why
+refusal_text names (SubRefused part line) =
+    place_text (name_of names part) line ++ texts.NOT_A_SUBSTITUTION.now
+refusal_text names (CustomRefused line) =
+    place_text (name_of names Customizable) line ++ texts.NOT_A_TYPE.now
+refusal_text names (RecordRefused number why) =
+    texts.RECORD.now ++ decimal number ++ texts.COLON.now ++ record_text why
+refusal_text names (Unended number) = texts.RECORD.now ++ decimal number ++ texts.NOT_ENDED.now
+refusal_text names (Doubled first second) =
+    texts.RECORDS.now ++ decimal first ++ texts.AND.now ++ decimal second ++ texts.TWO_ENTRIES.now
 refusal_text names (Limit which) = limit_text names which
-refusal_text names InputRefused = texts.RECORDS_REFUSED.now
+refusal_text names (WalkErrors count) = []
 refusal_text names ReadFault = texts.READ_FAILED.now
 refusal_text names WriteFault = texts.WRITE_FAILED.now
 refusal_text names OutOfMemory = texts.OUT_OF_MEMORY.now

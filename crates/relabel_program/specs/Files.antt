@@ -1,11 +1,13 @@
 -- The files of a policy, and the rules that they give.
-use Rattle.std.specs.Prelude.{ℕ, ◌-◌, ◌+◌, Bool, nat_lt, List, [], ◌++◌, length, Option, Some, None, Result, Ok, Err, if◌then◌else◌}
+use Rattle.std.specs.Prelude.{ℕ, ◌-◌, nat_lt, List, [], ◌++◌, length, Option, Some, None, Result, Ok, Err, if◌then◌else◌}
 use Rattle.label_base.specs.Store.{Files, content}
 use Rattle.label_base.specs.declared.kind.Part.{Part}
 use Rattle.label_base.specs.declared.lines.LinesWhy.{LinesWhy}
 use Rattle.label_base.specs.declared.lines.LinesWhy.TheVariants.{Refused, TooMany}
 use Rattle.label_base.specs.declared.lines.RefusedLine.{RefusedLine}
-use Rattle.label_base.specs.declared.kind.Part.TheVariants.{Base, Homedirs, Local, Subs, SubsDist, Kept}
+use Rattle.label_base.specs.declared.kind.Part.TheVariants.{Base, Homedirs, Local, Subs, SubsDist, Customizable, Kept}
+use Rattle.context_syntax.specs.TypeNames.{NameSet, types_read}
+use Rattle.context_syntax.specs.declared.customizable.NoTypeName.{NoTypeName}
 use Rattle.spec_reader.specs.SpecLines.{specs_of}
 use Rattle.spec_reader.specs.SpecValue.{SpecValue}
 use Rattle.spec_reader.specs.declared.spec_fault.SpecWhy.{SpecWhy}
@@ -17,7 +19,7 @@ use Rattle.relabel_core.specs.declared.rules.Rules.{Rules}
 use Rattle.relabel_program.specs.Causes.{and_then}
 use Rattle.relabel_program.specs.Names.{name_of}
 use Rattle.relabel_program.specs.declared.cause.Cause.{Cause}
-use Rattle.relabel_program.specs.declared.cause.Cause.TheVariants.{Missing, SpecRefused, SubRefused, Limit}
+use Rattle.relabel_program.specs.declared.cause.Cause.TheVariants.{Missing, SpecRefused, SubRefused, CustomRefused, Limit}
 use Rattle.relabel_program.specs.declared.cause.LimitKind.TheVariants.{File, Specs}
 use Rattle.relabel_program.specs.declared.files.TheConstants.{MOST_BYTES, MOST_KEPT_BYTES, MOST_SPEC_BYTES, MOST_SPECS}
 use Rattle.relabel_program.specs.declared.names.FileNames.{FileNames}
@@ -37,7 +39,8 @@ absent names part = Ok []
 
 abbrev pub bytes_from : FileNames → Part → Option (List ℕ) → Result (List ℕ) Cause
 bytes_from names part None = absent names part
-bytes_from names part (Some bytes) = if nat_lt (most_bytes part) (length bytes) then Err (Limit (File part)) else Ok bytes
+bytes_from names part (Some bytes) =
+    if nat_lt (most_bytes part) (length bytes) then Err (Limit (File part)) else Ok bytes
 
 -- the bytes of a file
 unfoldable pub part_bytes : FileNames → Part → Files → Result (List ℕ) Cause
@@ -53,7 +56,8 @@ specs_from part (Err why) = Err (spec_refusal part why)
 
 -- the specifications of a file, with room for so many
 unfoldable pub part_specs : FileNames → Part → ℕ → Files → Result (List SpecValue) Cause
-part_specs names part room files = and_then (part_bytes names part files) (λ bytes. specs_from part (specs_of part room bytes))
+part_specs names part room files =
+    and_then (part_bytes names part files) (λ bytes. specs_from part (specs_of part room bytes))
 
 abbrev pub subs_from : Part → Result (List SubValue) (RefusedLine NoSub) → Result (List SubValue) Cause
 subs_from part (Ok subs) = Ok subs
@@ -61,7 +65,17 @@ subs_from part (Err line) = Err (SubRefused part line.number)
 
 -- the substitutions of a file
 unfoldable pub part_subs : FileNames → Part → Files → Result (List SubValue) Cause
-part_subs names part files = and_then (part_bytes names part files) (λ bytes. subs_from part (subs_of bytes))
+part_subs names part files =
+    and_then (part_bytes names part files) (λ bytes. subs_from part (subs_of bytes))
+
+abbrev pub types_from : Result NameSet (RefusedLine NoTypeName) → Result NameSet Cause
+types_from (Ok types) = Ok types
+types_from (Err line) = Err (CustomRefused line.number)
+
+-- the customizable types
+unfoldable pub customizable_types : FileNames → Files → Result NameSet Cause
+customizable_types names files =
+    and_then (part_bytes names Customizable files) (λ bytes. types_from (types_read bytes))
 
 -- the specifications of the three files, in the order in which the last match decides
 unfoldable pub list_of : FileNames → Files → Result (List SpecValue) Cause
@@ -77,4 +91,9 @@ rules_of names files =
     and_then (list_of names files) (λ list.
     and_then (part_subs names Subs files) (λ first.
     and_then (part_subs names SubsDist files) (λ second.
-    Ok (record { rules = list; subs = record { first = first; second = second } }))))
+    and_then (customizable_types names files) (λ types.
+    Ok (record {
+      rules = list;
+      subs = record { first = first; second = second };
+      types = types;
+    })))))

@@ -1,32 +1,40 @@
 -- The tree that the input gives.
-use Rattle.std.specs.Prelude.{ℕ, Bool, ◌||◌, not, nat_lt, List, length, Result, Ok, Err, if◌then◌else◌}
+use Rattle.std.specs.Prelude.{ℕ, nat_lt, List, length, Result, Ok, Err, if◌then◌else◌}
 use Rattle.find_records.specs.Grammar.{records_of}
+use Rattle.find_records.specs.Record.{Record}
 use Rattle.find_records.specs.declared.fault.RecordsFault.{RecordsFault}
+use Rattle.find_records.specs.declared.fault.RecordsFault.TheVariants as records
 use Rattle.find_records.specs.declared.reading.RecordLimits.{RecordLimits}
-use Rattle.find_records.specs.declared.record.Record.{Record}
 use Rattle.tree_model.specs.Entries.{tree_of}
-use Rattle.tree_model.specs.Links.{has_links}
-use Rattle.tree_model.specs.Tree.{has_root}
 use Rattle.relabel_program.specs.declared.cause.Cause.{Cause}
-use Rattle.relabel_program.specs.declared.cause.Cause.TheVariants.{InputRefused}
+use Rattle.relabel_program.specs.declared.cause.Cause.TheVariants.{RecordRefused, Unended, Doubled, Limit, ReadFault, OutOfMemory}
+use Rattle.relabel_program.specs.declared.cause.LimitKind.TheVariants.{Records, RecordBytes}
 use Rattle.relabel_program.specs.declared.input.TheConstants.{MOST_RECORD_BYTES, MOST_RECORDS}
 
 -- the greatest numbers of records and of their bytes
 abbrev pub record_limits : RecordLimits
 record_limits = record { records = MOST_RECORDS; bytes = MOST_RECORD_BYTES }
 
--- for now hard links and trees without their root are refused
-abbrev pub checked_entries : List Record → Result (List Record) Cause
-checked_entries entries = if has_links entries || not (has_root entries) then Err InputRefused else Ok entries
+-- how a run ends where the input gives no records
+abbrev pub records_refusal : RecordsFault → Cause
+records_refusal records.ReadFault = ReadFault
+records_refusal records.TooLong = Limit RecordBytes
+records_refusal records.TooMany = Limit Records
+records_refusal (records.Refused number why) = RecordRefused number why
+records_refusal (records.Unended number) = Unended number
+records_refusal records.OutOfMemory = OutOfMemory
 
+-- entries, or the numbers of two records of one path
 abbrev pub entries_from : Result (List Record) (ℕ × ℕ) → Result (List Record) Cause
-entries_from (Ok entries) = checked_entries entries
-entries_from (Err doubled) = Err InputRefused
+entries_from (Ok entries) = Ok entries
+entries_from (Err doubled) = Err (Doubled doubled.0 doubled.1)
 
 abbrev pub entries_read : Result (List Record) RecordsFault → Result (List Record) Cause
 entries_read (Ok records) = entries_from (tree_of records)
-entries_read (Err why) = Err InputRefused
+entries_read (Err fault) = Err (records_refusal fault)
 
 -- the entries of the tree that the bytes of the input are
 unfoldable pub entries_of : List ℕ → Result (List Record) Cause
-entries_of bytes = if nat_lt MOST_RECORD_BYTES (length bytes) then Err InputRefused else entries_read (records_of record_limits bytes)
+entries_of bytes =
+    if nat_lt MOST_RECORD_BYTES (length bytes) then Err (Limit RecordBytes)
+    else entries_read (records_of record_limits bytes)

@@ -1,6 +1,7 @@
 ghost use Rattle.std.specs.Prelude.{◌≡◌};
 ghost use Rattle.relabel_program.specs.declared.cause.Cause.TheVariants as causes;
 
+use find_records::RecordWhy;
 use label_base::{Name, OutOfMemory, Part};
 use spec_reader::SpecWhy;
 
@@ -20,6 +21,10 @@ pub enum LimitKind {
     File(Part),
     /// The specifications of all files together.
     Specs,
+    /// The records of the input.
+    Records,
+    /// The bytes of the input.
+    RecordBytes,
 }
 
 /// How a run ended.
@@ -35,10 +40,19 @@ pub enum Cause {
     SpecRefused { part: Part, line: u32, why: SpecWhy },
     /// This line of a file of substitutions is the first that is none; lines count from 1.
     SubRefused { part: Part, line: u32 },
+    /// This line of the file of customizable types is the first that is none; lines count from 1.
+    CustomRefused { line: u32 },
+    /// This record of the input is the first that is none; records count from 1.
+    RecordRefused { number: u32, why: RecordWhy },
+    /// The last record of the input has no NUL, and this number.
+    Unended { number: u32 },
+    /// The second record is the first whose path an earlier one has for another entry, and the
+    /// first one is the first with that path.
+    Doubled { first: u32, second: u32 },
     /// A quantity is past its greatest value.
     Limit { which: LimitKind },
-    /// The input is no run of records of a tree from `/` on without hard links.
-    InputRefused,
+    /// The report was written, and tells so many errors.
+    WalkErrors { count: u32 },
     /// A file or the input could not be read.
     ReadFault,
     /// The report could not be written.

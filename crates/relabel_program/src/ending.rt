@@ -1,16 +1,15 @@
 ghost use Rattle.std.specs.Prelude.{◌≡◌, ◌⊎◌, ◌≤◌, ◌++◌};
-ghost use Rattle.std.specs.Io.KnownBytes.{Appends};
-ghost use Rattle.label_base.specs.Sink.{AppendsFront};
-ghost use Rattle.label_base.specs.Source.{Rose};
+ghost use Rattle.relabel_program.specs.Causes.{end_cause};
 ghost use Rattle.relabel_program.specs.Faults.{fault_line, status_of};
-ghost use Rattle.relabel_program.specs.Run.{LineOrFront};
+ghost use Rattle.relabel_program.specs.Run.{LineOrFront, WritesReport};
 ghost use Rattle.relabel_program.specs.declared.cause.Cause.TheVariants as causes;
 ghost use Rattle.relabel_program.specs.declared.names.FileNames.{FileNames};
 
 use crate::cause::{Cause, Outcome};
 use crate::fault::{refusal_line, status};
 use crate::names::FileNames;
-use label_base::{Bytes, Sink, write_all};
+use crate::reported::Reported;
+use label_base::{Sink, write_all};
 use std::alloc::Global;
 
 /// The line that tells want of memory. It takes none.
@@ -37,7 +36,8 @@ fn ended(cause: Cause) -> Outcome
 pub fn give_up<O: Sink>(out: &mut O) -> Outcome
     ensures cause { result.cause ≡ causes.OutOfMemory }
     ensures status { result.status ≡ status_of result.cause }
-    ensures told { (names : FileNames) → LineOrFront O.written O.faults out.old out.new (fault_line names causes.OutOfMemory) }
+    ensures told { (names : FileNames)
+        → LineOrFront O.written O.faults out.old out.new (fault_line names causes.OutOfMemory) }
     ensures later { O.faults out.old ≤ O.faults out.new }
 {
     tell(out, OUT_OF_MEMORY_LINE.as_bytes());
@@ -48,7 +48,8 @@ pub fn give_up<O: Sink>(out: &mut O) -> Outcome
 pub fn refuse<O: Sink>(alloc: Global, names: &FileNames, cause: Cause, out: &mut O) -> Outcome
     ensures cause { (result.cause ≡ cause) ⊎ (result.cause ≡ causes.OutOfMemory) }
     ensures status { result.status ≡ status_of result.cause }
-    ensures told { LineOrFront O.written O.faults out.old out.new (fault_line names.now result.cause) }
+    ensures told { LineOrFront O.written O.faults out.old out.new
+        (fault_line names.now result.cause) }
     ensures later { O.faults out.old ≤ O.faults out.new }
 {
     if let Cause::OutOfMemory = cause {
@@ -63,16 +64,24 @@ pub fn refuse<O: Sink>(alloc: Global, names: &FileNames, cause: Cause, out: &mut
     }
 }
 
-/// Writes the report.
-pub fn finish<O: Sink>(report: Bytes, out: &mut O) -> Outcome
+fn end_cause(errors: u32) -> Cause
+    ensures { result ≡ end_cause errors }
+{
+    if errors == 0 {
+        Cause::Done
+    } else {
+        Cause::WalkErrors { count: errors }
+    }
+}
+
+/// Writes the report, and ends a run by its errors.
+pub fn finish<O: Sink>(reported: Reported, out: &mut O) -> Outcome
     ensures status { result.status ≡ status_of result.cause }
-    ensures written { (result.cause ≡ causes.Done) × Appends (O.written out.old) (O.written out.new) report
-        ⊎ (result.cause ≡ causes.WriteFault) × AppendsFront (O.written out.old) (O.written out.new) report
-        × Rose (O.faults out.old) (O.faults out.new) }
+    ensures written { WritesReport O.written O.faults out.old out.new reported result.cause }
     ensures later { O.faults out.old ≤ O.faults out.new }
 {
-    match write_all(out, report.as_slice()) {
-        Ok(()) => ended(Cause::Done),
+    match write_all(out, reported.report.as_slice()) {
+        Ok(()) => ended(end_cause(reported.errors)),
         Err(_) => ended(Cause::WriteFault),
     }
 }

@@ -1,11 +1,12 @@
 ghost use Rattle.std.specs.Prelude.{◌≡◌, ◌++◌, OnOk, IfOk};
 ghost use Rattle.std.specs.Fmt.{decimal};
 ghost use Rattle.label_base.specs.Escape.{escaped};
-ghost use Rattle.relabel_program.specs.Faults.{fault_line, limit_text, pattern_text, place_text, refusal_text, spec_text, status_of, usage_text};
+ghost use Rattle.relabel_program.specs.Faults.{fault_line, limit_text, path_text, pattern_text, place_text, record_text, refusal_text, spec_text, status_of, usage_text};
 
 use crate::cause::{Cause, LimitKind, UsageWhy};
 use crate::names::FileNames;
-use label_base::{Bytes, OutOfMemory, write_escaped};
+use find_records::RecordWhy;
+use label_base::{Bytes, OutOfMemory, Part, PathWhy, write_escaped};
 use pattern_syntax::PatternWhy;
 use spec_reader::SpecWhy;
 use std::alloc::Global;
@@ -28,7 +29,35 @@ const LIMIT_BYTES: &str = "limit: bytes of ";
 
 const LIMIT_SPECS: &str = "limit: specifications";
 
-const RECORDS_REFUSED: &str = "records refused";
+const LIMIT_RECORDS: &str = "limit: records";
+
+const LIMIT_RECORD_BYTES: &str = "limit: bytes of input";
+
+const NOT_A_TYPE: &str = ": not a type";
+
+const RECORD: &str = "record ";
+
+const NOT_ENDED: &str = ": not ended";
+
+const RECORDS: &str = "records ";
+
+const AND: &str = " and ";
+
+const TWO_ENTRIES: &str = ": one path, two entries";
+
+const MISSING_FIELD: &str = "missing field";
+
+const BAD_NUMBER: &str = "bad number";
+
+const PATH_EMPTY: &str = "path: empty";
+
+const PATH_TOO_LONG: &str = "path: too long";
+
+const PATH_HAS_NUL: &str = "path: has NUL";
+
+const PATH_NOT_ABSOLUTE: &str = "path: not absolute";
+
+const PATH_DOT_PART: &str = "path: dot part";
 
 const READ_FAILED: &str = "read failed";
 
@@ -127,6 +156,29 @@ fn usage_words(why: UsageWhy) -> &'static str
     }
 }
 
+fn path_words(why: PathWhy) -> &'static str
+    ensures { result.now ≡ path_text why }
+{
+    match why {
+        PathWhy::Empty => PATH_EMPTY,
+        PathWhy::PathTooLong => PATH_TOO_LONG,
+        PathWhy::HasNul => PATH_HAS_NUL,
+        PathWhy::NotAbsolute => PATH_NOT_ABSOLUTE,
+        PathWhy::DotPart => PATH_DOT_PART,
+    }
+}
+
+fn record_words(why: RecordWhy) -> &'static str
+    ensures { result.now ≡ record_text why }
+{
+    match why {
+        RecordWhy::MissingField => MISSING_FIELD,
+        RecordWhy::BadType => BAD_TYPE,
+        RecordWhy::BadNumber => BAD_NUMBER,
+        RecordWhy::BadPath(why) => path_words(why),
+    }
+}
+
 fn add_file_limit(alloc: Global, name: &str, text: &mut Bytes) -> Result<(), OutOfMemory>
     ensures { OnOk result (text.new ≡ text.old ++ (LIMIT_BYTES.now ++ escaped name.now)) }
 {
@@ -145,7 +197,83 @@ fn add_limit(
     match which {
         LimitKind::File(part) => add_file_limit(alloc, names.name_of(part), text),
         LimitKind::Specs => add(LIMIT_SPECS, text),
+        LimitKind::Records => add(LIMIT_RECORDS, text),
+        LimitKind::RecordBytes => add(LIMIT_RECORD_BYTES, text),
     }
+}
+
+fn add_usage(alloc: Global, index: u32, why: UsageWhy, text: &mut Bytes) -> Result<(), OutOfMemory>
+    ensures { OnOk result (text.new ≡ text.old
+        ++ (USAGE_WORD.now ++ decimal index ++ COLON.now ++ usage_text why)) }
+{
+    add(USAGE_WORD, text)?;
+    add_number(alloc, index, text)?;
+    add(COLON, text)?;
+    add(usage_words(why), text)
+}
+
+// Adds a line of a file of specifications that is none.
+fn add_line_why(
+    alloc: Global,
+    name: &str,
+    line: u32,
+    why: SpecWhy,
+    text: &mut Bytes,
+) -> Result<(), OutOfMemory>
+    ensures { OnOk result (text.new ≡ text.old
+        ++ (place_text name.now line ++ COLON.now ++ spec_text why)) }
+{
+    add_place(alloc, name, line, text)?;
+    add(COLON, text)?;
+    add_why(alloc, why, text)
+}
+
+// Adds a line of a file, and what it is not.
+fn add_line_not(
+    alloc: Global,
+    name: &str,
+    line: u32,
+    words: &str,
+    text: &mut Bytes,
+) -> Result<(), OutOfMemory>
+    ensures { OnOk result (text.new ≡ text.old ++ (place_text name.now line ++ words.now)) }
+{
+    add_place(alloc, name, line, text)?;
+    add(words, text)
+}
+
+fn add_record(
+    alloc: Global,
+    number: u32,
+    why: RecordWhy,
+    text: &mut Bytes,
+) -> Result<(), OutOfMemory>
+    ensures { OnOk result (text.new ≡ text.old
+        ++ (RECORD.now ++ decimal number ++ COLON.now ++ record_text why)) }
+{
+    add(RECORD, text)?;
+    add_number(alloc, number, text)?;
+    add(COLON, text)?;
+    add(record_words(why), text)
+}
+
+fn add_unended(alloc: Global, number: u32, text: &mut Bytes) -> Result<(), OutOfMemory>
+    ensures { OnOk result (text.new ≡ text.old ++ (RECORD.now ++ decimal number ++ NOT_ENDED.now)) }
+{
+    add(RECORD, text)?;
+    add_number(alloc, number, text)?;
+    add(NOT_ENDED, text)
+}
+
+fn add_doubled(alloc: Global, first: u32, second: u32, text: &mut Bytes) -> Result<(), OutOfMemory>
+    ensures { OnOk result (text.new ≡ text.old
+        ++ (RECORDS.now ++ decimal first ++ AND.now ++ decimal second ++ TWO_ENTRIES.now)) }
+{
+    add(RECORDS, text)?;
+    add_number(alloc, first, text)?;
+    add(AND, text)?;
+    add_number(alloc, second, text)?;
+    add(TWO_ENTRIES, text)
 }
 
 fn add_refusal(
@@ -157,28 +285,27 @@ fn add_refusal(
     ensures { OnOk result (text.new ≡ text.old ++ refusal_text names.now cause.now) }
 {
     match cause {
-        Cause::Done => Ok(()),
-        Cause::Usage { index, why } => {
-            add(USAGE_WORD, text)?;
-            add_number(alloc, *index, text)?;
-            add(COLON, text)?;
-            add(usage_words(*why), text)
-        }
+        Cause::Done | Cause::WalkErrors { .. } => Ok(()),
+        Cause::Usage { index, why } => add_usage(alloc, *index, *why, text),
         Cause::Missing { name } => {
             add_name(alloc, name.as_str(), text)?;
             add(NOT_FOUND, text)
         }
         Cause::SpecRefused { part, line, why } => {
-            add_place(alloc, names.name_of(*part), *line, text)?;
-            add(COLON, text)?;
-            add_why(alloc, *why, text)
+            add_line_why(alloc, names.name_of(*part), *line, *why, text)
         }
         Cause::SubRefused { part, line } => {
-            add_place(alloc, names.name_of(*part), *line, text)?;
-            add(NOT_A_SUBSTITUTION, text)
+            let name = names.name_of(*part);
+            add_line_not(alloc, name, *line, NOT_A_SUBSTITUTION, text)
         }
+        Cause::CustomRefused { line } => {
+            let name = names.name_of(Part::Customizable);
+            add_line_not(alloc, name, *line, NOT_A_TYPE, text)
+        }
+        Cause::RecordRefused { number, why } => add_record(alloc, *number, *why, text),
+        Cause::Unended { number } => add_unended(alloc, *number, text),
+        Cause::Doubled { first, second } => add_doubled(alloc, *first, *second, text),
         Cause::Limit { which } => add_limit(alloc, names, *which, text),
-        Cause::InputRefused => add(RECORDS_REFUSED, text),
         Cause::ReadFault => add(READ_FAILED, text),
         Cause::WriteFault => add(WRITE_FAILED, text),
         Cause::OutOfMemory => add(OUT_OF_MEMORY, text),

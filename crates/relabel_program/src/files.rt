@@ -1,9 +1,10 @@
 ghost use Rattle.std.specs.Prelude.{◌≡◌, ℕ, ◌≤◌, ◌-◌, IfOk, IfErr, IfSome, OnOk, length};
 ghost use Rattle.relabel_program.specs.Causes.{Counts, Gives, IsFileCause};
-ghost use Rattle.relabel_program.specs.Files.{absent, list_of, most_bytes, part_bytes, part_specs, part_subs, rules_of};
+ghost use Rattle.relabel_program.specs.Files.{absent, customizable_types, list_of, most_bytes, part_bytes, part_specs, part_subs, rules_of};
 
 use crate::cause::{Cause, LimitKind};
 use crate::names::FileNames;
+use context_syntax::{TypeNames, read_customizable};
 use label_base::{Bytes, Fault, FileFault, LinesWhy, Name, Part, Row, Store};
 use path_subs::{Sub, Subs, read_subs};
 use relabel_core::Rules;
@@ -55,7 +56,8 @@ fn read_part<S: Store>(
     ensures files { S.files store.new ≡ S.files store.old }
     ensures writes { S.write_faults store.new ≡ S.write_faults store.old }
     ensures within { IfOk result (λ bytes. length bytes ≤ most_bytes part) }
-    ensures answer { IfSome (S.files store.old) (λ files. Gives (part_bytes names.now part files) result) }
+    ensures answer { IfSome (S.files store.old) (λ files.
+        Gives (part_bytes names.now part files) result) }
     ensures counts { Counts (S.read_faults store.old) (S.read_faults store.new) result }
     ensures kinds { IfErr result IsFileCause }
 {
@@ -81,7 +83,8 @@ fn read_specs_part<S: Store>(
     ensures files { S.files store.new ≡ S.files store.old }
     ensures writes { S.write_faults store.new ≡ S.write_faults store.old }
     ensures within { IfOk result (λ specs. length specs ≤ room) }
-    ensures answer { IfSome (S.files store.old) (λ files. Gives (part_specs names.now part room files) result) }
+    ensures answer { IfSome (S.files store.old) (λ files.
+        Gives (part_specs names.now part room files) result) }
     ensures counts { Counts (S.read_faults store.old) (S.read_faults store.new) result }
     ensures kinds { IfErr result IsFileCause }
 {
@@ -109,7 +112,8 @@ fn read_subs_part<S: Store>(
 ) -> Result<Row<Sub>, Cause>
     ensures files { S.files store.new ≡ S.files store.old }
     ensures writes { S.write_faults store.new ≡ S.write_faults store.old }
-    ensures answer { IfSome (S.files store.old) (λ files. Gives (part_subs names.now part files) result) }
+    ensures answer { IfSome (S.files store.old) (λ files.
+        Gives (part_subs names.now part files) result) }
     ensures counts { Counts (S.read_faults store.old) (S.read_faults store.new) result }
     ensures kinds { IfErr result IsFileCause }
 {
@@ -124,12 +128,30 @@ fn read_subs_part<S: Store>(
     }
 }
 
+#[tactic(auto, unfolding(crate::specs::Files::customizable_types))]
+fn read_types<S: Store>(alloc: Global, names: &FileNames, store: &mut S) -> Result<TypeNames, Cause>
+    ensures files { S.files store.new ≡ S.files store.old }
+    ensures writes { S.write_faults store.new ≡ S.write_faults store.old }
+    ensures answer { IfSome (S.files store.old) (λ files.
+        Gives (customizable_types names.now files) result) }
+    ensures counts { Counts (S.read_faults store.old) (S.read_faults store.new) result }
+    ensures kinds { IfErr result IsFileCause }
+{
+    let bytes = read_part(alloc, names, Part::Customizable, store)?;
+    match read_customizable(alloc, bytes.as_slice()) {
+        Ok(types) => Ok(types),
+        Err(Fault::Why(line)) => Err(Cause::CustomRefused { line: line.number }),
+        Err(Fault::OutOfMemory) => Err(Cause::OutOfMemory),
+    }
+}
+
 #[tactic(auto, unfolding(crate::specs::Files::list_of))]
 fn read_list<S: Store>(alloc: Global, names: &FileNames, store: &mut S) -> Result<Row<Spec>, Cause>
     ensures files { S.files store.new ≡ S.files store.old }
     ensures writes { S.write_faults store.new ≡ S.write_faults store.old }
     ensures within { IfOk result (λ list. length list ≤ MOST_SPECS) }
-    ensures answer { IfSome (S.files store.old) (λ files. Gives (list_of names.now files) result) }
+    ensures answer { IfSome (S.files store.old) (λ files.
+        Gives (list_of names.now files) result) }
     ensures counts { Counts (S.read_faults store.old) (S.read_faults store.new) result }
     ensures kinds { IfErr result IsFileCause }
 {
@@ -141,21 +163,24 @@ fn read_list<S: Store>(alloc: Global, names: &FileNames, store: &mut S) -> Resul
     Ok(ordered(alloc, first, home, local)?)
 }
 
-/// Reads the files of a policy: the base file, then `.homedirs`, `.local`, `.subs` and `.subs_dist` beside it, each of
-/// which may be absent.
+/// Reads the files of a policy: the base file, then `.homedirs`, `.local`, `.subs` and `.subs_dist`
+/// beside it, then the customizable types. Each but the base file may be absent.
 #[tactic(auto, unfolding(crate::specs::Files::rules_of))]
 pub fn read_rules<S: Store>(alloc: Global, names: &FileNames, store: &mut S) -> Result<Rules, Cause>
     ensures files { S.files store.new ≡ S.files store.old }
     ensures writes { S.write_faults store.new ≡ S.write_faults store.old }
-    ensures answer { IfSome (S.files store.old) (λ files. Gives (rules_of names.now files) result) }
+    ensures answer { IfSome (S.files store.old) (λ files.
+        Gives (rules_of names.now files) result) }
     ensures counts { Counts (S.read_faults store.old) (S.read_faults store.new) result }
     ensures kinds { IfErr result IsFileCause }
 {
     let list = read_list(alloc, names, store)?;
     let first = read_subs_part(alloc, names, Part::Subs, store)?;
     let second = read_subs_part(alloc, names, Part::SubsDist, store)?;
+    let types = read_types(alloc, names, store)?;
     Ok(Rules {
         rules: RuleSet::new(alloc, list)?,
         subs: Subs { first, second },
+        types,
     })
 }

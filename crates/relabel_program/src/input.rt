@@ -1,11 +1,11 @@
 ghost use Rattle.std.specs.Prelude.{◌≡◌, ℕ, ◌≤◌, ◌<◌, ◌-◌, ◌^◌, [], Some, IfOk, IfErr, IfSome, OnOk, length};
 ghost use Rattle.relabel_program.specs.Causes.{Counts, Gives, IsInputCause};
 ghost use Rattle.tree_model.specs.Entries.{tree_of};
-ghost use Rattle.relabel_program.specs.Input.{checked_entries, entries_from, entries_of};
+ghost use Rattle.relabel_program.specs.Input.{entries_from, entries_of, records_refusal};
 
-use crate::cause::Cause;
-use find_records::{Record, RecordLimits, RecordsFault, read_records};
-use label_base::{Row, Source};
+use crate::cause::{Cause, LimitKind};
+use find_records::{RecordLimits, Records, RecordsFault, read_records};
+use label_base::Source;
 use std::alloc::Global;
 use tree_model::{Tree, TreeFault};
 
@@ -14,27 +14,36 @@ const MOST_RECORDS: u32 = 2_097_152;
 /// The greatest number of bytes of all records together.
 const MOST_RECORD_BYTES: u64 = 536_870_912;
 
-fn checked(alloc: Global, tree: Tree) -> Result<Tree, Cause>
-    ensures answer { Gives (checked_entries tree) result }
-    ensures counts { (count : ℕ) → Counts count count result }
-    ensures kinds { IfErr result IsInputCause }
-{
-    if tree.has_hard_links(alloc)? || !tree.has_root() {
-        return Err(Cause::InputRefused);
-    }
-    Ok(tree)
-}
-
-fn tree_from(alloc: Global, records: Row<Record>) -> Result<Tree, Cause>
+#[tactic(auto, using(crate::proofs::EntryCounts::tree_few))]
+fn tree_from(alloc: Global, records: Records) -> Result<Tree, Cause>
     requires { length records < 2 ^ 32 }
     ensures answer { Gives (entries_from (tree_of records)) result }
     ensures counts { (count : ℕ) → Counts count count result }
     ensures kinds { IfErr result IsInputCause }
+    ensures few { IfOk result (λ tree. length tree ≤ length records) }
 {
     match Tree::new(alloc, records) {
-        Ok(tree) => checked(alloc, tree),
-        Err(TreeFault::Doubled { .. }) => Err(Cause::InputRefused),
+        Ok(tree) => Ok(tree),
+        Err(TreeFault::Doubled { first, second }) => Err(Cause::Doubled { first, second }),
         Err(TreeFault::OutOfMemory) => Err(Cause::OutOfMemory),
+    }
+}
+
+fn refusal(fault: RecordsFault) -> Cause
+    ensures value { result ≡ records_refusal fault }
+    ensures kind { IsInputCause result }
+{
+    match fault {
+        RecordsFault::ReadFault => Cause::ReadFault,
+        RecordsFault::TooLong => Cause::Limit {
+            which: LimitKind::RecordBytes,
+        },
+        RecordsFault::TooMany => Cause::Limit {
+            which: LimitKind::Records,
+        },
+        RecordsFault::Refused { number, why } => Cause::RecordRefused { number, why },
+        RecordsFault::Unended { number } => Cause::Unended { number },
+        RecordsFault::OutOfMemory => Cause::OutOfMemory,
     }
 }
 
@@ -45,6 +54,7 @@ pub fn read_tree<I: Source>(alloc: Global, input: &mut I) -> Result<Tree, Cause>
     ensures ended { OnOk result (IfSome (I.left input.old) (λ bytes. I.left input.new ≡ Some [])) }
     ensures counts { Counts (I.faults input.old) (I.faults input.new) result }
     ensures kinds { IfErr result IsInputCause }
+    ensures few { IfOk result (λ tree. length tree ≤ MOST_RECORDS) }
 {
     let limits = RecordLimits {
         records: MOST_RECORDS,
@@ -52,8 +62,6 @@ pub fn read_tree<I: Source>(alloc: Global, input: &mut I) -> Result<Tree, Cause>
     };
     match read_records(alloc, input, limits) {
         Ok(records) => tree_from(alloc, records),
-        Err(RecordsFault::ReadFault) => Err(Cause::ReadFault),
-        Err(RecordsFault::OutOfMemory) => Err(Cause::OutOfMemory),
-        Err(_) => Err(Cause::InputRefused),
+        Err(fault) => Err(refusal(fault)),
     }
 }

@@ -8,6 +8,7 @@ mod files;
 mod input;
 mod names;
 mod policy;
+mod reported;
 mod runs;
 #[cfg(test)]
 mod tests;

@@ -12,7 +12,9 @@ const SUBS: &str = ".subs";
 
 const SUBS_DIST: &str = ".subs_dist";
 
-/// The names of the files of a policy, as selabel_file(5) has them: all stand beside the base file.
+const CUSTOMIZABLE_TYPES: &str = "/etc/selinux/targeted/contexts/customizable_types";
+
+/// The names of the files of a policy that stand beside its base file, as selabel_file(5) has them.
 #[derive(Debug, Drop)]
 pub struct FileNames {
     pub base: Name,
@@ -54,7 +56,8 @@ impl FileNames {
             Part::Local => self.local.as_str(),
             Part::Subs => self.subs.as_str(),
             Part::SubsDist => self.subs_dist.as_str(),
-            Part::Customizable | Part::Kept => "",
+            Part::Customizable => CUSTOMIZABLE_TYPES,
+            Part::Kept => "",
         }
     }
 }

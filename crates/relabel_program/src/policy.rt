@@ -27,7 +27,8 @@ pub fn read_policy<S: Store>(
         (result ≡ Err (Cause.Usage wrong.0 wrong.1)) × (store.new ≡ store.old)) }
     ensures only_usage { IfErr result (λ cause. (index : ℕ) (why : UsageWhy)
         → cause ≡ Cause.Usage index why → usage (word_texts words.now) ≡ Some (index, why)) }
-    ensures answer { IfSome (S.files store.old) (λ files. Gives (policy (word_texts words.now) files) result) }
+    ensures answer { IfSome (S.files store.old) (λ files.
+        Gives (policy (word_texts words.now) files) result) }
     ensures counts { Counts (S.read_faults store.old) (S.read_faults store.new) result }
     ensures kinds { IfErr result IsPolicyCause }
 {

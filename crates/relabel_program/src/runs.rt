@@ -8,9 +8,9 @@ use crate::ending::{finish, give_up, refuse};
 use crate::input::read_tree;
 use crate::names::FileNames;
 use crate::policy::read_policy;
+use crate::reported::walk_tree;
 use crate::words::base_word;
 use label_base::{Sink, Source, Store};
-use relabel_core::walk_uncounted;
 use std::alloc::Global;
 
 /// Runs the command with one worker, whatever number its words ask for.
@@ -23,7 +23,8 @@ pub fn plain<S: Store, I: Source, O: Sink>(
 ) -> Outcome
     ensures status { result.status ≡ status_of result.cause }
     ensures run { Run S.files S.read_faults S.write_faults I.left I.faults O.written O.faults
-        (word_texts words.now) store.old store.new input.old input.new out.old out.new result.cause }
+        (word_texts words.now) store.old store.new input.old input.new out.old out.new
+        result.cause }
 {
     let names = match FileNames::beside(alloc, base_word(words)) {
         Ok(names) => names,
@@ -37,8 +38,8 @@ pub fn plain<S: Store, I: Source, O: Sink>(
         Ok(tree) => tree,
         Err(cause) => return refuse(alloc, &names, cause, out),
     };
-    match walk_uncounted(alloc, &tree, &rules) {
-        Ok(walked) => finish(walked.report, out),
+    match walk_tree(alloc, &tree, &rules) {
+        Ok(reported) => finish(reported, out),
         Err(_) => give_up(out),
     }
 }
@@ -54,7 +55,8 @@ pub fn top<S: Store, I: Source, O: Sink>(
 ) -> Outcome
     ensures status { result.status ≡ status_of result.cause }
     ensures run { Run S.files S.read_faults S.write_faults I.left I.faults O.written O.faults
-        (word_texts words.now) store.old store.new input.old input.new out.old out.new result.cause }
+        (word_texts words.now) store.old store.new input.old input.new out.old out.new
+        result.cause }
 {
     plain(alloc, words, store, input, out)
 }

@@ -1,10 +1,14 @@
-use crate::cause::Outcome;
+use crate::cause::{Cause, LimitKind, Outcome};
+use crate::fault::refusal_line;
+use crate::names::FileNames;
 use crate::runs::{plain, top};
 use label_base::{Bytes, MemSink, MemSource, MemStore, OutOfMemory, Row};
 use std::alloc::Global;
 use std::test::Fail;
 
 const WORDS: &[&str] = &["setfiles", "-n", "-v", "-F", "fc", "/"];
+
+const TYPES: &str = "/etc/selinux/targeted/contexts/customizable_types";
 
 const SPECS: &[u8] =
     b"/ -d system_u:object_r:root_t:s0\n/etc/passwd system_u:object_r:passwd_file_t:s0\n";
@@ -178,13 +182,104 @@ fn other_refusals_are_told_before_the_input(rt: HostRuntime) -> Result<(), Fail>
 }
 
 #[test]
-fn hard_links_and_doubled_records_are_refused(rt: HostRuntime) -> Result<(), Fail> {
+fn a_refused_file_of_types_is_told_before_the_input(rt: HostRuntime) -> Result<(), Fail> {
+    let files: &[(&str, &[u8])] = &[("fc", SPECS), (TYPES, b"# types\nhome_t\nhome_t etc_t\n")];
+    let ran = run(rt.alloc(), WORDS, files, RECORDS, &NONE_FAILS)?;
+    let line =
+        b"relabel: /etc/selinux/targeted/contexts/customizable_types: line 3: not a type\n".as_slice();
+    assert!(rt; ran.ended(255, line) && ran.is_unread);
+    Ok(())
+}
+
+#[test]
+fn types_are_read_last(rt: HostRuntime) -> Result<(), Fail> {
+    let files: &[(&str, &[u8])] = &[("fc", SPECS), (TYPES, b"home_t\n")];
+    let sixth = Failing {
+        store: 6,
+        ..NONE_FAILS
+    };
+    let ran = run(rt.alloc(), WORDS, files, RECORDS, &sixth)?;
+    assert!(rt; ran.ended(253, b"relabel: read failed\n") && ran.is_unread);
+    assert!(rt; run(rt.alloc(), WORDS, files, RECORDS, &NONE_FAILS)?.ended(0, REPORT));
+    Ok(())
+}
+
+/// Inputs that are refused, and their line.
+const REFUSED_RECORDS: &[(&[u8], &[u8])] = &[
+    (b"d 1 2 ? /\0f 1 5 ? /a", b"relabel: record 2: not ended\n"),
+    (b"Q 1 5 ? /a\0", b"relabel: record 1: bad type\n"),
+    (
+        b"d 1 2 ? /\0f 18446744073709551616 5 ? /a\0",
+        b"relabel: record 2: bad number\n",
+    ),
+    (b"f 1 5 /a\0", b"relabel: record 1: missing field\n"),
+    (b"f 1 5 ? \0", b"relabel: record 1: path: empty\n"),
+    (b"f 1 5 ? a\0", b"relabel: record 1: path: not absolute\n"),
+    (b"f 1 5 ? /a/../b\0", b"relabel: record 1: path: dot part\n"),
+    (
+        b"f 1 5 ? /a\0d 1 2 ? /\0f 1 6 ? //a/\0",
+        b"relabel: records 1 and 3: one path, two entries\n",
+    ),
+];
+
+#[test]
+fn each_refused_input_is_told(rt: HostRuntime) -> Result<(), Fail> {
+    for (records, line) in REFUSED_RECORDS {
+        let ran = run(rt.alloc(), WORDS, &[("fc", SPECS)], *records, &NONE_FAILS)?;
+        assert!(rt; ran.ended(255, *line), "at {line:?}");
+    }
+    Ok(())
+}
+
+#[test]
+fn a_path_of_a_record_past_its_limit(rt: HostRuntime) -> Result<(), Fail> {
+    let mut records = Bytes::copy_of(rt.alloc(), b"f 1 5 ? /")?;
+    records.push([b'x'; 4095].as_slice())?;
+    records.push(b"\0")?;
     let files: &[(&str, &[u8])] = &[("fc", SPECS)];
-    let line = b"relabel: records refused\n".as_slice();
-    let linked = b"d 1 2 ? /\0f 1 3 ? /a\0f 1 3 ? /b\0";
-    assert!(rt; run(rt.alloc(), WORDS, files, linked, &NONE_FAILS)?.ended(255, line));
-    let doubled = b"d 1 2 ? /\0f 1 3 ? /a\0f 1 4 ? /a\0";
-    assert!(rt; run(rt.alloc(), WORDS, files, doubled, &NONE_FAILS)?.ended(255, line));
+    let ran = run(rt.alloc(), WORDS, files, records.as_slice(), &NONE_FAILS)?;
+    assert!(rt; ran.ended(255, b"relabel: record 1: path: too long\n"));
+    Ok(())
+}
+
+#[test]
+fn records_past_their_limit(rt: HostRuntime) -> Result<(), Fail> {
+    let files: &[(&str, &[u8])] = &[("fc", SPECS)];
+    let records = repeated(rt.alloc(), b"d 1 2 ? /\0", 2_097_153)?;
+    let ran = run(rt.alloc(), WORDS, files, records.as_slice(), &NONE_FAILS)?;
+    assert!(rt; ran.ended(255, b"relabel: limit: records\n"));
+    Ok(())
+}
+
+#[test]
+fn bytes_past_their_limit_have_a_line(rt: HostRuntime) -> Result<(), Fail> {
+    let names = FileNames::beside(rt.alloc(), "fc")?;
+    let cause = Cause::Limit {
+        which: LimitKind::RecordBytes,
+    };
+    let line = refusal_line(rt.alloc(), &names, &cause)?;
+    assert_eq!(rt;
+        line.as_slice(),
+        b"relabel: limit: bytes of input\n".as_slice()
+    );
+    Ok(())
+}
+
+#[test]
+fn a_tree_without_its_root_is_an_error(rt: HostRuntime) -> Result<(), Fail> {
+    let files: &[(&str, &[u8])] = &[("fc", SPECS)];
+    let ran = run(rt.alloc(), WORDS, files, b"f 1 5 ? /a\0", &NONE_FAILS)?;
+    assert!(rt; ran.ended(255, b"no record for /\n"));
+    assert!(rt; matches!(&ran.outcome.cause, Cause::WalkErrors { count: 1 }));
+    Ok(())
+}
+
+#[test]
+fn one_entry_given_twice(rt: HostRuntime) -> Result<(), Fail> {
+    let files: &[(&str, &[u8])] = &[("fc", SPECS)];
+    let records = b"d 1 2 system_u:object_r:root_t:s0 /\0f 1 5 ? /a\0f 1 5 ? //a/\0";
+    let ran = run(rt.alloc(), WORDS, files, records, &NONE_FAILS)?;
+    assert!(rt; ran.ended(0, b"Warning no default label for /a\n"));
     Ok(())
 }
 

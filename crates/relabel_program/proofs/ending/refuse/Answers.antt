@@ -1,4 +1,4 @@
-use Rattle.std.proofs.Common.{◌≡◌, subst, sym, inr}
+use Rattle.std.proofs.Common.{subst, sym, inr}
 use Rattle.relabel_program.specs.Faults.{fault_line}
 use Rattle.relabel_program.specs.Run.{LineOrFront}
 use Rattle.relabel_program.specs.declared.cause.Cause.{Cause}

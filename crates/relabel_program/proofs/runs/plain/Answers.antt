@@ -1,9 +1,7 @@
-use Rattle.std.proofs.Common.{◌≡◌, ◌∙◌, ap, sym, refl}
-use Rattle.std.specs.Prelude.{Err, Ok}
+use Rattle.std.proofs.Common.{◌∙◌, ap, refl}
 use Rattle.relabel_program.specs.Answer.{names_in}
 use Rattle.relabel_program.specs.Names.{names_beside}
 use Rattle.relabel_program.specs.Words.{word_texts}
-use Rattle.relabel_program.specs.declared.cause.Cause.TheVariants.{OutOfMemory}
 use Rattle.relabel_program.proofs.RunLemmas.{finished, told_early, told_input, told_late, told_policy}
 use Rattle.relabel_program.proofs.runs.plain.Goals as goal
 
@@ -28,17 +26,17 @@ returns-in-Err-read_tree-clause-run g c =
     (record { wrong = read.usage; only_wrong = read.only_usage })
     read.answer read.counts tree.answer tree.kinds tree.counts c.refuse-in-Err-read_tree.ensures.told
 
-pub returns-in-Ok-walk_uncounted-clause-run : goal.returns-in-Ok-walk_uncounted-clause-run
-returns-in-Ok-walk_uncounted-clause-run g c =
+pub returns-in-Ok-walk_tree-clause-run : goal.returns-in-Ok-walk_tree-clause-run
+returns-in-Ok-walk_tree-clause-run g c =
     let read = c.in-Ok-read_policy.ensures in
     let tree = c.in-Ok-read_tree.ensures in
-    finished _ _ _ _ _ _ _ _ _ _ _ _ _ _ c.finish.result.cause c.in-Ok-read_policy.rules c.in-Ok-read_tree.tree c.in-Ok-walk_uncounted.walked.report
+    finished _ _ _ _ _ _ _ _ _ _ _ _ _ _ c.finish.result.cause c.in-Ok-read_policy.rules c.in-Ok-read_tree.tree c.in-Ok-walk_tree.reported
     read.files read.writes (record { wrong = read.usage; only_wrong = read.only_usage })
-    read.answer read.counts tree.answer tree.counts tree.ended c.in-Ok-walk_uncounted.ensures c.finish.ensures.written
+    read.answer read.counts tree.answer tree.counts tree.ended c.in-Ok-walk_tree.ensures c.finish.ensures.written
 
 pub returns-clause-run : goal.returns-clause-run
 returns-clause-run g c =
     let read = c.in-Ok-read_policy.ensures in
-    told_late _ _ _ _ _ _ _ _ _ _ _ _ _ _ c.give_up-in-Err-walk_uncounted.result.cause c.in-Ok-read_policy.rules c.give_up-in-Err-walk_uncounted.ensures.cause
+    told_late _ _ _ _ _ _ _ _ _ _ _ _ _ _ c.give_up-in-Err-walk_tree.result.cause c.in-Ok-read_policy.rules c.give_up-in-Err-walk_tree.ensures.cause
     read.files read.writes (record { wrong = read.usage; only_wrong = read.only_usage })
-    read.answer read.counts c.in-Ok-read_tree.ensures.counts (c.give_up-in-Err-walk_uncounted.ensures.told (names_in (word_texts c.args.words.now)))
+    read.answer read.counts c.in-Ok-read_tree.ensures.counts (c.give_up-in-Err-walk_tree.ensures.told (names_in (word_texts c.args.words.now)))

@@ -1,6 +1,6 @@
-use Rattle.std.proofs.Common.{◌∙◌, sym, true, false, ◌≡◌, arith, rules, ◌<◌, ap}
-use Rattle.std.specs.Prelude.{Some, slice_get}
-use Rattle.relabel_program.specs.Words.{usage_why, word_texts, is_right_at}
+use Rattle.std.proofs.Common.{◌∙◌, sym, arith, rules, ap}
+use Rattle.std.specs.Prelude.{Some}
+use Rattle.relabel_program.specs.Words.{word_texts}
 use Rattle.relabel_program.proofs.WordLemmas.{wrong_next, wrong_here, usage_here, usage_none}
 use Rattle.relabel_program.proofs.words.wrong_word.Goals as goal
 

@@ -1,0 +1,29 @@
+-- A tree has no more entries than there are records.
+use Rattle.std.proofs.Common.{◌≡◌, ℕ, ◌+◌, ◌≤◌, List, [], ◌∷◌, length, ap, arith}
+use Rattle.std.specs.Prelude.{Option, Some, None, Ok}
+use Rattle.std.specs.declared.cmp.Ordering.{Ordering}
+use Rattle.std.specs.declared.cmp.Ordering.TheVariants.{Less, Equal, Greater}
+use Rattle.label_base.specs.Path.{path_cmp}
+use Rattle.find_records.specs.Record.{Record}
+use Rattle.tree_model.specs.Entries.{doubled, entered, entries_of, placed, tree_of, unless_doubled}
+
+placed_few : (order : Ordering) (r e : Record) (es behind : List Record) → length behind ≤ length es + 1 → length (placed order r e es behind) ≤ length es + 2
+placed_few Less r e es behind h = omega arith
+placed_few Equal r e es behind h = omega arith
+placed_few Greater r e es behind h = omega (arith, h)
+
+entered_few : (r : Record) (es : List Record) → length (entered r es) ≤ length es + 1
+entered_few r [] = omega arith
+entered_few r (e ∷ es) = omega (arith, placed_few (path_cmp r.path e.path) r e es (entered r es) (entered_few r es))
+
+entries_few : (records : List Record) → length (entries_of records) ≤ length records
+unfolding entries_of
+entries_few [] = omega arith
+entries_few (r ∷ rs) = omega (arith, entered_few r (entries_of rs), entries_few rs)
+
+few_unless : (numbers : Option (ℕ × ℕ)) (entries tree : List Record) → unless_doubled numbers entries ≡ Ok tree → length tree ≤ length entries
+few_unless None entries tree is = let same : entries ≡ tree = cc in omega (arith, ap length same)
+few_unless (Some numbers) entries tree is = absurd (cc)
+
+pub tree_few : (records tree : List Record) → tree_of records ≡ Ok tree → length tree ≤ length records
+tree_few records tree is = omega (arith, few_unless (doubled records) (entries_of records) tree is, entries_few records)
