@@ -11,7 +11,7 @@ use Rattle.atomic_table.proofs.Lists.{at_set, at_snoc}
 use Rattle.inode_claims.specs.declared.rule.Call.{Call}
 use Rattle.inode_claims.specs.declared.rule.ClaimView.{ClaimView}
 use Rattle.inode_claims.specs.declared.rule.Plan.{Plan}
-use Rattle.inode_claims.specs.declared.rule.TheConstants.{NONE_WORD}
+use Rattle.walk_steps.specs.declared.machine.TheConstants.{NONE_WORD}
 use Rattle.inode_claims.specs.Claiming.{call_of, fresh, with_call, for_one_less, joined, count, is_at, is_told}
 use Rattle.inode_claims.specs.Rule.{LeastIsKept, SpentIsEmpty, total, count_all, IsClaimOf}
 use Rattle.inode_claims.proofs.Totals.{count_append, total_set, total_snoc, one_of}

@@ -1,6 +1,6 @@
 -- What clauses say of claims, passes and winners.
 use Rattle.std.specs.Prelude.{◌≡◌, ℕ, ◌<◌, ◌≤◌, ◌==◌, ◌⊎◌, cond, List, length, slice_index, Option, Some, None}
-use Rattle.inode_claims.specs.declared.rule.TheConstants.{NONE_WORD}
+use Rattle.walk_steps.specs.declared.machine.TheConstants.{NONE_WORD}
 use Rattle.inode_claims.specs.declared.rule.Call.{Call}
 use Rattle.inode_claims.specs.declared.rule.ClaimView.{ClaimView}
 use Rattle.inode_claims.specs.declared.claims.Claims.{Claims}
@@ -29,16 +29,21 @@ word_at winners group = slice_index winners.words.items group
 
 -- the position that won the group, if any
 abbrev pub winner_of : Winners → ℕ → Option ℕ
-winner_of winners group = cond (word_at winners group == NONE_WORD) None (Some (word_at winners group))
+winner_of winners group =
+    cond (word_at winners group == NONE_WORD) None (Some (word_at winners group))
 
 -- of any closing pass: each group that it claimed has a winner, which is at most each position that it claimed
 pub record Wins (groups : ℕ) (calls : List Call) (winners : Winners) : Type 0 where
   pub sized : group_count winners ≡ groups
-  pub low : (group position : ℕ) → group < groups → IsClaimed group position calls → word_at winners group ≤ position
-  pub won : (group position : ℕ) → group < groups → IsClaimed group position calls → word_at winners group < NONE_WORD
+  pub low : (group position : ℕ) → group < groups → IsClaimed group position calls
+      → word_at winners group ≤ position
+  pub won : (group position : ℕ) → group < groups → IsClaimed group position calls
+      → word_at winners group < NONE_WORD
 
 -- of a closing pass that stands for all passes, whose calls are thus all calls
 pub record TellsAll (groups : ℕ) (calls : List Call) (winners : Winners) : Type 0 where
   pub least : (group : ℕ) → group < groups → word_at winners group ≡ least_claimed group calls
-  pub answered : (group answer : ℕ) → 0 < count (is_told group answer) calls → (answer ≡ NONE_WORD) ⊎ IsClaimed group answer calls
-  pub first : (group position : ℕ) → group < groups → IsClaimed group position calls → count (is_told group NONE_WORD) calls ≡ 1
+  pub answered : (group answer : ℕ) → 0 < count (is_told group answer) calls → (answer ≡ NONE_WORD)
+      ⊎ IsClaimed group answer calls
+  pub first : (group position : ℕ) → group < groups → IsClaimed group position calls
+      → count (is_told group NONE_WORD) calls ≡ 1

@@ -1,6 +1,6 @@
 -- Calls of `claim`, and what a pass shows of them.
 use Rattle.std.specs.Prelude.{ℕ, ◌+◌, ◌-◌, ◌<◌, ◌==◌, ◌&&◌, Bool, cond, List, [], ◌∷◌, ◌++◌, min}
-use Rattle.inode_claims.specs.declared.rule.TheConstants.{NONE_WORD}
+use Rattle.walk_steps.specs.declared.machine.TheConstants.{NONE_WORD}
 use Rattle.inode_claims.specs.declared.rule.Call.{Call}
 use Rattle.inode_claims.specs.declared.rule.ClaimView.{ClaimView}
 
@@ -13,11 +13,16 @@ fresh n = record { calls = []; stands_for = n }
 
 -- one call more
 abbrev pub with_call : ClaimView → ℕ → ℕ → ℕ → ClaimView
-with_call view group position answer = record { calls = view.calls ++ call_of group position answer ∷ []; stands_for = view.stands_for }
+with_call view group position answer =
+    record {
+      calls = view.calls ++ call_of group position answer ∷ [];
+      stands_for = view.stands_for;
+    }
 
 -- the calls of both, standing for the passes of both
 abbrev pub joined : ClaimView → ClaimView → ClaimView
-joined into from = record { calls = into.calls ++ from.calls; stands_for = into.stands_for + from.stands_for }
+joined into from =
+    record { calls = into.calls ++ from.calls; stands_for = into.stands_for + from.stands_for }
 
 abbrev pub for_one_less : ClaimView → ClaimView
 for_one_less view = record { calls = view.calls; stands_for = view.stands_for - 1 }
@@ -42,4 +47,6 @@ IsClaimed group position calls = 0 < count (is_at group position) calls
 -- the least position that the calls claim for the group, or the none-word where no call is on it
 abbrev pub least_claimed : ℕ → List Call → ℕ
 least_claimed group [] = NONE_WORD
-least_claimed group (call ∷ calls) = cond (call.group == group) (min call.position (least_claimed group calls)) (least_claimed group calls)
+least_claimed group (call ∷ calls) =
+    cond (call.group == group) (min call.position (least_claimed group calls))
+    (least_claimed group calls)

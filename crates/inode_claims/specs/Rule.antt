@@ -3,7 +3,7 @@ use Rattle.std.specs.Prelude.{◌≡◌, ℕ, suc, ◌+◌, ◌-◌, ◌<◌, �
 use mathlib.Core.Option.{some}
 use lib.ListN.{get_elem?}
 use Rattle.atomic_table.specs.Table.{Step, Me}
-use Rattle.inode_claims.specs.declared.rule.TheConstants.{NONE_WORD}
+use Rattle.walk_steps.specs.declared.machine.TheConstants.{NONE_WORD}
 use Rattle.inode_claims.specs.declared.rule.Call.{Call}
 use Rattle.inode_claims.specs.declared.rule.ClaimView.{ClaimView}
 use Rattle.inode_claims.specs.declared.rule.Plan.{Plan}
@@ -24,20 +24,26 @@ word_of group words = slice_index words (suc group)
 
 -- a view that stands for no pass has no call
 abbrev pub SpentIsEmpty : List ClaimView → Type 0
-SpentIsEmpty views = (seat : ℕ) (view : ClaimView) → get_elem? views seat ≡ some view → view.stands_for ≡ 0 → view.calls ≡ []
+SpentIsEmpty views =
+    (seat : ℕ) (view : ClaimView) → get_elem? views seat ≡ some view → view.stands_for ≡ 0
+    → view.calls ≡ []
 
 pub record LeastIsKept (plan : Plan) (words : List ℕ) (views : List ClaimView) : Type 0 where
   pub sized : length words ≡ suc plan.groups
   pub whole : total (λ view. view.stands_for) views ≡ plan.passes
   pub spent : SpentIsEmpty views
   -- each word is at most every position that was claimed for its group
-  pub low : (group position : ℕ) → 0 < count_all (is_at group position) views → word_of group words ≤ position
+  pub low : (group position : ℕ) → 0 < count_all (is_at group position) views
+      → word_of group words ≤ position
   -- and is one of them, or nothing lowered it
-  pub met : (group : ℕ) → group < plan.groups → (word_of group words ≡ NONE_WORD) ⊎ (0 < count_all (is_at group (word_of group words)) views)
+  pub met : (group : ℕ) → group < plan.groups → (word_of group words ≡ NONE_WORD)
+      ⊎ (0 < count_all (is_at group (word_of group words)) views)
   -- an answer is the none-word or a position that was claimed
-  pub told : (group answer : ℕ) → 0 < count_all (is_told group answer) views → (answer ≡ NONE_WORD) ⊎ (0 < count_all (is_at group answer) views)
+  pub told : (group answer : ℕ) → 0 < count_all (is_told group answer) views → (answer ≡ NONE_WORD)
+      ⊎ (0 < count_all (is_at group answer) views)
   -- the none-word is answered once, by the step that lowers it
-  pub once : (group : ℕ) → group < plan.groups → count_all (is_told group NONE_WORD) views ≡ cond (word_of group words == NONE_WORD) 0 1
+  pub once : (group : ℕ) → group < plan.groups
+      → count_all (is_told group NONE_WORD) views ≡ cond (word_of group words == NONE_WORD) 0 1
 
 -- what the step of a claim tells its pass: the word that it found, which is at most what the pass had claimed
 abbrev pub IsClaimOf : Step ℕ → Me ℕ ClaimView → ℕ → Me ℕ ClaimView → Type 0

@@ -1,12 +1,13 @@
 ghost use Rattle.std.specs.Prelude.{◌≡◌, ℕ, ◌+◌, ◌-◌, ◌<◌, ◌≤◌, [], ◌∷◌, All, IfOk, length, min, vec_capacity, replicate};
-ghost use Rattle.inode_claims.specs.declared.rule.TheConstants.{NONE_WORD};
+ghost use Rattle.walk_steps.specs.declared.machine.TheConstants.{NONE_WORD};
 ghost use Rattle.inode_claims.specs.Claiming.{fresh, joined, with_call, IsClaimed};
 
-use crate::rule::{ClaimView, Claiming, CutOne, Joining, Least, NONE_WORD, Plan};
+use crate::rule::{ClaimView, Claiming, CutOne, Joining, Least, Plan};
 use crate::winners::Winners;
 use atomic_table::{Seat, Table};
 use label_base::{OutOfMemory, Row};
 use std::alloc::{AllocError, Global};
+use walk_steps::NONE_WORD;
 
 /// The right to claim, one for each thread. When the program runs it is the number of its calls alone.
 #[derive(Drop)]
@@ -45,7 +46,8 @@ impl Claims {
         requires { 0 < passes }
         ensures groups { IfOk result (λ made. groups_of made.0 ≡ groups) }
         ensures passes { IfOk result (λ made. (passes_of made.0 ≡ passes) × (length made.1 ≡ passes)) }
-        ensures each { IfOk result (λ made. All (λ p. IsPassOf made.0 p × (claim_view p ≡ fresh 1)) made.1) }
+        ensures each { IfOk result
+            (λ made. All (λ p. IsPassOf made.0 p × (claim_view p ≡ fresh 1)) made.1) }
     {
         let (claims, seat) = Claims::open(alloc, groups, passes)?;
         let all = claims.deal(alloc, seat, passes)?;
@@ -59,7 +61,8 @@ impl Claims {
     ) -> Result<(Claims, Seat<u8, ClaimView>), AllocError>
         requires { 0 < passes }
         ensures made { IfOk result (λ r. (groups_of r.0 ≡ groups) × (passes_of r.0 ≡ passes)) }
-        ensures seat { IfOk result (λ r. (r.1.table_id ≡ r.0.table.shared.table_id) × (r.1.me ≡ (fresh passes, []))) }
+        ensures seat { IfOk result
+            (λ r. (r.1.table_id ≡ r.0.table.shared.table_id) × (r.1.me ≡ (fresh passes, []))) }
     {
         let count = groups as usize;
         let words = Vec::from_elem(alloc, NONE_WORD, count + 1)?;
@@ -78,7 +81,8 @@ impl Claims {
         requires words { words.now ≡ replicate (groups + 1) NONE_WORD }
         requires room { (room.items ≡ []) × (groups ≤ vec_capacity room) }
         ensures made { IfOk result (λ r. (groups_of r.0 ≡ groups) × (passes_of r.0 ≡ passes)) }
-        ensures seat { IfOk result (λ r. (r.1.table_id ≡ r.0.table.shared.table_id) × (r.1.me ≡ (fresh passes, []))) }
+        ensures seat { IfOk result
+            (λ r. (r.1.table_id ≡ r.0.table.shared.table_id) × (r.1.me ≡ (fresh passes, []))) }
     {
         let plan = Plan { groups, passes };
         let (table, seat) = Table::of_words(alloc, words, &plan)?;
@@ -99,7 +103,8 @@ impl Claims {
         requires some { 0 < passes }
         requires seat { (seat.table_id ≡ self.now.table.shared.table_id) × (seat.me ≡ (fresh passes, [])) }
         ensures len { IfOk result (λ all. length all ≡ passes) }
-        ensures each { IfOk result (λ all. All (λ p. IsPassOf self.now p × (claim_view p ≡ fresh 1)) all) }
+        ensures each { IfOk result
+            (λ all. All (λ p. IsPassOf self.now p × (claim_view p ≡ fresh 1)) all) }
     {
         let mut all = Row::new(alloc);
         for _ in 1..passes {
@@ -159,7 +164,8 @@ impl Claims {
     pub fn close(self, pass: ClaimPass) -> Winners
         requires { IsPassOf self pass }
         ensures wins { Wins (groups_of self) (claim_view pass).calls result }
-        ensures all { (claim_view pass).stands_for ≡ passes_of self → TellsAll (groups_of self) (claim_view pass).calls result }
+        ensures all { (claim_view pass).stands_for ≡ passes_of self
+            → TellsAll (groups_of self) (claim_view pass).calls result }
         ensures claims { result.claims ≡ min (length (claim_view pass).calls) NONE_WORD }
     {
         let Claims {

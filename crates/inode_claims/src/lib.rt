@@ -9,5 +9,6 @@ mod tests;
 mod winners;
 
 pub use claims::{ClaimPass, Claims};
-pub use rule::{Call, ClaimView, NONE_WORD, Plan};
+pub use rule::{Call, ClaimView, Plan};
+pub use walk_steps::NONE_WORD;
 pub use winners::Winners;

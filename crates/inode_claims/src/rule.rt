@@ -3,9 +3,6 @@ ghost use Rattle.std.specs.Prelude.{◌≡◌, ◌+◌};
 use atomic_table::{Join, Play, Split, TableRule};
 use std::collections::LinkedList;
 
-/// The word of a group that nothing has claimed. No position is as great.
-pub const NONE_WORD: u64 = u64::MAX;
-
 /// A call of `claim`: the group, the position claimed for it, and the word that was there before. It stands in
 /// proofs alone, and no value of it is made.
 pub struct Call {

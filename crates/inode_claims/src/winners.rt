@@ -1,7 +1,7 @@
 ghost use Rattle.std.specs.Prelude.{◌≡◌, ◌<◌};
 ghost use Rattle.inode_claims.specs.Answers.{group_count, winner_of};
 
-use crate::rule::NONE_WORD;
+use walk_steps::NONE_WORD;
 
 /// The least position that was claimed for each group.
 #[derive(Drop)]
