@@ -58,7 +58,9 @@ is_colon b = b == COLON
 
 abbrev pub with_kind : List ℕ → List ℕ → List ℕ → Option (List ℕ) → Option ContextValue
 with_kind user role kind range =
-    if is_word user && is_word role && is_word kind && is_range range then Some (record { user = user; role = role; kind = kind; range = range }) else None
+    if is_word user && is_word role && is_word kind
+    && is_range range
+    then Some (record { user = user; role = role; kind = kind; range = range }) else None
 
 abbrev pub with_role : List ℕ → List ℕ → Option (List ℕ) → Option ContextValue
 with_role user role None = None
@@ -81,8 +83,11 @@ same_option (Some x) None = false
 same_option (Some x) (Some y) = same_bytes x y
 
 abbrev pub same_context : ContextValue → ContextValue → Bool
-same_context a b = same_bytes a.user b.user && same_bytes a.role b.role && same_bytes a.kind b.kind && same_option a.range b.range
+same_context a b =
+    same_bytes a.user b.user && same_bytes a.role b.role && same_bytes a.kind b.kind
+    && same_option a.range b.range
 
 -- the same role, type and range
 abbrev pub same_but_user : ContextValue → ContextValue → Bool
-same_but_user a b = same_bytes a.role b.role && same_bytes a.kind b.kind && same_option a.range b.range
+same_but_user a b =
+    same_bytes a.role b.role && same_bytes a.kind b.kind && same_option a.range b.range

@@ -13,7 +13,8 @@ label_from bytes (Some c) = Is c
 -- no bytes and a question mark are no label; a context is read as one; all else is kept as it is
 abbrev pub label_of : List ℕ → Label
 label_of [] = Absent
-label_of (b ∷ bs) = if same_bytes (b ∷ bs) NO_LABEL.now then Absent else label_from (b ∷ bs) (context_of (b ∷ bs))
+label_of (b ∷ bs) =
+    if same_bytes (b ∷ bs) NO_LABEL.now then Absent else label_from (b ∷ bs) (context_of (b ∷ bs))
 
 abbrev pub same_label : Label → Label → Bool
 same_label Absent Absent = true

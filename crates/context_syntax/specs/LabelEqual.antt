@@ -32,8 +32,16 @@ context_or d (Odd x) = d
 
 pub label_decides : (a b : Label) → Decides (same_label a b) (a ≡ b)
 label_decides Absent Absent = (λ _. refl, λ _. refl)
-label_decides (Odd x) (Odd y) = (λ e. ap (λ t. Odd t) ((bytes_eq-Decides x y).0 e), λ e. (bytes_eq-Decides x y).1 (ap odd_bytes e))
-label_decides (Is x) (Is y) = (λ e. ap (λ t. Is t) ((context_decides x y).0 e), λ e. (context_decides x y).1 (ap (context_or x) e))
+label_decides (Odd x) (Odd y) = (
+  λ e. ap (λ t. Odd t) ((bytes_eq-Decides x y).0 e),
+  λ e. (bytes_eq-Decides x y).1
+      (ap odd_bytes e),
+)
+label_decides (Is x) (Is y) = (
+  λ e. ap (λ t. Is t) ((context_decides x y).0 e),
+  λ e. (context_decides x y).1
+      (ap (context_or x) e),
+)
 label_decides Absent (Odd y) = (λ e. absurd (never e), λ e. absurd (subst IsOdd (sym e) tt))
 label_decides Absent (Is y) = (λ e. absurd (never e), λ e. absurd (subst IsContextLabel (sym e) tt))
 label_decides (Odd x) Absent = (λ e. absurd (never e), λ e. absurd (subst IsOdd e tt))

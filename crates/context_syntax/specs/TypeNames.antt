@@ -53,7 +53,8 @@ name_in fields = Err no_name
 abbrev pub names_read : List ℕ → Result (List (List ℕ)) (RefusedLine NoTypeName)
 names_read bytes = lines_read (λ number. name_in) bytes
 
-abbrev pub set_or_line : Result (List (List ℕ)) (RefusedLine NoTypeName) → Result NameSet (RefusedLine NoTypeName)
+abbrev pub set_or_line : Result (List (List ℕ)) (RefusedLine NoTypeName)
+    → Result NameSet (RefusedLine NoTypeName)
 set_or_line (Ok names) = Ok (set_of names)
 set_or_line (Err refused) = Err refused
 

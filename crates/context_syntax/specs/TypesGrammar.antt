@@ -17,5 +17,6 @@ FieldsMean number fields (Err why) = (name : List ℕ) → ¬ IsTypeName fields 
 
 -- what the text of a file means: the set of the names on its lines, or its first refused line
 abbrev pub TypesMean : List ℕ → Result NameSet (RefusedLine NoTypeName) → Type 0
-TypesMean text (Ok types) = (names : List (List ℕ)) × LinesMean FieldsMean text (Ok names) × (types ≡ set_of names)
+TypesMean text (Ok types) =
+    (names : List (List ℕ)) × LinesMean FieldsMean text (Ok names) × (types ≡ set_of names)
 TypesMean text (Err refused) = LinesMean FieldsMean text (Err refused)

@@ -37,7 +37,8 @@ impl Model for Context {
 
     ghost view = { λ c. record { user = c.user; role = c.role; kind = c.kind; range = c.range } };
 
-    ghost invariant = { λ c. IsContext (record { user = c.user; role = c.role; kind = c.kind; range = c.range }) };
+    ghost invariant = { λ c. IsContext
+        (record { user = c.user; role = c.role; kind = c.kind; range = c.range }) };
 
     ghost inverse = { λ v. record { user = v.user; role = v.role; kind = v.kind; range = v.range } };
 }
@@ -128,7 +129,8 @@ impl Context {
 
         // What is read and what the bytes spell is the same.
         ensures spelled { IfOk result (λ context. Spells bytes.now context) }
-        ensures no_context { result ≡ Err ContextFault.NoContext → (c : ContextValue) → ¬ (Spells bytes.now c) }
+        ensures no_context { result ≡ Err ContextFault.NoContext → (c : ContextValue)
+            → ¬ (Spells bytes.now c) }
         ensures complete { (c : ContextValue) → Spells bytes.now c → context_of bytes.now ≡ Some c }
         ensures sound { (c : ContextValue) → context_of bytes.now ≡ Some c → Spells bytes.now c }
     {

@@ -27,7 +27,8 @@ pub record IsQueuePassOf (queue : DirQueue) (pass : QueuePass) : Type 0 where
 -- what a pass took: a job of the shape that it had not taken, or nothing
 abbrev pub Takes : Shape → QueueView → QueueView → Option ℕ → Type 0
 Takes shape before after None = after ≡ before
-Takes shape before after (Some job) = (after ≡ with_taken before job) × (job ≤ length shape.parents) × (times job before.taken ≡ 0)
+Takes shape before after (Some job) =
+    (after ≡ with_taken before job) × (job ≤ length shape.parents) × (times job before.taken ≡ 0)
 
 -- None exactly where job 0 and every given job are taken
 abbrev pub NoneIfAllTaken : QueueView → Option ℕ → Type 0
@@ -36,4 +37,5 @@ NoneIfAllTaken before (Some job) = ¬ AllIsTaken before
 
 -- the empty queue and the lists of a pass, as the state of one worker
 abbrev pub one_worker : QueueView → WalkState
-one_worker view = record { queue = []; taken = view.taken ∷ []; given = view.given ∷ []; words = [] }
+one_worker view =
+    record { queue = []; taken = view.taken ∷ []; given = view.given ∷ []; words = [] }

@@ -5,11 +5,26 @@ use Rattle.dir_queue.specs.declared.rule.QueueView.{QueueView}
 
 -- before job 0 is pushed
 abbrev pub not_set_up : QueueView
-not_set_up = record { is_new = true; parents = []; passes = 0; taken = []; given = []; stands_for = 0 }
+not_set_up = record {
+  is_new = true;
+  parents = [];
+  passes = 0;
+  taken = [];
+  given = [];
+  stands_for = 0;
+}
 
 -- nothing taken or given, standing for n of the passes
 abbrev pub fresh : List ℕ → ℕ → ℕ → QueueView
-fresh parents passes n = record { is_new = false; parents = parents; passes = passes; taken = []; given = []; stands_for = n }
+fresh parents passes n =
+    record {
+      is_new = false;
+      parents = parents;
+      passes = passes;
+      taken = [];
+      given = [];
+      stands_for = n;
+    }
 
 -- a pass that was joined into another
 abbrev pub spent : QueueView
@@ -17,7 +32,15 @@ spent = fresh [] 0 0
 
 -- the two lists of a view, and what it stands for
 abbrev pub with_lists : QueueView → List ℕ → List ℕ → ℕ → QueueView
-with_lists view taken given n = record { is_new = view.is_new; parents = view.parents; passes = view.passes; taken = taken; given = given; stands_for = n }
+with_lists view taken given n =
+    record {
+      is_new = view.is_new;
+      parents = view.parents;
+      passes = view.passes;
+      taken = taken;
+      given = given;
+      stands_for = n;
+    }
 
 abbrev pub with_given : QueueView → ℕ → QueueView
 with_given view job = with_lists view view.taken (view.given ++ job ∷ []) view.stands_for
@@ -27,7 +50,9 @@ with_taken view job = with_lists view (view.taken ++ job ∷ []) view.given view
 
 -- the lists of both, standing for the passes of both
 abbrev pub joined : QueueView → QueueView → QueueView
-joined into from = with_lists into (into.taken ++ from.taken) (into.given ++ from.given) (into.stands_for + from.stands_for)
+joined into from =
+    with_lists into (into.taken ++ from.taken) (into.given ++ from.given)
+    (into.stands_for + from.stands_for)
 
 abbrev pub for_one_less : QueueView → QueueView
 for_one_less view = with_lists view view.taken view.given (view.stands_for - 1)
@@ -41,7 +66,8 @@ parent_in parents job = slice_index parents (job - 1)
 
 -- the pass took the parent of each job that it gave
 abbrev pub ParentsAreTaken : QueueView → Type 0
-ParentsAreTaken view = (job : ℕ) → 0 < times job view.given → 0 < times (parent_in view.parents job) view.taken
+ParentsAreTaken view =
+    (job : ℕ) → 0 < times job view.given → 0 < times (parent_in view.parents job) view.taken
 
 -- the pass took the job's parent and did not give the job yet
 pub record MayOffer (view : QueueView) (job : ℕ) : Type 0 where

@@ -32,19 +32,24 @@ pub record Fits (parents : List ℕ) (passes : ℕ) (view : QueueView) : Type 0 
   pub under : (job : ℕ) → 0 < times job view.given → 0 < times (parent_in parents job) view.taken
 
 -- the queue and the taken lists hold job 0 and every given job, each once, and nothing else
-pub record NothingLost (parents : List ℕ) (passes : ℕ) (items : List Job) (views : List QueueView) : Type 0 where
+pub record NothingLost (parents : List ℕ) (passes : ℕ) (items : List Job) (views : List QueueView) :
+    Type 0 where
   pub whole : total (λ view. view.stands_for) views ≡ passes
-  pub fits : (seat : ℕ) (view : QueueView) → get_elem? views seat ≡ some view → Fits parents passes view
+  pub fits : (seat : ℕ) (view : QueueView) → get_elem? views seat ≡ some view
+      → Fits parents passes view
   pub placed : (job : ℕ) → waiting job items + all_taken job views ≡ hit 0 job + all_given job views
   pub once : (job : ℕ) → hit 0 job + all_given job views ≤ 1
   pub inside : (job : ℕ) → 0 < all_given job views → job ≤ length parents
 
 abbrev pub IsKept : List Job → List QueueView → Type 0
-IsKept items views = ((items ≡ []) × (views ≡ not_set_up ∷ [])) ⊎ ((parents : List ℕ) × (passes : ℕ) × NothingLost parents passes items views)
+IsKept items views =
+    ((items ≡ []) × (views ≡ not_set_up ∷ []))
+    ⊎ ((parents : List ℕ) × (passes : ℕ) × NothingLost parents passes items views)
 
 -- what the push of job 0 tells
 abbrev pub IsSetUp : QueueView → Job → QueueView → Type 0
-IsSetUp before job after = after ≡ fresh job.plan.value.shape.value.parents job.plan.value.passes job.plan.value.passes
+IsSetUp before job after =
+    after ≡ fresh job.plan.value.shape.value.parents job.plan.value.passes job.plan.value.passes
 
 abbrev pub NothingWaits : QueueView → List Job → Type 0
 NothingWaits view items = items ≡ []
@@ -65,10 +70,12 @@ pub record IsTakeOf (before : QueueView) (job : Job) (after : QueueView) : Type 
 
 -- what the rule says of the queue and the lists of a pass that stands for all
 pub record Accounted (view : QueueView) (items : List Job) : Type 0 where
-  pub placed : (job : ℕ) → waiting job items + times job view.taken ≡ hit 0 job + times job view.given
+  pub placed : (job : ℕ) → waiting job items + times job view.taken
+      ≡ hit 0 job + times job view.given
   pub once : (job : ℕ) → hit 0 job + times job view.given ≤ 1
   pub inside : (job : ℕ) → 0 < times job view.given → job ≤ length view.parents
-  pub under : (job : ℕ) → 0 < times job view.given → 0 < times (parent_in view.parents job) view.taken
+  pub under : (job : ℕ) → 0 < times job view.given
+      → 0 < times (parent_in view.parents job) view.taken
 
 abbrev pub Accounts : QueueView → List Job → Type 0
 Accounts view items = view.stands_for ≡ view.passes → Accounted view items

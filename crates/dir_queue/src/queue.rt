@@ -42,8 +42,11 @@ impl DirQueue {
     ) -> Result<(DirQueue, Row<QueuePass>), OutOfMemory>
         requires { 0 < passes }
         ensures shape { IfOk result (λ made. shape_of made.0 ≡ shape.now) }
-        ensures passes { IfOk result (λ made. (passes_of made.0 ≡ passes) × (length made.1 ≡ passes)) }
-        ensures each { IfOk result (λ made. All (λ p. IsQueuePassOf made.0 p × (queue_view p ≡ fresh shape.now.parents passes 1)) made.1) }
+        ensures passes { IfOk result
+            (λ made. (passes_of made.0 ≡ passes) × (length made.1 ≡ passes)) }
+        ensures each { IfOk result
+            (λ made. All (λ p. IsQueuePassOf made.0 p
+            × (queue_view p ≡ fresh shape.now.parents passes 1)) made.1) }
     {
         let (queue, pass) = DirQueue::open(alloc, shape, passes)?;
         let pass = queue.set_up(rt, pass);
@@ -56,8 +59,10 @@ impl DirQueue {
         shape: &Shape,
         passes: u32,
     ) -> Result<(DirQueue, Pass<Job, QueueView>), AllocError>
-        ensures made { IfOk result (λ made. (shape_of made.0 ≡ shape.now) × (passes_of made.0 ≡ passes)) }
-        ensures pass { IfOk result (λ made. IsPassOf made.0.queue made.1 × (view made.1 ≡ not_set_up)) }
+        ensures made { IfOk result
+            (λ made. (shape_of made.0 ≡ shape.now) × (passes_of made.0 ≡ passes)) }
+        ensures pass { IfOk result
+            (λ made. IsPassOf made.0.queue made.1 × (view made.1 ≡ not_set_up)) }
     {
         let plan = Plan {
             shape: Snapshot::of(shape),
@@ -77,9 +82,11 @@ impl DirQueue {
     }
 
     fn set_up<R: Wait>(&self, rt: &R, mut pass: Pass<Job, QueueView>) -> QueuePass
-        requires { IsPassOf self.now.queue pass × (view pass ≡ not_set_up) × (0 < passes_of self.now) }
+        requires { IsPassOf self.now.queue pass × (view pass ≡ not_set_up)
+            × (0 < passes_of self.now) }
         ensures pass { IsQueuePassOf self.now result }
-        ensures view { queue_view result ≡ fresh (shape_of self.now).parents (passes_of self.now) (passes_of self.now) }
+        ensures view { queue_view result
+            ≡ fresh (shape_of self.now).parents (passes_of self.now) (passes_of self.now) }
     {
         let job = self.job(0);
         if self
@@ -94,8 +101,10 @@ impl DirQueue {
 
     fn another(&self, pass: &mut QueuePass) -> QueuePass
         requires { IsQueuePassOf self.now pass.old × (1 < (queue_view pass.old).stands_for) }
-        ensures old { IsQueuePassOf self.now pass.new × (queue_view pass.new ≡ for_one_less (queue_view pass.old)) }
-        ensures new { IsQueuePassOf self.now result × (queue_view result ≡ fresh (shape_of self.now).parents (passes_of self.now) 1) }
+        ensures old { IsQueuePassOf self.now pass.new
+            × (queue_view pass.new ≡ for_one_less (queue_view pass.old)) }
+        ensures new { IsQueuePassOf self.now result
+            × (queue_view result ≡ fresh (shape_of self.now).parents (passes_of self.now) 1) }
     {
         let pass = self.queue.another::<CutOne>(&mut pass.pass);
         QueuePass { pass }
@@ -108,9 +117,12 @@ impl DirQueue {
         passes: u32,
     ) -> Result<Row<QueuePass>, OutOfMemory>
         requires some { 0 < passes }
-        requires pass { IsQueuePassOf self.now pass × (queue_view pass ≡ fresh (shape_of self.now).parents (passes_of self.now) passes) }
+        requires pass { IsQueuePassOf self.now pass
+            × (queue_view pass ≡ fresh (shape_of self.now).parents (passes_of self.now) passes) }
         ensures len { IfOk result (λ all. length all ≡ passes) }
-        ensures each { IfOk result (λ all. All (λ p. IsQueuePassOf self.now p × (queue_view p ≡ fresh (shape_of self.now).parents (passes_of self.now) 1)) all) }
+        ensures each { IfOk result
+            (λ all. All (λ p. IsQueuePassOf self.now p
+            × (queue_view p ≡ fresh (shape_of self.now).parents (passes_of self.now) 1)) all) }
     {
         let mut all = Row::new(alloc);
         'passes: for _ in 1..passes {
@@ -141,10 +153,14 @@ impl DirQueue {
     pub fn take<R: Wait>(&self, rt: &R, pass: &mut QueuePass) -> Option<u32>
         requires { IsQueuePassOf self.now pass.old }
         ensures pass { IsQueuePassOf self.now pass.new }
-        ensures taken { Takes (shape_of self.now) (queue_view pass.old) (queue_view pass.new) result }
-        ensures each { (queue_view pass.old).stands_for ≡ passes_of self.now → HoldsEachOnce (queue_view pass.new) }
-        ensures none { (queue_view pass.old).stands_for ≡ passes_of self.now → NoneIfAllTaken (queue_view pass.old) result }
-        ensures sound { (queue_view pass.old).stands_for ≡ passes_of self.now → IfNone result (Sound (shape_of self.now) (one_worker (queue_view pass.old))) }
+        ensures taken { Takes (shape_of self.now) (queue_view pass.old) (queue_view pass.new)
+            result }
+        ensures each { (queue_view pass.old).stands_for ≡ passes_of self.now
+            → HoldsEachOnce (queue_view pass.new) }
+        ensures none { (queue_view pass.old).stands_for ≡ passes_of self.now
+            → NoneIfAllTaken (queue_view pass.old) result }
+        ensures sound { (queue_view pass.old).stands_for ≡ passes_of self.now
+            → IfNone result (Sound (shape_of self.now) (one_worker (queue_view pass.old))) }
     {
         match self.queue.pop_as::<Taking, R>(rt, &mut pass.pass) {
             Some(job) => Some(job.number),
@@ -157,7 +173,8 @@ impl DirQueue {
         requires { IsQueuePassOf self.now into.old × IsQueuePassOf self.now from }
         ensures pass { IsQueuePassOf self.now into.new }
         ensures view { queue_view into.new ≡ joined (queue_view into.old) (queue_view from) }
-        ensures each { (queue_view into.new).stands_for ≡ passes_of self.now → HoldsEachOnce (queue_view into.new) }
+        ensures each { (queue_view into.new).stands_for ≡ passes_of self.now
+            → HoldsEachOnce (queue_view into.new) }
     {
         let QueuePass { pass } = from;
         self.queue.absorb::<Joining>(&mut into.pass, pass);
@@ -170,10 +187,12 @@ impl DirQueue {
         requires pass { IsQueuePassOf self.now pass.old }
         requires whole { (queue_view pass.old).stands_for ≡ passes_of self.now }
         ensures pass { IsQueuePassOf self.now pass.new }
-        ensures taken { Takes (shape_of self.now) (queue_view pass.old) (queue_view pass.new) result }
+        ensures taken { Takes (shape_of self.now) (queue_view pass.old) (queue_view pass.new)
+            result }
         ensures each { HoldsEachOnce (queue_view pass.new) }
         ensures none { NoneIfAllTaken (queue_view pass.old) result }
-        ensures sound { IfNone result (Sound (shape_of self.now) (one_worker (queue_view pass.old))) }
+        ensures sound { IfNone result
+            (Sound (shape_of self.now) (one_worker (queue_view pass.old))) }
     {
         self.take(rt, pass)
     }

@@ -37,10 +37,12 @@ fn offer_child<R: Wait>(
 )
     requires pass { IsQueuePassOf queue.now pass.old × (shape_of queue.now ≡ shape.now) }
     requires taken { 0 < times job (queue_view pass.old).taken }
-    requires new { parent_in shape.now.parents child ≡ job → times child (queue_view pass.old).given ≡ 0 }
+    requires new { parent_in shape.now.parents child ≡ job
+        → times child (queue_view pass.old).given ≡ 0 }
     ensures pass { IsQueuePassOf queue.now pass.new }
     ensures taken { (queue_view pass.new).taken ≡ (queue_view pass.old).taken }
-    ensures given { (other : ℕ) → other ≢ child → times other (queue_view pass.new).given ≡ times other (queue_view pass.old).given }
+    ensures given { (other : ℕ) → other ≢ child
+        → times other (queue_view pass.new).given ≡ times other (queue_view pass.old).given }
     ensures stands { (queue_view pass.new).stands_for ≡ (queue_view pass.old).stands_for }
 {
     if child > 0
@@ -179,18 +181,24 @@ fn two_workers<R: Threads + Wait + Sync>(
     requires shape { shape_of queue.now ≡ shape.now }
     requires a { IsQueuePassOf queue.now a.pass × ((queue_view a.pass).stands_for ≡ 1) }
     requires b { IsQueuePassOf queue.now b.pass × ((queue_view b.pass).stands_for ≡ 1) }
-    ensures a { IsQueuePassOf queue.now result.0.pass × ((queue_view result.0.pass).stands_for ≡ 1) }
-    ensures b { IsQueuePassOf queue.now result.1.pass × ((queue_view result.1.pass).stands_for ≡ 1) }
+    ensures a { IsQueuePassOf queue.now result.0.pass
+        × ((queue_view result.0.pass).stands_for ≡ 1) }
+    ensures b { IsQueuePassOf queue.now result.1.pass
+        × ((queue_view result.1.pass).stands_for ≡ 1) }
 {
     join(
         rt,
         || -> Worker
-            requires { IsQueuePassOf queue.now a.pass × (shape_of queue.now ≡ shape.now) × ((queue_view a.pass).stands_for ≡ 1) }
-            ensures { IsQueuePassOf queue.entry.now result.pass × ((queue_view result.pass).stands_for ≡ 1) }
+            requires { IsQueuePassOf queue.now a.pass × (shape_of queue.now ≡ shape.now)
+                × ((queue_view a.pass).stands_for ≡ 1) }
+            ensures { IsQueuePassOf queue.entry.now result.pass
+                × ((queue_view result.pass).stands_for ≡ 1) }
         { work(rt, queue, shape, a) },
         || -> Worker
-            requires { IsQueuePassOf queue.now b.pass × (shape_of queue.now ≡ shape.now) × ((queue_view b.pass).stands_for ≡ 1) }
-            ensures { IsQueuePassOf queue.entry.now result.pass × ((queue_view result.pass).stands_for ≡ 1) }
+            requires { IsQueuePassOf queue.now b.pass × (shape_of queue.now ≡ shape.now)
+                × ((queue_view b.pass).stands_for ≡ 1) }
+            ensures { IsQueuePassOf queue.entry.now result.pass
+                × ((queue_view result.pass).stands_for ≡ 1) }
         { work(rt, queue, shape, b) },
     )
 }

@@ -8,10 +8,12 @@ use Rattle.label_base.specs.declared.escape.EscapeFault.TheVariants.{BadEscape, 
 
 -- a byte that stands for itself
 abbrev pub is_plain : ℕ → Bool
-is_plain b = if b == BACKSLASH then false else if nat_lt b BLANK then false else if b == DEL then false else true
+is_plain b = if b == BACKSLASH then false else if nat_lt b BLANK then false
+    else if b == DEL then false else true
 
 abbrev pub escaped_byte : ℕ → List ℕ
-escaped_byte b = if is_plain b then b ∷ [] else BACKSLASH ∷ (48 + b / 64) ∷ (48 + b / 8 % 8) ∷ (48 + b % 8) ∷ []
+escaped_byte b =
+    if is_plain b then b ∷ [] else BACKSLASH ∷ (48 + b / 64) ∷ (48 + b / 8 % 8) ∷ (48 + b % 8) ∷ []
 
 -- the bytes with each escaped
 abbrev pub escaped : List ℕ → List ℕ
@@ -25,7 +27,9 @@ octal_value x y z = 64 * (x - 48) + 8 * (y - 48) + (z - 48)
 
 -- the byte that three octal digits stand for
 abbrev pub octal_byte : ℕ → ℕ → ℕ → Option ℕ
-octal_byte x y z = if is_octal x && is_octal y && is_octal z && nat_lt (octal_value x y z) 256 then Some (octal_value x y z) else None
+octal_byte x y z =
+    if is_octal x && is_octal y && is_octal z
+    && nat_lt (octal_value x y z) 256 then Some (octal_value x y z) else None
 
 -- bytes before what the rest reads as
 abbrev pub in_front : List ℕ → Option (List ℕ) → Option (List ℕ)
@@ -41,7 +45,8 @@ led_by (Some b) rest = in_front (b ∷ []) rest
 unfoldable pub unescaped : List ℕ → Option (List ℕ)
 unescaped [] = Some []
 unescaped (b ∷ x ∷ y ∷ z ∷ rest) =
-    if b == BACKSLASH then led_by (octal_byte x y z) (unescaped rest) else led_by (Some b) (unescaped (x ∷ y ∷ z ∷ rest))
+    if b == BACKSLASH then led_by (octal_byte x y z) (unescaped rest)
+    else led_by (Some b) (unescaped (x ∷ y ∷ z ∷ rest))
 unescaped (b ∷ rest) = if b == BACKSLASH then None else led_by (Some b) (unescaped rest)
 
 -- a fault that says nothing of the text

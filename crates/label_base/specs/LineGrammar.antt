@@ -30,7 +30,8 @@ pub record IsField (bytes : List ℕ) : Type 0 where
 -- the line is these fields, with blanks before, between and behind them
 pub data AreFields : List ℕ → List (List ℕ) → Type 0 where
   none : (blanks : List ℕ) → AreBlanks blanks → AreFields blanks []
-  last : (blanks field : List ℕ) → AreBlanks blanks → IsField field → AreFields (blanks ++ field) (field ∷ [])
+  last : (blanks field : List ℕ) → AreBlanks blanks → IsField field
+      → AreFields (blanks ++ field) (field ∷ [])
   more : (blanks field : List ℕ) (blank : ℕ) (rest : List ℕ) (fields : List (List ℕ))
       → AreBlanks blanks
       → IsField field
@@ -47,16 +48,19 @@ SayNothing ([] ∷ fields) = ⊥
 SayNothing ((b ∷ bs) ∷ fields) = b ≡ COMMENT_MARK
 
 -- the line has fields that mean this
-pub record Says {B W : Type 0} (Means : ℕ → List (List ℕ) → Result B W → Type 0) (number : ℕ) (line : List ℕ) (meant : Result B W) : Type 0 where
+pub record Says {B W : Type 0} (Means : ℕ → List (List ℕ) → Result B W → Type 0) (number : ℕ)
+    (line : List ℕ) (meant : Result B W) : Type 0 where
   pub fields : List (List ℕ)
   pub cut : AreFields line fields
   pub something : ¬ SayNothing fields
   pub meaning : Means number fields meant
 
 -- each of these lines, the first of which has this number, says nothing or a value, and these are the values
-pub data AreSaid {B W : Type 0} (Means : ℕ → List (List ℕ) → Result B W → Type 0) : ℕ → List (List ℕ) → List B → Type 0 where
+pub data AreSaid {B W : Type 0} (Means : ℕ → List (List ℕ) → Result B W → Type 0) : ℕ
+    → List (List ℕ) → List B → Type 0 where
   none : (number : ℕ) → AreSaid Means number [] []
-  nothing : (number : ℕ) (line : List ℕ) (fields : List (List ℕ)) (lines : List (List ℕ)) (values : List B)
+  nothing : (number : ℕ) (line : List ℕ) (fields : List (List ℕ)) (lines : List (List ℕ))
+      (values : List B)
       → AreFields line fields
       → SayNothing fields
       → AreSaid Means (number + 1) lines values
@@ -67,7 +71,8 @@ pub data AreSaid {B W : Type 0} (Means : ℕ → List (List ℕ) → Result B W 
       → AreSaid Means number (line ∷ lines) (first ∷ values)
 
 -- this line of the text has this number and means this, and the lines before it say these values
-pub record StandsAt {B W : Type 0} (Means : ℕ → List (List ℕ) → Result B W → Type 0) (text : List ℕ) (number : ℕ) (values : List B) (meant : Result B W) : Type 0 where
+pub record StandsAt {B W : Type 0} (Means : ℕ → List (List ℕ) → Result B W → Type 0) (text : List ℕ)
+    (number : ℕ) (values : List B) (meant : Result B W) : Type 0 where
   pub before : List (List ℕ)
   pub line : List ℕ
   pub after : List (List ℕ)
@@ -77,14 +82,21 @@ pub record StandsAt {B W : Type 0} (Means : ℕ → List (List ℕ) → Result B
   pub meaning : Says Means number line meant
 
 -- what the text of a file means
-abbrev pub LinesMean : {B W : Type 0} → (ℕ → List (List ℕ) → Result B W → Type 0) → List ℕ → Result (List B) (RefusedLine W) → Type 0
-LinesMean Means text (Ok values) = (lines : List (List ℕ)) × AreLines text lines × AreSaid Means 1 lines values
-LinesMean {B = B} Means text (Err refused) = (values : List B) × StandsAt Means text refused.number values (Err refused.why)
+abbrev pub LinesMean : {B W : Type 0} → (ℕ → List (List ℕ) → Result B W → Type 0) → List ℕ
+    → Result (List B) (RefusedLine W) → Type 0
+LinesMean Means text (Ok values) =
+    (lines : List (List ℕ)) × AreLines text lines × AreSaid Means 1 lines values
+LinesMean {B = B} Means text (Err refused) =
+    (values : List B) × StandsAt Means text refused.number values (Err refused.why)
 
 -- the same, where there is room for so many values
-abbrev pub LinesMeanWithin : {B W : Type 0} → (ℕ → List (List ℕ) → Result B W → Type 0) → ℕ → List ℕ → Result (List B) (LinesWhy W) → Type 0
-LinesMeanWithin Means room text (Ok values) = LinesMean Means text (Ok values) × (length values ≤ room)
+abbrev pub LinesMeanWithin : {B W : Type 0} → (ℕ → List (List ℕ) → Result B W → Type 0) → ℕ → List ℕ
+    → Result (List B) (LinesWhy W) → Type 0
+LinesMeanWithin Means room text (Ok values) =
+    LinesMean Means text (Ok values) × (length values ≤ room)
 LinesMeanWithin {B = B} Means room text (Err (Refused refused)) =
-    (values : List B) × StandsAt Means text refused.number values (Err refused.why) × (length values ≤ room)
+    (values : List B) × StandsAt Means text refused.number values (Err refused.why)
+    × (length values ≤ room)
 LinesMeanWithin {B = B} Means room text (Err TooMany) =
-    (values : List B) × (number : ℕ) × (next : B) × StandsAt Means text number values (Ok next) × (length values ≡ room)
+    (values : List B) × (number : ℕ) × (next : B) × StandsAt Means text number values (Ok next)
+    × (length values ≡ room)

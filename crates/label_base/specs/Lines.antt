@@ -43,13 +43,15 @@ some_value (Ok value) = Ok (Some value)
 some_value (Err why) = Err why
 
 -- nothing where there is no field or the first begins a comment, else what the fields mean
-abbrev pub fields_said : {B W : Type 0} → (List (List ℕ) → Result B W) → List (List ℕ) → Result (Option B) W
+abbrev pub fields_said : {B W : Type 0} → (List (List ℕ) → Result B W) → List (List ℕ)
+    → Result (Option B) W
 fields_said meaning [] = Ok None
 fields_said meaning (field ∷ fields) =
     if is_comment field then Ok None else some_value (meaning (field ∷ fields))
 
 -- what a line says, from what the fields of the line with this number mean
-abbrev pub line_said : {B W : Type 0} → (ℕ → List (List ℕ) → Result B W) → ℕ → List ℕ → Result (Option B) W
+abbrev pub line_said : {B W : Type 0} → (ℕ → List (List ℕ) → Result B W) → ℕ → List ℕ
+    → Result (Option B) W
 line_said meaning number line = fields_said (meaning number) (fields_of line)
 
 -- a line that has a value, a line without one, a line that is refused
@@ -67,7 +69,8 @@ first_of [] = None
 first_of (x ∷ xs) = Some x
 
 -- every refused line
-abbrev pub refusals : {A B W : Type 0} → (ℕ → A → Result (Option B) W) → List (ℕ × A) → List (RefusedLine W)
+abbrev pub refusals : {A B W : Type 0} → (ℕ → A → Result (Option B) W) → List (ℕ × A)
+    → List (RefusedLine W)
 refusals said lines = filter_map (λ l. why_of l.0 (said l.0 l.1)) lines
 
 -- every value
@@ -79,12 +82,15 @@ abbrev pub all_or_first : {B E : Type 0} → List B → Option E → Result (Lis
 all_or_first values None = Ok values
 all_or_first values (Some refusal) = Err refusal
 
-abbrev pub read_from : {A B W : Type 0} → (ℕ → A → Result (Option B) W) → ℕ → List A → Result (List B) (RefusedLine W)
+abbrev pub read_from : {A B W : Type 0} → (ℕ → A → Result (Option B) W) → ℕ → List A
+    → Result (List B) (RefusedLine W)
 read_from said number lines =
-    all_or_first (values said (enumerate_from number lines)) (first_of (refusals said (enumerate_from number lines)))
+    all_or_first (values said (enumerate_from number lines))
+    (first_of (refusals said (enumerate_from number lines)))
 
 -- what all lines of a text say, or the first that is refused
-abbrev pub lines_read : {B W : Type 0} → (ℕ → List (List ℕ) → Result B W) → List ℕ → Result (List B) (RefusedLine W)
+abbrev pub lines_read : {B W : Type 0} → (ℕ → List (List ℕ) → Result B W) → List ℕ
+    → Result (List B) (RefusedLine W)
 lines_read meaning text = read_from (line_said meaning) 1 (lines_of text)
 
 -- the values of the lines before the first that is refused
@@ -96,13 +102,16 @@ by_line (Ok values) = Ok values
 by_line (Err refusal) = Err (Refused refusal)
 
 -- more values than there is room for, before any refused line, are too many; else the lines decide
-abbrev pub limited : {B W : Type 0} → ℕ → List B → Result (List B) (RefusedLine W) → Result (List B) (LinesWhy W)
+abbrev pub limited : {B W : Type 0} → ℕ → List B → Result (List B) (RefusedLine W)
+    → Result (List B) (LinesWhy W)
 limited room values read = if nat_lt room (length values) then Err TooMany else by_line read
 
 -- what all lines of a text say, or the first that is refused or gives one value too many
-abbrev pub lines_within : {B W : Type 0} → ℕ → (ℕ → List (List ℕ) → Result B W) → List ℕ → Result (List B) (LinesWhy W)
+abbrev pub lines_within : {B W : Type 0} → ℕ → (ℕ → List (List ℕ) → Result B W) → List ℕ
+    → Result (List B) (LinesWhy W)
 lines_within room meaning text =
-    limited room (accepted (line_said meaning) (enumerate_from 1 (lines_of text))) (lines_read meaning text)
+    limited room (accepted (line_said meaning) (enumerate_from 1 (lines_of text)))
+    (lines_read meaning text)
 
 -- values that were read before, in front
 abbrev pub with_front : {B E : Type 0} → List B → Result (List B) E → Result (List B) E
@@ -119,4 +128,5 @@ Adds (Err why) old new = ⊥
 abbrev pub Stops : {B W : Type 0} → ℕ → ℕ → ℕ → Option (LinesWhy W) → Result (Option B) W → Type 0
 Stops number room count None said = Unit {0}
 Stops number room count (Some (Refused line)) said = (line.number ≡ number) × (said ≡ Err line.why)
-Stops {B = B} number room count (Some TooMany) said = (room ≡ count) × (value : B) × (said ≡ Ok (Some value))
+Stops {B = B} number room count (Some TooMany) said =
+    (room ≡ count) × (value : B) × (said ≡ Ok (Some value))

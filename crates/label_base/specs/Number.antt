@@ -13,7 +13,9 @@ decimal value (b ∷ bs) = decimal (value * 10 + (b - 48)) bs
 -- nothing exactly where there is no byte, a byte that is no digit, or a value past 64 bits
 abbrev pub number_of : List ℕ → Option ℕ
 number_of [] = None
-number_of (b ∷ bs) = if list_all is_digit (b ∷ bs) && nat_lt (decimal 0 (b ∷ bs)) (2 ^ 64) then Some (decimal 0 (b ∷ bs)) else None
+number_of (b ∷ bs) =
+    if list_all is_digit (b ∷ bs) && nat_lt (decimal 0 (b ∷ bs)) (2 ^ 64)
+    then Some (decimal 0 (b ∷ bs)) else None
 
 -- one digit more
 abbrev pub digit_of : ℕ → Option ℕ
@@ -21,4 +23,5 @@ digit_of b = if is_digit b then Some (b - 48) else None
 
 abbrev pub with_digit : ℕ → Option ℕ → Option ℕ
 with_digit value None = None
-with_digit value (Some digit) = if nat_lt (value * 10 + digit) (2 ^ 64) then Some (value * 10 + digit) else None
+with_digit value (Some digit) =
+    if nat_lt (value * 10 + digit) (2 ^ 64) then Some (value * 10 + digit) else None

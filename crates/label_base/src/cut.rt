@@ -64,7 +64,8 @@ pub fn next_field(line: Option<&[u8]>) -> Option<(&[u8], Option<&[u8]>)>
 
 /// The first line of a text, and what stands behind it.
 pub fn next_line(text: &[u8]) -> Option<(&[u8], &[u8])>
-    ensures found { IfSome result (λ found. lines_of text.now ≡ found.0.now ∷ lines_of found.1.now) }
+    ensures found { IfSome result
+        (λ found. lines_of text.now ≡ found.0.now ∷ lines_of found.1.now) }
     ensures shorter { IfSome result (λ found. length found.1.now < length text.now) }
     ensures none { IfNone result (lines_of text.now ≡ []) }
 {

@@ -327,7 +327,8 @@ impl NormPath {
     /// [`NormPath::read`] reads it back as this path, unless it is too long or a name is `.` or `..`.
     pub fn as_text(&self) -> &[u8]
         ensures value { result.now ≡ path_text self.now }
-        ensures read_back { length result.now ≤ MOST_PATH_BYTES → list_any is_dot_part self.now ≡ false
+        ensures read_back { length result.now ≤ MOST_PATH_BYTES
+            → list_any is_dot_part self.now ≡ false
             → path_read result.now ≡ Ok self.now }
     {
         self.path().as_text()
@@ -397,7 +398,8 @@ impl Eq for NormPath {
 impl PartialOrd for NormPath {
     ghost partial_cmp = { as_partial_cmp path_cmp };
 
-    ghost laws = { partial_order_from_own_ties (Prim.search (comparing, rules)) (λ x y. lists_ties (slice_cmp nat_cmp) texts_ties x y) };
+    ghost laws = { partial_order_from_own_ties (Prim.search (comparing, rules))
+        (λ x y. lists_ties (slice_cmp nat_cmp) texts_ties x y) };
 
     fn partial_cmp(&self, other: &NormPath) -> Option<Ordering> {
         Some(self.cmp(other))

@@ -104,7 +104,8 @@ impl<'a> Eq for PathKey<'a> {
 impl<'a> PartialOrd for PathKey<'a> {
     ghost partial_cmp = { as_partial_cmp path_cmp };
 
-    ghost laws = { partial_order_from_own_ties (Prim.search (comparing, rules)) (λ x y. lists_ties (slice_cmp nat_cmp) texts_ties x y) };
+    ghost laws = { partial_order_from_own_ties (Prim.search (comparing, rules))
+        (λ x y. lists_ties (slice_cmp nat_cmp) texts_ties x y) };
 
     fn partial_cmp(&self, other: &PathKey<'a>) -> Option<Ordering> {
         Some(self.cmp(other))

@@ -64,7 +64,8 @@ impl<'a> PathRef<'a> {
     /// The text of the path: `/` for no names, else a slash before each name.
     pub fn as_text(&self) -> &'a [u8]
         ensures value { result.now ≡ path_text (path_of self.now) }
-        ensures read_back { length result.now ≤ MOST_PATH_BYTES → list_any is_dot_part (path_of self.now) ≡ false
+        ensures read_back { length result.now ≤ MOST_PATH_BYTES
+            → list_any is_dot_part (path_of self.now) ≡ false
             → path_read result.now ≡ Ok (path_of self.now) }
     {
         text_or_slash(self.text)

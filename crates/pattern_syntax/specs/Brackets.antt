@@ -73,7 +73,9 @@ lone_part (Err refusal) = Err refusal
 
 -- a range up to a single byte; a - before anything else is an ordinary byte
 abbrev pub range_part : ℕ → Result (Item × ℕ) Refusal → Result Part Refusal
-range_part low (Ok (One high, n)) = if nat_lt high low then Err Syntax else Ok (record { has = is_between low high; low = None; length = n + 1 })
+range_part low (Ok (One high, n)) =
+    if nat_lt high low then Err Syntax
+    else Ok (record { has = is_between low high; low = None; length = n + 1 })
 range_part low (Ok (Class has, n)) = Ok (single 45 1)
 range_part low (Err refusal) = Ok (single 45 1)
 
@@ -92,25 +94,29 @@ abbrev pub part_at : Option ℕ → List ℕ → Result Part Refusal
 part_at None text = lone_part (item_at text)
 part_at (Some low) text = part_behind low text
 
-abbrev pub after_part : Result Part Refusal → (Part → Result ((ℕ → Bool) × ℕ) Refusal) → Result ((ℕ → Bool) × ℕ) Refusal
+abbrev pub after_part : Result Part Refusal → (Part → Result ((ℕ → Bool) × ℕ) Refusal)
+    → Result ((ℕ → Bool) × ℕ) Refusal
 after_part (Ok part) rest = rest part
 after_part (Err refusal) rest = Err refusal
 
 -- the bytes of the parts from here to the ] that ends the set, and the place behind it; skip bytes belong to the part before.
 -- A ] right at the beginning is an item.
-unfoldable pub parts_from : (begins : Bool) (low : Option ℕ) (has : ℕ → Bool) (place skip : ℕ) → List ℕ → Result ((ℕ → Bool) × ℕ) Refusal
+unfoldable pub parts_from : (begins : Bool) (low : Option ℕ) (has : ℕ → Bool) (place skip : ℕ)
+    → List ℕ → Result ((ℕ → Bool) × ℕ) Refusal
 parts_from begins low has place skip [] = Err Syntax
 parts_from begins low has place (suc skip) (b ∷ bs) = parts_from begins low has (place + 1) skip bs
 parts_from begins low has place zero (b ∷ bs) =
     if (b == 93) && not begins then Ok (has, place + 1)
-    else after_part (part_at low (b ∷ bs)) (λ part. parts_from false part.low (either has part.has) (place + 1) (part.length - 1) bs)
+    else after_part (part_at low (b ∷ bs))
+    (λ part. parts_from false part.low (either has part.has) (place + 1) (part.length - 1) bs)
 
 abbrev pub nonempty_set : List ℕ → ℕ → Result (List ℕ × ℕ) Refusal
 nonempty_set [] n = Err Syntax
 nonempty_set (b ∷ bs) n = Ok (b ∷ bs, n)
 
 -- the set of the bytes behind so many others, or of all but them
-abbrev pub whole_set : (negated : Bool) (before : ℕ) → Result ((ℕ → Bool) × ℕ) Refusal → Result (List ℕ × ℕ) Refusal
+abbrev pub whole_set : (negated : Bool) (before : ℕ) → Result ((ℕ → Bool) × ℕ) Refusal
+    → Result (List ℕ × ℕ) Refusal
 whole_set negated before (Err refusal) = Err refusal
 whole_set false before (Ok parts) = nonempty_set (bytes_with parts.0) (parts.1 + before)
 whole_set true before (Ok parts) = nonempty_set (bytes_with (outside parts.0)) (parts.1 + before)
@@ -118,4 +124,6 @@ whole_set true before (Ok parts) = nonempty_set (bytes_with (outside parts.0)) (
 -- the set behind a [, as its bytes, and its length with the [
 unfoldable pub set_at : List ℕ → Result (List ℕ × ℕ) Refusal
 set_at [] = Err Syntax
-set_at (b ∷ bs) = if b == 94 then whole_set true 2 (parts_from true None no_bytes 0 0 bs) else whole_set false 1 (parts_from true None no_bytes 0 0 (b ∷ bs))
+set_at (b ∷ bs) =
+    if b == 94 then whole_set true 2 (parts_from true None no_bytes 0 0 bs)
+    else whole_set false 1 (parts_from true None no_bytes 0 0 (b ∷ bs))

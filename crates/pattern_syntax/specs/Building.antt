@@ -25,7 +25,12 @@ abbrev pub count_of : Tree → ℕ
 count_of tree = capped (positions tree)
 
 abbrev pub level_counts : reading.Level → Level
-level_counts level = record { sides = option_map count_of level.sides; sequence = count_of level.sequence; piece = option_map count_of level.piece }
+level_counts level =
+    record {
+      sides = option_map count_of level.sides;
+      sequence = count_of level.sequence;
+      piece = option_map count_of level.piece;
+    }
 
 -- the trees of a level, the last on top of those before it
 abbrev pub tree_on : Option Tree → List Tree → List Tree
@@ -57,7 +62,8 @@ pub record IsProperLevel (level : reading.Level) : Type 0 where
 -- no repeat may follow in a level that a group is open in
 abbrev pub AreProperLevels : List reading.Level → Type 0
 AreProperLevels [] = Unit {0}
-AreProperLevels (around ∷ outer) = (around.piece ≡ None) × IsProperLevel around × AreProperLevels outer
+AreProperLevels (around ∷ outer) =
+    (around.piece ≡ None) × IsProperLevel around × AreProperLevels outer
 
 -- the builder's nodes are the trees of what is read, and its counts are theirs
 pub record Stands (builder : Builder) (read : Reading) : Type 0 where
@@ -66,7 +72,8 @@ pub record Stands (builder : Builder) (read : Reading) : Type 0 where
   pub outer : builder.outer.items ≡ outer_counts read.outer
   pub level_proper : IsProperLevel read.level
   pub outer_proper : AreProperLevels read.outer
-  pub size : length builder.nodes.items + 1 ≡ stack_size (level_trees read.level (outer_trees read.outer))
+  pub size : length builder.nodes.items + 1
+      ≡ stack_size (level_trees read.level (outer_trees read.outer))
 
 -- the nodes end a tree that stands on these, and this is its count
 pub record Ends (builder : Builder) (stack : List Tree) (tree : Tree) (count : ℕ) : Type 0 where
@@ -87,12 +94,16 @@ Explained None fault = Unit {0}
 Explained (Some why) fault = fault ≡ Some why
 
 abbrev pub fault_of : Reading → ℕ → Token → Option PatternWhy
-fault_of read place token = structure_fault (length read.outer) (is_some read.level.piece) place token
+fault_of read place token =
+    structure_fault (length read.outer) (is_some read.level.piece) place token
 
 -- the token has no fault, and the builder stands for what is read with it; or the error is its fault, or want of memory
 abbrev pub Steps : {U : Type 0} → Result U PatternFault → Builder → Builder → ℕ → Token → Type 0
-Steps (Ok u) old new place token = (read : Reading) → Stands old read → (fault_of read place token ≡ None) × Stands new (after_token read token)
-Steps (Err e) old new place token = (read : Reading) → Stands old read → Explained (pattern_cause e) (fault_of read place token)
+Steps (Ok u) old new place token =
+    (read : Reading) → Stands old read → (fault_of read place token ≡ None)
+    × Stands new (after_token read token)
+Steps (Err e) old new place token =
+    (read : Reading) → Stands old read → Explained (pattern_cause e) (fault_of read place token)
 
 -- the node is that of a set of these bytes
 abbrev pub IsSetNode : Node → List ℕ → Type 0
@@ -100,7 +111,8 @@ IsSetNode node bytes = (stack : List Tree) → after_node node stack ≡ Set byt
 
 -- what is read is whole, and the nodes are those of its tree; or the error is its fault, or want of memory
 abbrev pub Finishes : Result (Vec Node) PatternFault → Reading → ℕ → Type 0
-Finishes (Ok nodes) read end = (reads_as end read [] ≡ Ok (rest_tree nodes.items)) × IsWhole nodes.items
+Finishes (Ok nodes) read end =
+    (reads_as end read [] ≡ Ok (rest_tree nodes.items)) × IsWhole nodes.items
 Finishes (Err e) read end = Explains (pattern_cause e) (reads_as end read [])
 
 abbrev pub side_positions : Option Tree → ℕ

@@ -13,20 +13,25 @@ pub data Item : Type 0 where
 -- \d, \w, \s and their complements
 unfoldable pub class_of_letter : ℕ → Option (ℕ → Bool)
 class_of_letter b =
-    if b == 100 then Some is_digit else if b == 119 then Some is_word else if b == 115 then Some is_space
-    else if b == 68 then Some (outside is_digit) else if b == 87 then Some (outside is_word) else if b == 83 then Some (outside is_space)
+    if b == 100 then Some is_digit else if b == 119 then Some is_word
+    else if b == 115 then Some is_space
+    else if b == 68 then Some (outside is_digit) else if b == 87 then Some (outside is_word)
+    else if b == 83 then Some (outside is_space)
     else None
 
 -- \n, \t, \r
 unfoldable pub control_of_letter : ℕ → Option ℕ
-control_of_letter b = if b == 110 then Some 10 else if b == 116 then Some 9 else if b == 114 then Some 13 else None
+control_of_letter b =
+    if b == 110 then Some 10 else if b == 116 then Some 9 else if b == 114 then Some 13 else None
 
 unfoldable pub hexadecimal_digit : ℕ → Option ℕ
 hexadecimal_digit b =
-    if is_digit b then Some (b - 48) else if is_between 97 102 b then Some (b - 87) else if is_between 65 70 b then Some (b - 55) else None
+    if is_digit b then Some (b - 48) else if is_between 97 102 b then Some (b - 87)
+    else if is_between 65 70 b then Some (b - 55) else None
 
 abbrev pub hexadecimal_byte : Option ℕ → Option ℕ → Result (Item × ℕ) Refusal
-hexadecimal_byte (Some high) (Some low) = if high * 16 + low == 0 then Err Unsupported else Ok (One (high * 16 + low), 4)
+hexadecimal_byte (Some high) (Some low) =
+    if high * 16 + low == 0 then Err Unsupported else Ok (One (high * 16 + low), 4)
 hexadecimal_byte (Some high) None = Err Unsupported
 hexadecimal_byte None low = Err Unsupported
 
@@ -38,7 +43,8 @@ hexadecimal_at (high ∷ low ∷ bs) = hexadecimal_byte (hexadecimal_digit high)
 
 -- a letter or digit without a meaning of its own is PCRE's; any other byte but NUL is itself
 unfoldable pub plain_escape : ℕ → Result (Item × ℕ) Refusal
-plain_escape b = if b == 0 then Err Syntax else if is_alnum b then Err Unsupported else Ok (One b, 2)
+plain_escape b =
+    if b == 0 then Err Syntax else if is_alnum b then Err Unsupported else Ok (One b, 2)
 
 abbrev pub control_escape : ℕ → Option ℕ → Result (Item × ℕ) Refusal
 control_escape b (Some byte) = Ok (One byte, 2)

@@ -19,7 +19,8 @@ takes_repeat before tokens = fold (λ (b : Bool) (token : Token). ends_piece tok
 -- nowhere are more groups open than may be
 abbrev pub IsShallow : ℕ → List Token → Type 0
 IsShallow depth [] = Unit {0}
-IsShallow depth (token ∷ tokens) = (depth_behind token depth ≤ MOST_GROUPS) × IsShallow (depth_behind token depth) tokens
+IsShallow depth (token ∷ tokens) =
+    (depth_behind token depth ≤ MOST_GROUPS) × IsShallow (depth_behind token depth) tokens
 
 -- some pattern begins with the tokens
 abbrev pub Begins : List Token → Type 0
@@ -46,7 +47,8 @@ HasTooManyPositions text = (tree : Tree) × IsCutInto text tree × (MOST_POSITIO
 abbrev pub IsMisplaced : (depth : ℕ) (after_piece : Bool) (place : ℕ) → Token → PatternWhy → Type 0
 IsMisplaced depth after_piece place Close why = (depth ≡ 0) × (why ≡ Syntax place)
 IsMisplaced depth after_piece place Open why = (MOST_GROUPS ≤ depth) × (why ≡ TooDeep place)
-IsMisplaced depth after_piece place (Times least most) why = (after_piece ≡ false) × (why ≡ Syntax place)
+IsMisplaced depth after_piece place (Times least most) why =
+    (after_piece ≡ false) × (why ≡ Syntax place)
 IsMisplaced depth after_piece place (Bytes bytes) why = ⊥
 IsMisplaced depth after_piece place Bar why = ⊥
 IsMisplaced depth after_piece place Anchor why = ⊥
@@ -55,7 +57,8 @@ IsMisplaced depth after_piece place Anchor why = ⊥
 abbrev pub IsAmiss : (end : ℕ) (before : List Token) → List Placed → PatternWhy → Type 0
 IsAmiss end before [] why = (0 < open_behind 0 before) × (why ≡ Syntax end)
 IsAmiss end before ((place, Err refusal) ∷ rest) why = why ≡ refused_at place refusal
-IsAmiss end before ((place, Ok token) ∷ rest) why = IsMisplaced (open_behind 0 before) (takes_repeat false before) place token why
+IsAmiss end before ((place, Ok token) ∷ rest) why =
+    IsMisplaced (open_behind 0 before) (takes_repeat false before) place token why
 
 -- the tokens before a place are the beginning of some pattern, and what stands there is amiss
 pub record HasFault (end : ℕ) (placed : List Placed) (why : PatternWhy) : Type 0 where

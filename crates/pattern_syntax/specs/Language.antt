@@ -17,7 +17,8 @@ AtMost k (Some n) = k ≤ n
 abbrev pub In : Tree → List ℕ → Type 0
 In (Set bytes) text = (b : ℕ) × (text ≡ b ∷ []) × (list_any (λ c. c == b) bytes ≡ true)
 In Nothing text = text ≡ []
-In (Both first second) text = (front rest : List ℕ) × (text ≡ front ++ rest) × In first front × In second rest
+In (Both first second) text =
+    (front rest : List ℕ) × (text ≡ front ++ rest) × In first front × In second rest
 In (Either left right) text = In left text ⊎ In right text
 In (Repeat least most piece) text = (k : ℕ) × (least ≤ k) × AtMost k most × Joined (In piece) k text
 
@@ -54,4 +55,5 @@ holds Nothing [] = true
 holds Nothing (b ∷ bs) = false
 holds (Both first second) text = some_cut (holds first) (holds second) [] text
 holds (Either left right) text = holds left text || holds right text
-holds (Repeat least most piece) text = some_count (λ k. is_joined (holds piece) k text) least (counts_from least most text)
+holds (Repeat least most piece) text =
+    some_count (λ k. is_joined (holds piece) k text) least (counts_from least most text)

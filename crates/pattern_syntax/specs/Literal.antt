@@ -29,7 +29,8 @@ single_bytes (tree.Repeat least most piece) = None
 
 -- the bytes of the longest run of single bytes that a sequence begins with; none where there are several sides
 abbrev pub literal_start_of : Tree → List ℕ
-literal_start_of (tree.Both first second) = unwrap_or (joined (single_bytes first) (single_byte second)) (literal_start_of first)
+literal_start_of (tree.Both first second) =
+    unwrap_or (joined (single_bytes first) (single_byte second)) (literal_start_of first)
 literal_start_of tree.Nothing = []
 literal_start_of (tree.Set bytes) = []
 literal_start_of (tree.Either left right) = []

@@ -34,7 +34,8 @@ pub record IsWhole (nodes : List Node) : Type 0 where
 pub record IsStart (nodes : List Node) (start : List ℕ) : Type 0 where
   pub within : 2 * length start ≤ length nodes
   pub literal : literal_start_of (rest_tree nodes) ≡ start
-  pub builds : after_nodes (drop (2 * length start) nodes) (bytes_tree start ∷ []) ≡ rest_tree nodes ∷ []
+  pub builds : after_nodes (drop (2 * length start) nodes) (bytes_tree start ∷ []) ≡ rest_tree nodes
+      ∷ []
 
 -- the start is all that the tree of both begins with
 pub record IsPattern (start : List ℕ) (rest : List Node) : Type 0 where

@@ -37,10 +37,13 @@ depth_behind Anchor depth = depth
 depth_behind (Times least most) depth = depth
 
 -- the fault of structure of a token, where so many groups are open and a piece ends right before it, or doesn't
-abbrev pub structure_fault : (depth : ℕ) (after_piece : Bool) (place : ℕ) → Token → Option PatternWhy
+abbrev pub structure_fault : (depth : ℕ) (after_piece : Bool) (place : ℕ) → Token
+    → Option PatternWhy
 structure_fault depth after_piece place Close = if depth == 0 then Some (Syntax place) else None
-structure_fault depth after_piece place Open = if nat_le MOST_GROUPS depth then Some (TooDeep place) else None
-structure_fault depth after_piece place (Times least most) = if after_piece then None else Some (Syntax place)
+structure_fault depth after_piece place Open =
+    if nat_le MOST_GROUPS depth then Some (TooDeep place) else None
+structure_fault depth after_piece place (Times least most) =
+    if after_piece then None else Some (Syntax place)
 structure_fault depth after_piece place (Bytes bytes) = None
 structure_fault depth after_piece place Bar = None
 structure_fault depth after_piece place Anchor = None
@@ -54,11 +57,13 @@ unfoldable pub first_fault : (end depth : ℕ) (after_piece : Bool) → List Pla
 first_fault end depth after_piece [] = if depth == 0 then None else Some (Syntax end)
 first_fault end depth after_piece ((place, Err refusal) ∷ tokens) = Some (refused_at place refusal)
 first_fault end depth after_piece ((place, Ok token) ∷ tokens) =
-    first_fault_of (structure_fault depth after_piece place token) (first_fault end (depth_behind token depth) (ends_piece token) tokens)
+    first_fault_of (structure_fault depth after_piece place token)
+    (first_fault end (depth_behind token depth) (ends_piece token) tokens)
 
 -- the first fault of what stands from a place on, outside of all groups
 abbrev pub fault_from : (from : ℕ) (after_piece : Bool) → List ℕ → Option PatternWhy
-fault_from from after_piece text = first_fault (length text) 0 after_piece (tokens_from from 0 (drop from text))
+fault_from from after_piece text =
+    first_fault (length text) 0 after_piece (tokens_from from 0 (drop from text))
 
 -- ---- trees
 
@@ -91,7 +96,8 @@ abbrev pub settled : Level → Level
 settled level = record { sides = level.sides; sequence = sequence_of level; piece = None }
 
 abbrev pub with_piece : Level → Tree → Level
-with_piece level piece = record { sides = level.sides; sequence = sequence_of level; piece = Some piece }
+with_piece level piece =
+    record { sides = level.sides; sequence = sequence_of level; piece = Some piece }
 
 abbrev pub with_bar : Level → Level
 with_bar level = record { sides = Some (choice_of level); sequence = Nothing; piece = None }
@@ -101,7 +107,12 @@ repeated least most None sequence = sequence
 repeated least most (Some piece) sequence = Both sequence (Repeat least most piece)
 
 abbrev pub with_repeat : ℕ → Option ℕ → Level → Level
-with_repeat least most level = record { sides = level.sides; sequence = repeated least most level.piece level.sequence; piece = None }
+with_repeat least most level =
+    record {
+      sides = level.sides;
+      sequence = repeated least most level.piece level.sequence;
+      piece = None;
+    }
 
 -- what is read of a pattern: the innermost choice, and the choices around it, from the innermost on
 pub record Reading : Type 0 where
@@ -113,15 +124,19 @@ new_reading = record { level = new_level; outer = [] }
 
 abbrev pub closed : Level → List Level → Reading
 closed level [] = record { level = level; outer = [] }
-closed level (around ∷ outer) = record { level = with_piece around (choice_of level); outer = outer }
+closed level (around ∷ outer) =
+    record { level = with_piece around (choice_of level); outer = outer }
 
 abbrev pub after_token : Reading → Token → Reading
-after_token reading (Bytes bytes) = record { level = with_piece reading.level (Set bytes); outer = reading.outer }
-after_token reading Open = record { level = new_level; outer = settled reading.level ∷ reading.outer }
+after_token reading (Bytes bytes) =
+    record { level = with_piece reading.level (Set bytes); outer = reading.outer }
+after_token reading Open =
+    record { level = new_level; outer = settled reading.level ∷ reading.outer }
 after_token reading Close = closed reading.level reading.outer
 after_token reading Bar = record { level = with_bar reading.level; outer = reading.outer }
 after_token reading Anchor = record { level = settled reading.level; outer = reading.outer }
-after_token reading (Times least most) = record { level = with_repeat least most reading.level; outer = reading.outer }
+after_token reading (Times least most) =
+    record { level = with_repeat least most reading.level; outer = reading.outer }
 
 abbrev pub after_placed : Reading → Placed → Reading
 after_placed reading (place, Ok token) = after_token reading token
@@ -152,7 +167,9 @@ read_as None tree = if nat_le (positions tree) MOST_POSITIONS then Ok tree else 
 
 -- what tokens read as
 unfoldable pub reads_as : (end : ℕ) → Reading → List Placed → Result Tree PatternWhy
-reads_as end reading tokens = read_as (first_fault end (length reading.outer) (is_some reading.level.piece) tokens) (tree_after reading tokens)
+reads_as end reading tokens =
+    read_as (first_fault end (length reading.outer) (is_some reading.level.piece) tokens)
+    (tree_after reading tokens)
 
 -- the pattern that a text spells, or the fault at the least place
 unfoldable pub pattern_of : List ℕ → Result Tree PatternWhy

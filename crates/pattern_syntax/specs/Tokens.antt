@@ -50,7 +50,8 @@ upper_number (d ∷ ds) = Some (times_of (d ∷ ds))
 -- m, of so many digits, and a comma: what stands behind
 unfoldable pub upper_counts : (m digits : ℕ) → List ℕ → List ℕ → Counts
 upper_counts m digits upper [] = None
-upper_counts m digits upper (b ∷ bs) = if b == 125 then Some (m, (upper_number upper, digits + length upper + 3)) else None
+upper_counts m digits upper (b ∷ bs) =
+    if b == 125 then Some (m, (upper_number upper, digits + length upper + 3)) else None
 
 -- m, of so many digits: what stands behind
 unfoldable pub lower_counts : (m digits : ℕ) → List ℕ → Counts
@@ -85,7 +86,8 @@ marked_repeat least most length (b ∷ bs) =
 abbrev pub braced_repeat : List ℕ → Counts → Cut
 braced_repeat text None = Ok (Bytes (123 ∷ []), 1)
 braced_repeat text (Some counts) =
-    if is_refused_count counts.0 counts.1.0 then Err Syntax else marked_repeat counts.0 counts.1.0 counts.1.1 (drop (counts.1.1 - 1) text)
+    if is_refused_count counts.0 counts.1.0 then Err Syntax
+    else marked_repeat counts.0 counts.1.0 counts.1.1 (drop (counts.1.1 - 1) text)
 
 -- what stands behind a ( that a ? follows
 unfoldable pub special_group : List ℕ → Cut
@@ -95,7 +97,8 @@ special_group (b ∷ bs) = if b == 58 then Ok (Open, 3) else Err Unsupported
 -- what stands behind a (
 unfoldable pub group_at : List ℕ → Cut
 group_at [] = Ok (Open, 1)
-group_at (b ∷ bs) = if b == 63 then special_group bs else if b == 42 then Err Unsupported else Ok (Open, 1)
+group_at (b ∷ bs) =
+    if b == 63 then special_group bs else if b == 42 then Err Unsupported else Ok (Open, 1)
 
 abbrev pub escaped : Result (Item × ℕ) Refusal → Cut
 escaped (Ok (One b, n)) = Ok (Bytes (b ∷ []), n)
@@ -150,4 +153,5 @@ with_place place (Err refusal) rest = (place, Err refusal) ∷ []
 unfoldable pub tokens_from : (place skip : ℕ) → List ℕ → List Placed
 tokens_from place skip [] = []
 tokens_from place (suc skip) (b ∷ bs) = tokens_from (place + 1) skip bs
-tokens_from place zero (b ∷ bs) = with_place place (token_at (place == 0) (b ∷ bs)) (λ skip. tokens_from (place + 1) skip bs)
+tokens_from place zero (b ∷ bs) =
+    with_place place (token_at (place == 0) (b ∷ bs)) (λ skip. tokens_from (place + 1) skip bs)

@@ -18,7 +18,8 @@ TreeNode = ℕ × (List ℕ × (ℕ × Option ℕ))
 abbrev pub tree_nodes : Tree → List TreeNode
 tree_nodes (Set bytes) = (0, (bytes, (0, None))) ∷ []
 tree_nodes Nothing = (1, ([], (0, None))) ∷ []
-tree_nodes (Both first second) = tree_nodes first ++ (tree_nodes second ++ (2, ([], (0, None))) ∷ [])
+tree_nodes (Both first second) =
+    tree_nodes first ++ (tree_nodes second ++ (2, ([], (0, None))) ∷ [])
 tree_nodes (Either left right) = tree_nodes left ++ (tree_nodes right ++ (3, ([], (0, None))) ∷ [])
 tree_nodes (Repeat least most piece) = tree_nodes piece ++ (4, ([], (least, most))) ∷ []
 
@@ -38,21 +39,32 @@ abbrev pub tree_from : List Tree → Tree
 tree_from [] = Nothing
 tree_from (tree ∷ stack) = tree
 
-pub built-nodes : (t : Tree) (ns : List TreeNode) (stack : List Tree) → built (tree_nodes t ++ ns) stack ≡ built ns (t ∷ stack)
+pub built-nodes : (t : Tree) (ns : List TreeNode) (stack : List Tree)
+    → built (tree_nodes t ++ ns) stack ≡ built ns (t ∷ stack)
 built-nodes (Set bytes) ns stack = refl
 built-nodes Nothing ns stack = refl
 built-nodes (Both first second) ns stack =
-    ap (λ l. built l stack) (append_assoc (tree_nodes first) (tree_nodes second ++ _ ∷ []) ns ∙ ap (λ l. tree_nodes first ++ l) (append_assoc (tree_nodes second) (_ ∷ []) ns))
+    ap (λ l. built l stack)
+    (append_assoc (tree_nodes first) (tree_nodes second ++ _ ∷ []) ns ∙
+    ap (λ l. tree_nodes first ++ l) (append_assoc (tree_nodes second) (_ ∷ []) ns))
     ∙ built-nodes first _ stack ∙ built-nodes second _ (first ∷ stack)
 built-nodes (Either left right) ns stack =
-    ap (λ l. built l stack) (append_assoc (tree_nodes left) (tree_nodes right ++ _ ∷ []) ns ∙ ap (λ l. tree_nodes left ++ l) (append_assoc (tree_nodes right) (_ ∷ []) ns))
+    ap (λ l. built l stack)
+    (append_assoc (tree_nodes left) (tree_nodes right ++ _ ∷ []) ns ∙
+    ap (λ l. tree_nodes left ++ l) (append_assoc (tree_nodes right) (_ ∷ []) ns))
     ∙ built-nodes left _ stack ∙ built-nodes right _ (left ∷ stack)
 built-nodes (Repeat least most piece) ns stack =
-    ap (λ l. built l stack) (append_assoc (tree_nodes piece) (_ ∷ []) ns) ∙ built-nodes piece _ stack
+    ap (λ l. built l stack) (append_assoc (tree_nodes piece) (_ ∷ []) ns) ∙ built-nodes piece _
+    stack
 
 pub tree_again : (t : Tree) → tree_from (built (tree_nodes t) []) ≡ t
-tree_again t = ap (λ l. tree_from (built l [])) (sym (append-nil (tree_nodes t))) ∙ ap tree_from (built-nodes t [] [])
+tree_again t =
+    ap (λ l. tree_from (built l [])) (sym (append-nil (tree_nodes t))) ∙ ap tree_from
+    (built-nodes t [] [])
 
 -- a tree is stored as its nodes
 abbrev pub tree_code : Coded Tree
-tree_code = code_by (List TreeNode) (coded_list (coded× coded_ℕ (coded× (coded_list coded_ℕ) (coded× coded_ℕ (coded_option coded_ℕ))))) tree_nodes (λ ns. tree_from (built ns [])) tree_again
+tree_code = code_by (List TreeNode)
+    (coded_list (coded× coded_ℕ
+    (coded× (coded_list coded_ℕ) (coded× coded_ℕ (coded_option coded_ℕ))))) tree_nodes
+    (λ ns. tree_from (built ns [])) tree_again

@@ -17,7 +17,8 @@ pub data MessageValue : Type 0 where
   Conflict : (first second : Path) (used : ContextValue) → MessageValue
   NoDefault : (path : Path) → MessageValue
   Absent : (path : Path) → MessageValue
-  NoMatches : (text : List ℕ) (kind : Option EntryKind) (context : Option ContextValue) → MessageValue
+  NoMatches : (text : List ℕ) (kind : Option EntryKind) (context : Option ContextValue)
+      → MessageValue
   Found : (path : Path) (context : Option ContextValue) (bare : Bool) → MessageValue
   Verified : (path : Path) → MessageValue
   Differs : (path : Path) (has : Label) (wants : ContextValue) → MessageValue
@@ -25,7 +26,8 @@ pub data MessageValue : Type 0 where
 
 -- what a message that borrows its parts tells
 abbrev pub message_of : Message → MessageValue
-message_of (lent.Relabel path was becomes dry) = Relabel (path_of path) was.now (context_lent becomes) dry
+message_of (lent.Relabel path was becomes dry) =
+    Relabel (path_of path) was.now (context_lent becomes) dry
 message_of (lent.Customized path label) = Customized (path_of path) label.now
 message_of (lent.Conflict first second used) = Conflict (path_of first) (path_of second) used.now
 message_of (lent.NoDefault path) = NoDefault (path_of path)

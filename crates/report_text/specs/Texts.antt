@@ -43,10 +43,12 @@ found_words path false = shown_path path ++ TAB.now
 -- what a message says
 abbrev pub message_text : MessageValue → List ℕ
 message_text (Relabel path was becomes dry) =
-    relabel_words dry ++ shown_path path ++ FROM.now ++ label_text was ++ TO.now ++ context_text becomes
+    relabel_words dry ++ shown_path path ++ FROM.now ++ label_text was ++ TO.now
+    ++ context_text becomes
 message_text (Customized path label) = shown_path path ++ NOT_RESET.now ++ context_text label
 message_text (Conflict first second used) =
-    CONFLICTING.now ++ shown_path first ++ AND.now ++ shown_path second ++ USING.now ++ context_text used ++ FULL_STOP.now
+    CONFLICTING.now ++ shown_path first ++ AND.now ++ shown_path second ++ USING.now
+    ++ context_text used ++ FULL_STOP.now
 message_text (NoDefault path) = NO_DEFAULT.now ++ shown_path path
 message_text (Absent path) = NO_RECORD_FOR.now ++ shown_path path
 message_text (NoMatches text kind given) =

@@ -54,7 +54,8 @@ fn divide(
 }
 
 fn add(spec: Spec, patterns: &mut Row<Spec>, exact: &mut Row<Spec>) -> Result<(), OutOfMemory>
-    ensures patterns { OnOk result (patterns.new ≡ patterns.old ++ filter is_pattern_spec (spec ∷ [])) }
+    ensures patterns { OnOk result
+        (patterns.new ≡ patterns.old ++ filter is_pattern_spec (spec ∷ [])) }
     ensures exact { OnOk result (exact.new ≡ exact.old ++ filter is_exact_spec (spec ∷ [])) }
 {
     if is_exact(spec.text.as_slice()) {

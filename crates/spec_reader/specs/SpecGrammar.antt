@@ -23,8 +23,10 @@ pub record Parts : Type 0 where
 
 -- two fields are pattern and context; of more the second is the type, and what follows the third is passed over
 abbrev pub parts_of : List (List ℕ) → Option Parts
-parts_of (pattern ∷ context ∷ []) = Some (record { pattern = pattern; type = None; context = context })
-parts_of (pattern ∷ type ∷ context ∷ rest) = Some (record { pattern = pattern; type = Some type; context = context })
+parts_of (pattern ∷ context ∷ []) =
+    Some (record { pattern = pattern; type = None; context = context })
+parts_of (pattern ∷ type ∷ context ∷ rest) =
+    Some (record { pattern = pattern; type = Some type; context = context })
 parts_of fields = None
 
 -- a type names a kind; without one a specification is for every kind
@@ -38,15 +40,16 @@ IsDecision field Leave = field ≡ NO_CONTEXT.now
 IsDecision field (Give context) = Spells field context
 
 -- the fields of the line with this number say this specification
-pub record IsSpecOf (part : Part) (number : ℕ) (fields : List (List ℕ)) (spec : SpecValue) : Type 0 where
-  pub parts : Parts
-  pub cut : parts_of fields ≡ Some parts
-  pub text : parts.pattern ≡ spec.text
-  pub pattern : pattern_of spec.text ≡ Ok spec.pattern
-  pub kind : IsKind parts.type spec.kind
-  pub decision : IsDecision parts.context spec.decision
-  pub file : part ≡ spec.part
-  pub line : number ≡ spec.line
+pub record IsSpecOf (part : Part) (number : ℕ) (fields : List (List ℕ)) (spec : SpecValue) : Type 0
+  where
+    pub parts : Parts
+    pub cut : parts_of fields ≡ Some parts
+    pub text : parts.pattern ≡ spec.text
+    pub pattern : pattern_of spec.text ≡ Ok spec.pattern
+    pub kind : IsKind parts.type spec.kind
+    pub decision : IsDecision parts.context spec.decision
+    pub file : part ≡ spec.part
+    pub line : number ≡ spec.line
 
 abbrev pub HasKind : Parts → Type 0
 HasKind parts = (kind : Option EntryKind) × IsKind parts.type kind
@@ -59,13 +62,15 @@ abbrev pub AreBad : Parts → SpecWhy → Type 0
 AreBad parts MissingContext = ⊥
 AreBad parts BadKind = ¬ HasKind parts
 AreBad parts BadContext = HasKind parts × (¬ HasDecision parts)
-AreBad parts (BadPattern why) = HasKind parts × HasDecision parts × (pattern_of parts.pattern ≡ Err why)
+AreBad parts (BadPattern why) =
+    HasKind parts × HasDecision parts × (pattern_of parts.pattern ≡ Err why)
 
 -- what the fields of the line with this number mean
 abbrev pub FieldsMean : Part → ℕ → List (List ℕ) → Result SpecValue SpecWhy → Type 0
 FieldsMean part number fields (Ok spec) = IsSpecOf part number fields spec
 FieldsMean part number fields (Err MissingContext) = length fields < 2
-FieldsMean part number fields (Err why) = (parts : Parts) × (parts_of fields ≡ Some parts) × AreBad parts why
+FieldsMean part number fields (Err why) =
+    (parts : Parts) × (parts_of fields ≡ Some parts) × AreBad parts why
 
 -- what the text of a file means, where there is room for so many specifications
 abbrev pub SpecsMean : Part → ℕ → List ℕ → Result (List SpecValue) (LinesWhy SpecWhy) → Type 0

@@ -17,20 +17,31 @@ use Rattle.spec_reader.specs.declared.spec.Decision.TheVariants.{Leave, Give}
 use Rattle.spec_reader.specs.declared.spec_fault.SpecWhy.{SpecWhy}
 use Rattle.spec_reader.specs.declared.spec_fault.SpecWhy.TheVariants.{MissingContext, BadKind, BadContext, BadPattern}
 
-abbrev pub with_tree : Part → ℕ → List ℕ → Option EntryKind → Decision → Result Tree PatternWhy → Result SpecValue SpecWhy
+abbrev pub with_tree : Part → ℕ → List ℕ → Option EntryKind → Decision → Result Tree PatternWhy
+    → Result SpecValue SpecWhy
 with_tree part line text kind decision (Ok pattern) =
-    Ok (record { text = text; pattern = pattern; kind = kind; decision = decision; part = part; line = line })
+    Ok (record {
+      text = text;
+      pattern = pattern;
+      kind = kind;
+      decision = decision;
+      part = part;
+      line = line;
+    })
 with_tree part line text kind decision (Err why) = Err (BadPattern why)
 
 -- the pattern is looked at last
-unfoldable pub with_pattern : Part → ℕ → List ℕ → Option EntryKind → Decision → Result SpecValue SpecWhy
+unfoldable pub with_pattern : Part → ℕ → List ℕ → Option EntryKind → Decision
+    → Result SpecValue SpecWhy
 with_pattern part line text kind decision = with_tree part line text kind decision (pattern_of text)
 
-abbrev pub with_context : Part → ℕ → List ℕ → Option EntryKind → Option ContextValue → Result SpecValue SpecWhy
+abbrev pub with_context : Part → ℕ → List ℕ → Option EntryKind → Option ContextValue
+    → Result SpecValue SpecWhy
 with_context part line text kind None = Err BadContext
 with_context part line text kind (Some context) = with_pattern part line text kind (Give context)
 
-unfoldable pub with_decision : Part → ℕ → List ℕ → Option EntryKind → List ℕ → Result SpecValue SpecWhy
+unfoldable pub with_decision : Part → ℕ → List ℕ → Option EntryKind → List ℕ
+    → Result SpecValue SpecWhy
 with_decision part line text kind field =
     if same_bytes field NO_CONTEXT.now then with_pattern part line text kind Leave
     else with_context part line text kind (context_of field)

@@ -37,7 +37,23 @@ impl Model for Spec {
 
     ghost coded = { Prim.hlevel (codes, tree_code) };
 
-    ghost view = { λ s. record { text = s.text; pattern = s.pattern; kind = s.kind; decision = s.decision; part = s.part; line = s.line } };
+    ghost view = { λ s.
+        record {
+          text = s.text;
+          pattern = s.pattern;
+          kind = s.kind;
+          decision = s.decision;
+          part = s.part;
+          line = s.line;
+        } };
 
-    ghost invariant = { λ s. IsSpec (record { text = s.text; pattern = s.pattern; kind = s.kind; decision = s.decision; part = s.part; line = s.line }) };
+    ghost invariant = { λ s. IsSpec
+        (record {
+          text = s.text;
+          pattern = s.pattern;
+          kind = s.kind;
+          decision = s.decision;
+          part = s.part;
+          line = s.line;
+        }) };
 }

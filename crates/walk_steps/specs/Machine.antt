@@ -12,7 +12,13 @@ use Rattle.walk_steps.specs.Shaped.{last_job, entry_count, parent_of, home_of, g
 use Rattle.walk_steps.specs.Lists.{is_in, list_of, added_to, lowered}
 
 abbrev pub first_state : Shape → ℕ → WalkState
-first_state shape workers = record { queue = 0 ∷ []; taken = replicate workers []; given = replicate workers []; words = replicate shape.groups NONE_WORD }
+first_state shape workers =
+    record {
+      queue = 0 ∷ [];
+      taken = replicate workers [];
+      given = replicate workers [];
+      words = replicate shape.groups NONE_WORD;
+    }
 
 abbrev pub is_empty : List ℕ → Bool
 is_empty [] = true
@@ -25,11 +31,13 @@ may_take state worker = nat_lt worker (length state.taken) && not (is_empty stat
 abbrev pub may_offer : Shape → WalkState → ℕ → ℕ → Bool
 may_offer shape state worker job =
     (not (job == 0) && nat_le job (last_job shape))
-    && (is_in (parent_of shape job) (list_of state.taken worker) && not (is_in job (list_of state.given worker)))
+    && (is_in (parent_of shape job) (list_of state.taken worker)
+    && not (is_in job (list_of state.given worker)))
 
 -- the worker took the job that holds the entry
 abbrev pub may_claim : Shape → WalkState → ℕ → ℕ → Bool
-may_claim shape state worker entry = nat_lt entry (entry_count shape) && is_in (home_of shape entry) (list_of state.taken worker)
+may_claim shape state worker entry =
+    nat_lt entry (entry_count shape) && is_in (home_of shape entry) (list_of state.taken worker)
 
 -- whether a worker may do the step in the state
 abbrev pub is_allowed : Shape → WalkState → Step → Bool
@@ -40,14 +48,32 @@ is_allowed shape state (Claim worker entry) = may_claim shape state worker entry
 -- the front job of the queue in the worker's taken list
 abbrev pub after_take : WalkState → List ℕ → ℕ → WalkState
 after_take state [] worker = state
-after_take state (job ∷ queue) worker = record { queue = queue; taken = added_to state.taken worker job; given = state.given; words = state.words }
+after_take state (job ∷ queue) worker =
+    record {
+      queue = queue;
+      taken = added_to state.taken worker job;
+      given = state.given;
+      words = state.words;
+    }
 
 -- the job at the back of the queue, and in the worker's given list
 abbrev pub after_offer : WalkState → ℕ → ℕ → WalkState
-after_offer state worker job = record { queue = state.queue ++ job ∷ []; taken = state.taken; given = added_to state.given worker job; words = state.words }
+after_offer state worker job =
+    record {
+      queue = state.queue ++ job ∷ [];
+      taken = state.taken;
+      given = added_to state.given worker job;
+      words = state.words;
+    }
 
 abbrev pub after_claim : Shape → WalkState → ℕ → WalkState
-after_claim shape state entry = record { queue = state.queue; taken = state.taken; given = state.given; words = lowered state.words (group_of_entry shape entry) entry }
+after_claim shape state entry =
+    record {
+      queue = state.queue;
+      taken = state.taken;
+      given = state.given;
+      words = lowered state.words (group_of_entry shape entry) entry;
+    }
 
 -- the state behind a step that is allowed
 abbrev pub after : Shape → WalkState → Step → WalkState
@@ -58,7 +84,9 @@ after shape state (Claim worker entry) = after_claim shape state entry
 -- the end of the steps from a state, or the index of the first one that is not allowed
 abbrev pub run_from : Shape → WalkState → ℕ → List Step → Result WalkState ℕ
 run_from shape state index [] = Ok state
-run_from shape state index (step ∷ steps) = cond (is_allowed shape state step) (run_from shape (after shape state step) (suc index) steps) (Err index)
+run_from shape state index (step ∷ steps) =
+    cond (is_allowed shape state step) (run_from shape (after shape state step) (suc index) steps)
+    (Err index)
 
 abbrev pub run_of : Shape → ℕ → List Step → Result WalkState ℕ
 run_of shape workers steps = run_from shape (first_state shape workers) 0 steps
@@ -75,4 +103,10 @@ Refuses index allowed OutOfMemory = Unit {0}
 
 -- the machine in the code
 abbrev pub state_of : Machine → WalkState
-state_of machine = record { queue = machine.queue.items; taken = machine.taken.items; given = machine.given.items; words = machine.words.items }
+state_of machine =
+    record {
+      queue = machine.queue.items;
+      taken = machine.taken.items;
+      given = machine.given.items;
+      words = machine.words.items;
+    }

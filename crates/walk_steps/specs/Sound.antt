@@ -12,10 +12,12 @@ use Rattle.walk_steps.specs.Lists.{list_of, hit, times, times_in_all}
 -- job is in the taken list of the worker that gave it.
 pub record Sound (shape : Shape) (state : WalkState) : Type 0 where
   pub workers : length state.given ≡ length state.taken
-  pub placed : (job : ℕ) → times job state.queue + times_in_all job state.taken ≡ hit 0 job + times_in_all job state.given
+  pub placed : (job : ℕ) → times job state.queue + times_in_all job state.taken
+      ≡ hit 0 job + times_in_all job state.given
   pub once : (job : ℕ) → times job state.queue + times_in_all job state.taken ≤ 1
   pub inside : (job : ℕ) → 0 < times_in_all job state.given → (0 < job) × (job ≤ last_job shape)
-  pub parents : (worker job : ℕ) → 0 < times job (list_of state.given worker) → 0 < times (parent_of shape job) (list_of state.taken worker)
+  pub parents : (worker job : ℕ) → 0 < times job (list_of state.given worker)
+      → 0 < times (parent_of shape job) (list_of state.taken worker)
 
 -- the word is the least number of which the fact holds, or the none-word
 pub record IsLeast (Fact : ℕ → Type 0) (word : ℕ) : Type 0 where
@@ -25,7 +27,9 @@ pub record IsLeast (Fact : ℕ → Type 0) (word : ℕ) : Type 0 where
 -- each word is the least of the claimed entries of its group
 pub record WordsAreLeast (shape : Shape) (claimed : List ℕ) (words : List ℕ) : Type 0 where
   pub sized : length words ≡ shape.groups
-  pub least : (group : ℕ) → group < shape.groups → IsLeast (λ entry. (0 < times entry claimed) × (group_of_entry shape entry ≡ group)) (slice_index words group)
+  pub least : (group : ℕ) → group < shape.groups
+      → IsLeast (λ entry. (0 < times entry claimed) × (group_of_entry shape entry ≡ group))
+      (slice_index words group)
 
 -- the entries that steps claim
 abbrev pub claims_of : Step → List ℕ

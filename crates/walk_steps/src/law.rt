@@ -12,12 +12,15 @@ use crate::shape::Shape;
 /// the same however many workers there were, and whatever each did when.
 pub fn ends_are_one(shape: &Shape)
     requires { IsValid shape.now }
-    ensures end { (open_job wanted : ℕ → Bool) (claimed : List ℕ) (state : WalkState) → Leads shape.now open_job wanted
+    ensures end { (open_job wanted : ℕ → Bool) (claimed : List ℕ) (state : WalkState)
+        → Leads shape.now open_job wanted
         → Sound shape.now state → WordsAreLeast shape.now claimed state.words
-        → HasEnded shape.now open_job wanted claimed state → IsTheEnd shape.now open_job wanted state }
+        → HasEnded shape.now open_job wanted claimed state
+        → IsTheEnd shape.now open_job wanted state }
     ensures one { (open_job wanted : ℕ → Bool) (a b : WalkState) → entry_count shape.now ≤ NONE_WORD
         → IsTheEnd shape.now open_job wanted a → IsTheEnd shape.now open_job wanted b
-        → (group : ℕ) → group < shape.now.groups → slice_index a.words group ≡ slice_index b.words group }
+        → (group : ℕ) → group < shape.now.groups
+        → slice_index a.words group ≡ slice_index b.words group }
 {
     let _shape = shape;
 }

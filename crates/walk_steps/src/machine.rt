@@ -150,7 +150,8 @@ impl Machine {
     }
 
     fn take(&mut self, worker: u32) -> Result<(), OutOfMemory>
-        ensures { OnOk result (state_of self.new ≡ after_take (state_of self.old) (state_of self.old).queue worker) }
+        ensures { OnOk result
+            (state_of self.new ≡ after_take (state_of self.old) (state_of self.old).queue worker) }
     {
         match self.queue.pop_front() {
             Some(job) => add(&mut self.taken, worker, job),
@@ -191,8 +192,10 @@ impl Machine {
     pub(crate) fn step(&mut self, shape: &Shape, step: &Step, index: u32) -> Result<(), StepsFault>
         requires valid { IsValid shape.now }
         ensures ok { OnOk result (is_allowed shape.now (state_of self.old) step.now ≡ true) }
-        ensures after { OnOk result (state_of self.new ≡ after shape.now (state_of self.old) step.now) }
-        ensures err { IfErr result (Refuses index (is_allowed shape.now (state_of self.old) step.now)) }
+        ensures after { OnOk result
+            (state_of self.new ≡ after shape.now (state_of self.old) step.now) }
+        ensures err { IfErr result
+            (Refuses index (is_allowed shape.now (state_of self.old) step.now)) }
     {
         if !self.may(shape, step) {
             return Err(StepsFault::NotAllowed { index });

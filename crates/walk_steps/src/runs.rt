@@ -41,7 +41,8 @@ pub fn run(
     requires count { length steps.now < 2 ^ 32 }
     ensures end { Answers (λ state. state) index_of result (run_of shape.now workers steps.now) }
     ensures sound { IfOk result (λ state. Sound shape.now state) }
-    ensures least { IfOk result (λ state. WordsAreLeast shape.now (claimed_by steps.now) state.words) }
+    ensures least { IfOk result
+        (λ state. WordsAreLeast shape.now (claimed_by steps.now) state.words) }
 {
     end_of(alloc, shape, workers, steps)
 }
