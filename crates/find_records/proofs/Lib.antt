@@ -1,5 +1,7 @@
 pub mod DistinctLabels
 pub mod LabelLemmas
+pub mod LayLemmas
+pub mod MarkLemmas
 pub mod NulCuts
 pub mod Outcomes
 pub mod RecordGrammar

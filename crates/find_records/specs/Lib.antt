@@ -2,6 +2,8 @@ pub mod Cause
 pub mod Entry
 pub mod Grammar
 pub mod Labels
+pub mod Marks
+pub mod Places
 pub mod Reading
 pub mod Record
 pub mod Rows

@@ -1,9 +1,10 @@
--- Rows that stand for records: each has its path's text in one text, and its label among labels.
-use Rattle.std.specs.Prelude.{ℕ, ◌+◌, ◌<◌, ◌≤◌, ◌^◌, List, [], ◌∷◌, length, map, take, drop, get_or}
+-- Rows that stand for records: each has its path's text in one text, and its device and label among marks.
+use Rattle.std.specs.Prelude.{◌≡◌, ℕ, ◌+◌, ◌<◌, ◌≤◌, ◌^◌, List, [], ◌∷◌, length, map, take, drop, get_or}
+use Rattle.std.specs.List.{AllByRecursion}
 use Rattle.label_base.specs.Path.{path_names}
 use Rattle.label_base.specs.PathText.{IsNormal}
-use Rattle.context_syntax.specs.declared.label.Label.{Label}
-use Rattle.context_syntax.specs.declared.label.Label.TheVariants.{Absent}
+use Rattle.find_records.specs.Marks.{Mark, no_mark}
+use Rattle.find_records.specs.Places.{records_at}
 use Rattle.find_records.specs.Record.{Record}
 use Rattle.find_records.specs.declared.row.RecordRow.{RecordRow}
 
@@ -12,29 +13,51 @@ abbrev pub text_in : List ℕ → RecordRow → List ℕ
 text_in texts row = take row.size (drop row.at texts)
 
 -- the record of a row
-abbrev pub record_in : List ℕ → List Label → RecordRow → Record
-record_in texts labels row = record {
+abbrev pub record_in : List ℕ → List Mark → RecordRow → Record
+record_in texts marks row = record {
   kind = row.kind;
-  device = row.device;
+  device = (get_or marks row.mark no_mark).device;
   inode = row.inode;
-  label = get_or labels row.label Absent;
+  label = (get_or marks row.mark no_mark).label;
   path = path_names (text_in texts row);
 }
 
-abbrev pub records_in : List ℕ → List Label → List RecordRow → List Record
-records_in texts labels rows = map (record_in texts labels) rows
+abbrev pub records_in : List ℕ → List Mark → List RecordRow → List Record
+records_in texts marks rows = map (record_in texts marks) rows
 
--- the row's text and label are there
-pub record IsWithin (texts : List ℕ) (labels : List Label) (row : RecordRow) : Type 0 where
+-- the row's text and mark are there
+pub record IsWithin (texts : List ℕ) (marks : List Mark) (row : RecordRow) : Type 0 where
   pub fits : row.at + row.size ≤ length texts
   pub normal : IsNormal (text_in texts row)
-  pub known : row.label < length labels
+  pub known : row.mark < length marks
 
-abbrev pub AreWithin : List ℕ → List Label → List RecordRow → Type 0
-AreWithin texts labels [] = Unit {0}
-AreWithin texts labels (row ∷ rows) = IsWithin texts labels row × AreWithin texts labels rows
+abbrev pub AreWithin : List ℕ → List Mark → List RecordRow → Type 0
+AreWithin texts marks [] = Unit {0}
+AreWithin texts marks (row ∷ rows) = IsWithin texts marks row × AreWithin texts marks rows
 
-pub record AreRows (texts : List ℕ) (labels : List Label) (rows : List RecordRow) : Type 0 where
-  pub within : AreWithin texts labels rows
-  pub few : length labels ≤ length rows
+pub record AreRows (texts : List ℕ) (marks : List Mark) (rows : List RecordRow) : Type 0 where
+  pub within : AreWithin texts marks rows
   pub numbered : length rows < 2 ^ 32
+
+-- ---- rows that are laid anew
+
+-- the texts of the rows are there
+abbrev pub Fit : List ℕ → List RecordRow → Type 0
+Fit texts rows = AllByRecursion (λ row. row.at + row.size ≤ length texts) rows
+
+-- the row, where its path's text stands at another place
+abbrev pub moved_to : ℕ → RecordRow → RecordRow
+moved_to place row = record {
+  inode = row.inode;
+  at = place;
+  mark = row.mark;
+  size = row.size;
+  kind = row.kind;
+}
+
+-- the new rows stand for the records at the places
+pub record AreLaid (texts : List ℕ) (marks : List Mark) (rows : List RecordRow) (places : List ℕ)
+    (new_texts : List ℕ) (new_rows : List RecordRow) : Type 0 where
+  pub same : records_in new_texts marks new_rows
+      ≡ records_at (records_in texts marks rows) places
+  pub within : AreWithin new_texts marks new_rows

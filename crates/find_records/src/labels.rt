@@ -153,18 +153,22 @@ impl Labels {
         first == second
     }
 
-    // The number of the label that the bytes spell, which is added if it is new.
+    // The number of the label that the bytes spell, which is added if it is new. There is no memory for
+    // more labels than there are numbers.
     pub fn number_of(&mut self, alloc: Global, bytes: &[u8]) -> Result<u32, OutOfMemory>
-        requires { length self.old < 2 ^ 32 - 1 }
+        requires { length self.old < 2 ^ 32 }
         ensures number { IfOk result (λ number.
             slice_get self.new number ≡ Some (label_of bytes.now)) }
         ensures extends { Extends self.old self.new }
         ensures same { OnErr result (self.new ≡ self.old) }
-        ensures few { length self.new ≤ length self.old + 1 }
+        ensures few { length self.new < 2 ^ 32 }
     {
         if let Some(number) = number_in(&self.spelled, self.last, bytes) {
             self.last = number as u32;
             return Ok(self.last);
+        }
+        if self.labels.len() >= u32::MAX as usize {
+            return Err(OutOfMemory);
         }
         let number = add_label(alloc, &mut self.spelled, &mut self.labels, bytes)?;
         self.last = number as u32;

@@ -4,6 +4,8 @@
 mod entry;
 mod fault;
 mod labels;
+mod lay;
+mod marks;
 mod reading;
 mod record;
 mod records;

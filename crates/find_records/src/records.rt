@@ -7,12 +7,14 @@ ghost use Rattle.context_syntax.specs.Label.{same_label};
 ghost use Rattle.find_records.specs.Record.{Record};
 ghost use Rattle.find_records.specs.Entry.{entry_of, record_told};
 ghost use Rattle.find_records.specs.Labels.{Extends};
+ghost use Rattle.find_records.specs.Places.{ArePlaces, records_at};
 ghost use Rattle.find_records.specs.Rows.{IsWithin, record_in, text_in};
 
 use crate::entry::{Entry, Told};
-use crate::labels::Labels;
-use crate::row::RecordRow;
-use label_base::{Fault, PathFault, PathRef, add_path};
+use crate::lay::{is_given, lay};
+use crate::marks::Marks;
+use crate::row::{RecordRow, text_at};
+use label_base::{Fault, OutOfMemory, PathFault, PathRef, add_path};
 use std::alloc::Global;
 use std::marker::Model;
 
@@ -21,7 +23,7 @@ use std::marker::Model;
 pub struct Records {
     // The texts of all paths, one behind the other.
     texts: Vec<u8>,
-    labels: Labels,
+    marks: Marks,
     rows: Vec<RecordRow>,
 }
 
@@ -32,9 +34,9 @@ impl Model for Records {
 
     ghost Value = { List Record };
 
-    ghost view = { λ r. records_in r.texts.items r.labels r.rows.items };
+    ghost view = { λ r. records_in r.texts.items r.marks r.rows.items };
 
-    ghost invariant = { λ r. AreRows r.texts.items r.labels r.rows.items };
+    ghost invariant = { λ r. AreRows r.texts.items r.marks r.rows.items };
 }
 
 fn reserve_row(rows: &mut Vec<RecordRow>) -> Result<(), PathFault>
@@ -48,41 +50,30 @@ fn reserve_row(rows: &mut Vec<RecordRow>) -> Result<(), PathFault>
     }
 }
 
-// The text of a row's path.
-fn text_at<'a>(texts: &'a [u8], row: &RecordRow) -> &'a [u8]
-    requires { row.now.at + row.now.size ≤ length texts.now }
-    ensures { result.now ≡ text_in texts.now row.now }
-{
-    &texts[row.at..][..row.size as usize]
-}
-
-// Adds a record's text and label, and makes its row.
+// Adds a record's text, its device and its label, and makes its row.
 fn row_of(
     alloc: Global,
     texts: &mut Vec<u8>,
-    labels: &mut Labels,
+    marks: &mut Marks,
     told: &Told<'_>,
 ) -> Result<RecordRow, PathFault>
-    requires { length labels.old < 2 ^ 32 - 1 }
     ensures answer { Answers (λ _. path_names told.now.path.now) cause_of result
         (path_read told.now.path.now) }
     ensures value { IfOk result (λ row.
-        record_in texts.new.items labels.new row ≡ record_told told.now) }
-    ensures within { IfOk result (λ row. IsWithin texts.new.items labels.new row) }
+        record_in texts.new.items marks.new row ≡ record_told told.now) }
+    ensures within { IfOk result (λ row. IsWithin texts.new.items marks.new row) }
     ensures more_texts { Extends texts.old.items texts.new.items }
-    ensures more_labels { Extends labels.old labels.new }
-    ensures few { length labels.new ≤ length labels.old + 1 }
-    ensures same { OnErr result (labels.new ≡ labels.old) }
+    ensures more_marks { Extends marks.old marks.new }
+    ensures same { OnErr result (marks.new ≡ marks.old) }
 {
     let at = texts.len();
     add_path(alloc, texts, told.path)?;
     let size = (texts.len() - at) as u16;
-    let label = labels.number_of(alloc, told.label)?;
+    let mark = marks.number_of(alloc, told.device, told.label)?;
     Ok(RecordRow {
-        device: told.device,
         inode: told.inode,
         at,
-        label,
+        mark,
         size,
         kind: told.kind,
     })
@@ -95,7 +86,7 @@ impl Records {
     {
         Records {
             texts: Vec::new(alloc),
-            labels: Labels::new(alloc),
+            marks: Marks::new(alloc),
             rows: Vec::new(alloc),
         }
     }
@@ -116,7 +107,7 @@ impl Records {
         ensures err { OnErr result (self.new ≡ self.old) }
     {
         reserve_row(&mut self.rows)?;
-        let row = row_of(alloc, &mut self.texts, &mut self.labels, told)?;
+        let row = row_of(alloc, &mut self.texts, &mut self.marks, told)?;
         match self.rows.push(row) {
             Ok(()) => Ok(()),
             Err(_) => unreachable!(),
@@ -129,11 +120,12 @@ impl Records {
         ensures { slice_get self.now i ≡ Some (entry_of result) }
     {
         let row = &self.rows[i as usize];
+        let (device, label) = self.marks.get(row.mark);
         Entry {
             kind: row.kind,
-            device: row.device,
+            device,
             inode: row.inode,
-            label: self.labels.get(row.label),
+            label,
             path: PathRef::of_text(text_at(self.texts.as_slice(), row)),
         }
     }
@@ -145,8 +137,8 @@ impl Records {
         ensures { (a b : Record) → slice_get self.now i ≡ Some a → slice_get self.now j ≡ Some b
             → result ≡ same_label a.label b.label }
     {
-        self.labels
-            .is_same(self.rows[i as usize].label, self.rows[j as usize].label)
+        self.marks
+            .has_same_label(self.rows[i as usize].mark, self.rows[j as usize].mark)
     }
 
     /// The path of the record at a place, counted from 0.
@@ -155,5 +147,23 @@ impl Records {
         ensures { option_map (λ r. r.path) (slice_get self.now i) ≡ Some (path_of result) }
     {
         self.entry(i).path
+    }
+
+    /// The records at these places, counted from 0, in the order of the places: their texts are laid
+    /// anew, one behind the other, unless each stands where it stood.
+    pub fn in_order(self, alloc: Global, places: &[u32]) -> Result<Records, OutOfMemory>
+        requires few { length places.now < 2 ^ 32 }
+        requires known { ArePlaces (length self) places.now }
+        ensures { IfOk result (λ records. records ≡ records_at self places.now) }
+    {
+        if is_given(self.rows.len(), places) {
+            return Ok(self);
+        }
+        let laid = lay(alloc, self.texts.as_slice(), self.rows.as_slice(), places)?;
+        Ok(Records {
+            texts: laid.texts,
+            marks: self.marks,
+            rows: laid.rows,
+        })
     }
 }

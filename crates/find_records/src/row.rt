@@ -1,12 +1,22 @@
+ghost use Rattle.std.specs.Prelude.{◌≡◌, ◌+◌, ◌≤◌, length};
+ghost use Rattle.find_records.specs.Rows.{text_in};
+
 use label_base::EntryKind;
 
-// A record: the place and length of its path among the texts, and the number of its label.
+// A record: the place and length of its path among the texts, and the number of its device and label.
 #[derive(Clone, Copy, Debug)]
 pub struct RecordRow {
-    pub device: u64,
     pub inode: u64,
     pub at: usize,
-    pub label: u32,
+    pub mark: u32,
     pub size: u16,
     pub kind: EntryKind,
+}
+
+/// The text of a row's path.
+pub fn text_at<'a>(texts: &'a [u8], row: &RecordRow) -> &'a [u8]
+    requires { row.now.at + row.now.size ≤ length texts.now }
+    ensures { result.now ≡ text_in texts.now row.now }
+{
+    &texts[row.at..][..row.size as usize]
 }

@@ -89,6 +89,33 @@ fn labels_are_kept_once(rt: HostRuntime) -> Result<(), Fail> {
     Ok(())
 }
 
+// Whether the records at two places have these paths, once they are laid in the order of the places.
+fn stand_in_order(alloc: Global, bytes: &[u8], places: [u32; 2], wanted: [&[u8]; 2]) -> bool {
+    let Ok(records) = read(alloc, bytes) else {
+        return false;
+    };
+    if places[0] >= records.len() || places[1] >= records.len() {
+        return false;
+    }
+    match records.in_order(alloc, places.as_slice()) {
+        Ok(laid) => {
+            laid.len() == 2
+                && laid.path(0).as_text() == wanted[0]
+                && laid.path(1).as_text() == wanted[1]
+        }
+        Err(_) => false,
+    }
+}
+
+#[test]
+fn lays_records_in_order(rt: HostRuntime) {
+    let bytes = b"f 1 5 a:b:c /b\0d 2 6 ? /a\0";
+    let (a, b) = (b"/a".as_slice(), b"/b".as_slice());
+    assert!(rt; stand_in_order(rt.alloc(), bytes, [1, 0], [a, b]));
+    assert!(rt; stand_in_order(rt.alloc(), bytes, [0, 1], [b, a]));
+    assert!(rt; stand_in_order(rt.alloc(), bytes, [1, 1], [a, a]));
+}
+
 #[test]
 fn refuses_bad_records(rt: HostRuntime) {
     let alloc = rt.alloc();

@@ -10,7 +10,8 @@ use Rattle.label_base.specs.Path.{Path, path_cmp}
 use Rattle.label_base.proofs.BoundedLemmas.{greatest_is}
 use Rattle.find_records.specs.Record.{Record}
 use Rattle.tree_model.specs.Extents.{entry_at, extent_of, in_extent, one_behind}
-use Rattle.tree_model.specs.Tree.{ByPath, no_record}
+use Rattle.find_records.specs.Places.{no_record}
+use Rattle.tree_model.specs.Tree.{ByPath}
 use Rattle.tree_model.proofs.AboveLemmas.{below_itself, below_chain, between, not_before}
 
 -- what the greatest number is: it passes, and none behind it does; without one, none does

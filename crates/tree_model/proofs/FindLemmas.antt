@@ -1,19 +1,21 @@
 -- Where a path stands among entries.
-use Rattle.std.proofs.Common.{◌≡◌, ◌∙◌, ap, sym, refl, subst, ℕ, ◌+◌, ◌<◌, ◌≤◌, Bool, true, false, cond, List, [], ◌∷◌, length, get_or, arith, ◌⊎◌, inl, inr}
-use Rattle.std.proofs.lemmas.Bool.{cases_lt}
+use Rattle.std.proofs.Common.{◌≡◌, ◌∙◌, ap, sym, refl, subst, ℕ, ◌+◌, ◌<◌, ◌≤◌, Bool, true, false, cond, List, length, arith, ◌⊎◌, inl, inr}
+use Rattle.std.proofs.lemmas.Bool.{cases_lt, true≢false}
+use Rattle.std.proofs.lemmas.Bool.Decides.{nat_tests}
 use borrow.Author.Tests.{lt-ltb, le-ltb}
-use Rattle.std.specs.Prelude.{Some, None, nat_lt}
-use Rattle.std.specs.List.{HoldsAt, position, position_or_len}
-use Rattle.std.specs.List.Sorted.{IsNonDecreasingBy, IsPartitionPoint, IsSortedBy}
-use Rattle.std.specs.Ordering.{is_eq, is_lt, ordering_index, ordering_reverse}
+use Rattle.std.specs.Prelude.{◌&&◌, Some, None, nat_lt}
+use Rattle.std.specs.List.{position, position_or_len}
+use Rattle.std.specs.Ordering.{is_eq, is_lt}
 use Rattle.std.specs.declared.cmp.Ordering.{Ordering}
 use Rattle.std.specs.declared.cmp.Ordering.TheVariants.{Less, Equal, Greater}
-use Rattle.std.proofs.lemmas.List.Sorted.{searchable_from_sorted}
 use Rattle.std.proofs.lemmas.List.Sums.{position_or_len_is}
 use Rattle.label_base.specs.Path.{Path, path_cmp}
+use Rattle.find_records.specs.Places.{no_record}
 use Rattle.find_records.specs.Record.{Record}
-use Rattle.tree_model.specs.Tree.{find_in, is_at, no_record, ByPath, IsFrom}
-use Rattle.tree_model.proofs.SameLemmas.{path_exact, same_path_is}
+use Rattle.tree_model.specs.Extents.{entry_at}
+use Rattle.tree_model.specs.Search.{IsBetween, stands_at}
+use Rattle.tree_model.specs.Tree.{find_in, is_at, ByPath, IsFrom}
+use Rattle.tree_model.proofs.SameLemmas.{both_true, path_exact, same_path_is}
 use Rattle.tree_model.proofs.RunLemmas.{path_total}
 
 position_at : (p : Record → Bool) (xs : List Record) (i : ℕ) → position_or_len p xs ≡ i → i < length xs → position p xs ≡ Some i
@@ -26,68 +28,90 @@ position_none p xs e =
     let t : nat_lt (position_or_len p xs) (length xs) ≡ false = subst (λ k. nat_lt k (length xs) ≡ false) (sym e) (le-ltb (length xs) (length xs) (omega arith)) in
     ap (λ b. cond b (Some (position_or_len p xs)) None) t
 
+and_false : (x y : Bool) → x ≡ true → (x && y) ≡ false → y ≡ false
+and_false true y h e = e
+and_false false y h e = cc
+
+less_from : (o : Ordering) → is_lt o ≡ true → o ≡ Less
+less_from Less h = refl
+less_from Equal h = cc
+less_from Greater h = cc
+
 not_tied : (o : Ordering) → o ≡ Less → is_eq o ≡ false
 not_tied o h = ap is_eq h
 
--- a path that an entry has
-pub found_at : (xs : List Record) (path : Path) (i : ℕ) (d : Record) → ByPath xs → i < length xs → path_cmp (get_or xs i d).path path ≡ Equal → find_in path xs ≡ Some i
-found_at xs path i d up l t =
-    let same : is_at path (get_or xs i d) ≡ true = same_path_is (get_or xs i d).path path ∙ ap is_eq t in
-    let e : (get_or xs i d).path ≡ path = path_exact (get_or xs i d).path path same in
-    position_at (is_at path) xs i
-    (position_or_len_is (is_at path) xs i d (omega arith)
-    (λ k m. same_path_is (get_or xs k d).path path ∙ not_tied (path_cmp (get_or xs k d).path path) (subst (λ z. path_cmp (get_or xs k d).path z ≡ Less) e (up k i d m l)))
-    (λ m. same))
-    l
+-- ---- a step of the search
 
-far_less : (o : Ordering) (r : Ordering) → o ≡ ordering_reverse r → r ≡ Less → is_lt o ≡ false
-far_less o Less e h = ap is_lt e
-far_less o Equal e h = cc
-far_less o Greater e h = cc
+module _ (entries : List Record) (path : Path) (up : ByPath entries) (low high : ℕ) (found : IsBetween path entries low high) where
+  before_at : (middle e : ℕ) → middle < length entries → path_cmp (entry_at entries middle).path path ≡ Less → (e < middle) ⊎ (middle ≤ e) → e < middle + 1
+      → path_cmp (entry_at entries e).path path ≡ Less
+  before_at middle e known less (inl lt) l = path_total.trans (entry_at entries e).path (entry_at entries middle).path path (up e middle no_record lt known) less
+  before_at middle e known less (inr ge) l = let same : middle ≡ e = omega (arith, ge, l) in subst (λ k. path_cmp (entry_at entries k).path path ≡ Less) same less
 
-sorted_by : (xs : List Record) → ByPath xs → IsSortedBy (λ a b. is_lt (path_cmp a.path b.path)) xs
-sorted_by xs up k d l m = far_less (path_cmp (get_or xs (k + 1) d).path (get_or xs k d).path) (path_cmp (get_or xs k d).path (get_or xs (k + 1) d).path) (path_total.antisymm (get_or xs (k + 1) d).path (get_or xs k d).path) (up k (k + 1) d (omega arith) m)
+  behind_at : (middle e : ℕ) → (path_cmp (entry_at entries middle).path path ≡ Less → ⊥) → (middle < e) ⊎ (e ≤ middle) → middle ≤ e → e < length entries
+      → path_cmp (entry_at entries e).path path ≡ Less → ⊥
+  behind_at middle e not_before (inl lt) ge l h = not_before (path_total.trans (entry_at entries middle).path (entry_at entries e).path path (up middle e no_record lt l) h)
+  behind_at middle e not_before (inr le) ge l h = let same : e ≡ middle = omega (arith, ge, le) in not_before (subst (λ k. path_cmp (entry_at entries k).path path ≡ Less) same h)
 
-pub searchable : (xs : List Record) (path : Path) → ByPath xs → IsNonDecreasingBy (λ e. ordering_index (path_cmp e.path path)) xs
-searchable xs path up = searchable_from_sorted path_total (λ e. e.path) xs path (sorted_by xs up)
+  -- the entry in the middle is before the path
+  pub between_above : (middle : ℕ) → low ≤ middle → middle < high → is_lt (path_cmp (entry_at entries middle).path path) ≡ true → IsBetween path entries (middle + 1) high
+  between_above middle l m h =
+      let known : middle < length entries = omega (arith, m, found.within) in record {
+        order = omega (arith, m);
+        within = found.within;
+        before = λ e k. before_at middle e known (less_from (path_cmp (entry_at entries middle).path path) h) (cases_lt e middle) k;
+        behind = found.behind;
+      }
 
-k_side : (k i : ℕ) → (k < i) ⊎ (i ≤ k)
-k_side k i = cases_lt k i
+  -- it isn't
+  pub between_below : (middle : ℕ) → low ≤ middle → middle < high → is_lt (path_cmp (entry_at entries middle).path path) ≡ false → IsBetween path entries low middle
+  between_below middle l m h = record {
+    order = l;
+    within = omega (arith, m, found.within);
+    before = found.before;
+    behind = λ e k. behind_at middle e (λ less. true≢false (sym (ap is_lt less) ∙ h)) (cases_lt middle e) k;
+  }
 
-off : (xs : List Record) (path : Path) (i k : ℕ) (d : Record) → IsPartitionPoint (λ e. path_cmp e.path path ≡ Less) (λ e. path_cmp e.path path ≡ Greater) xs i → k < length xs → is_eq (path_cmp (get_or xs k d).path path) ≡ false
-off xs path i k d p m = elim (k_side k i) [ inl l ↦ ap is_eq (p.0 k d (omega arith) l) | inr l ↦ ap is_eq (p.1 k d l m) ]
+-- nothing is left between the bounds
+pub from_between : (path : Path) (entries : List Record) (low high : ℕ) → IsBetween path entries low high → high ≤ low → IsFrom path entries low
+from_between path entries low high found h = record {
+  upto = omega (arith, found.order, found.within);
+  before = found.before;
+  behind = λ e k. found.behind e (omega (arith, k, h, found.order));
+}
 
--- a path that no entry has
-pub found_none : (xs : List Record) (path : Path) (i : ℕ) → IsPartitionPoint (λ e. path_cmp e.path path ≡ Less) (λ e. path_cmp e.path path ≡ Greater) xs i → find_in path xs ≡ None
-found_none [] path i p = refl
-found_none (x ∷ xs) path i p =
-    position_none (is_at path) (x ∷ xs)
-    (position_or_len_is (is_at path) (x ∷ xs) (length (x ∷ xs)) x (omega arith)
-    (λ k m. same_path_is (get_or (x ∷ xs) k x).path path ∙ off (x ∷ xs) path i k x p m)
-    (λ m. absurd (omega arith)))
+-- ---- where the search ends
 
--- what a search finds, of any entry that could stand where there is none
-pub found_in : (xs : List Record) (path : Path) (i : ℕ) → ByPath xs → i < length xs → HoldsAt (λ e. path_cmp e.path path ≡ Equal) xs i → find_in path xs ≡ Some i
-found_in [] path i up l h = absurd (omega arith)
-found_in (x ∷ xs) path i up l h = found_at (x ∷ xs) path i x up l (h x)
+module _ (entries : List Record) (path : Path) (up : ByPath entries) (i : ℕ) (first : IsFrom path entries i) where
+  not_at_less : (e : ℕ) → e < i → is_at path (entry_at entries e) ≡ false
+  not_at_less e l = same_path_is (entry_at entries e).path path ∙ not_tied (path_cmp (entry_at entries e).path path) (first.before e l)
 
-reversed_greater : (o r : Ordering) → o ≡ ordering_reverse r → r ≡ Less → o ≡ Less → ⊥
-reversed_greater o Less e h t = cc
-reversed_greater o Equal e h t = cc
-reversed_greater o Greater e h t = cc
+  -- the entry there has the path
+  pub found_where : stands_at path entries i ≡ true → find_in path entries ≡ Some i
+  found_where h =
+      let both = both_true (nat_lt i (length entries)) (is_at path (entry_at entries i)) h in
+      let known : i < length entries = grind (arith, nat_tests) in
+      position_at (is_at path) entries i
+      (position_or_len_is (is_at path) entries i no_record first.upto (λ k m. not_at_less k m) (λ m. both.1))
+      known
 
--- a path that an entry has is where the search for it begins
-pub first_found : (xs : List Record) (path : Path) (i : ℕ) → ByPath xs → i < length xs → path_cmp (get_or xs i no_record).path path ≡ Equal → IsFrom path xs i
-first_found xs path i up l t =
-    let d = no_record in
-    let same : is_at path (get_or xs i d) ≡ true = same_path_is (get_or xs i d).path path ∙ ap is_eq t in
-    let e : (get_or xs i d).path ≡ path = path_exact (get_or xs i d).path path same in
-    record {
-      upto = omega arith;
-      before = λ k m. subst (λ z. path_cmp (get_or xs k d).path z ≡ Less) e (up k i d m l);
-      behind = λ k m n h. elim (k_side k (i + 1)) [
-        | inl lt ↦ (let own : i ≡ k = omega (arith, m, lt) in let equal : path_cmp (get_or xs k d).path path ≡ Equal = subst (λ j. path_cmp (get_or xs j d).path path ≡ Equal) own t in cc)
-        | inr ge ↦ reversed_greater (path_cmp (get_or xs k d).path path) (path_cmp path (get_or xs k d).path) (path_total.antisymm (get_or xs k d).path path)
-            (subst (λ z. path_cmp z (get_or xs k d).path ≡ Less) e (up i k d (omega (arith, ge)) n)) h
-      ];
-    }
+  not_at_here : (e : ℕ) → stands_at path entries i ≡ false → i ≡ e → e < length entries → is_at path (entry_at entries e) ≡ false
+  not_at_here e h same l =
+      subst (λ k. is_at path (entry_at entries k) ≡ false) same (and_false (nat_lt i (length entries)) (is_at path (entry_at entries i)) (lt-ltb i (length entries) (omega (arith, l, same))) h)
+
+  not_at_by : (v : Bool) (e : ℕ) → is_at path (entry_at entries e) ≡ v → i < e → e < length entries → is_at path (entry_at entries e) ≡ false
+  not_at_by false e h l m = h
+  not_at_by true e h l m =
+      let same : (entry_at entries e).path ≡ path = path_exact (entry_at entries e).path path h in
+      absurd (first.behind i (omega arith) (omega (arith, l, m)) (subst (λ p. path_cmp (entry_at entries i).path p ≡ Less) same (up i e no_record l m)))
+
+  not_at : (e : ℕ) → stands_at path entries i ≡ false → (e < i) ⊎ (i ≤ e) → (i < e) ⊎ (e ≤ i) → e < length entries → is_at path (entry_at entries e) ≡ false
+  not_at e h (inl lt) other l = not_at_less e lt
+  not_at e h (inr ge) (inl lt) l = not_at_by (is_at path (entry_at entries e)) e refl lt l
+  not_at e h (inr ge) (inr le) l = not_at_here e h (omega (arith, ge, le)) l
+
+  -- it hasn't
+  pub found_nowhere : stands_at path entries i ≡ false → find_in path entries ≡ None
+  found_nowhere h =
+      position_none (is_at path) entries
+      (position_or_len_is (is_at path) entries (length entries) no_record (omega arith) (λ k m. not_at k h (cases_lt k i) (cases_lt i k) m) (λ m. absurd (omega arith)))

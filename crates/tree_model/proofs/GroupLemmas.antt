@@ -8,7 +8,7 @@ use Rattle.std.proofs.lemmas.List.{get_or-map, length-map, length-take-le, take_
 use Rattle.std.proofs.lemmas.List.Elements.{filter-append}
 use Rattle.find_records.specs.Record.{Record}
 use Rattle.label_base.specs.Bounded.{all_numbers, least_below}
-use Rattle.tree_model.specs.Tree.{no_record}
+use Rattle.find_records.specs.Places.{no_record}
 use Rattle.tree_model.specs.Links.{inode_of, same_inode}
 use Rattle.tree_model.specs.Groups.{with_inode, inodes_behind, inodes_of, group_of, groups_in, names_in}
 use Rattle.tree_model.specs.GroupLists.{groups_behind, names_from, names_at, next_at}
@@ -20,7 +20,7 @@ use Rattle.tree_model.proofs.NumberingLemmas.{Inode}
 abbrev first_place : (Inode → Bool) → List Inode → ℕ
 first_place p xs = position_or_len p xs
 
-by_head : (p : Inode → Bool) (x : Inode) (xs : List Inode) (b : Bool) → p x ≡ b → first_place p (x ∷ xs) ≡ cond b 0 (1 + first_place p xs)
+pub by_head : (p : Inode → Bool) (x : Inode) (xs : List Inode) (b : Bool) → p x ≡ b → first_place p (x ∷ xs) ≡ cond b 0 (1 + first_place p xs)
 by_head p x xs true e = rw e refl
 by_head p x xs false e = rw e refl
 
@@ -132,7 +132,7 @@ pub record HasName (groups : List ℕ) (g : ℕ) : Type 0 where
 name_behind : (x g : ℕ) (xs : List ℕ) → HasName xs g → HasName (x ∷ xs) g
 name_behind x g xs h = record { name = suc h.name; within = omega (arith, h.within); own = h.own }
 
-name_here : (is seen : List Inode) (i : Inode) (g : ℕ) (b : Bool) → list_any (same_inode i) seen ≡ b → g < length (cond b seen (seen ++ i ∷ [])) → (g < length seen) ⊎ (first_place (same_inode i) seen ≡ g)
+pub name_here : (is seen : List Inode) (i : Inode) (g : ℕ) (b : Bool) → list_any (same_inode i) seen ≡ b → g < length (cond b seen (seen ++ i ∷ [])) → (g < length seen) ⊎ (first_place (same_inode i) seen ≡ g)
 name_here is seen i g true h l = inl l
 name_here is seen i g false h l = elim (cases_lt g (length seen)) [
   | inl lt ↦ inl lt

@@ -5,7 +5,7 @@ use Rattle.find_records.specs.Record.{Record}
 use Rattle.tree_model.specs.Numbered.{Numbered, numbered_from}
 use Rattle.std.specs.Prelude.{Some, slice_get}
 use Rattle.tree_model.specs.Extents.{entry_at}
-use Rattle.tree_model.specs.Tree.{no_record}
+use Rattle.find_records.specs.Places.{no_record}
 use Rattle.tree_model.proofs.PlaceLemmas.{numbered_next}
 use Rattle.tree_model.specs.Known.{with_number}
 

@@ -25,7 +25,8 @@ pub mod NumberingLemmas
 pub mod KnownLemmas
 pub mod UpLemmas
 pub mod PlaceLemmas
-pub mod SearchLemmas
 pub mod PassLemmas
 pub mod KeptLemmas
 pub mod ParentLemmas
+pub mod GroupLaws
+pub mod AbsentLaws

@@ -13,7 +13,7 @@ use Rattle.std.proofs.lemmas.List.Sorted.{IsPermutation-sym}
 use Rattle.find_records.specs.Record.{Record}
 use Rattle.tree_model.specs.Numbered.{Numbered, numbered_from, item_of, place_of}
 use Rattle.tree_model.specs.Runs.{same_place}
-use Rattle.tree_model.specs.Tree.{AreWithin, entries_in, no_record, path_in}
+use Rattle.find_records.specs.Places.{ArePlaces, no_record, records_at}
 use Rattle.tree_model.proofs.Members.{Has, has_from_contains, contains_from_has}
 use Rattle.tree_model.proofs.NumberedLemmas.{in_low, in_high, numbered_more}
 use Rattle.tree_model.proofs.SortedLemmas.{has_moved}
@@ -32,14 +32,14 @@ at_number n (r ∷ rs) a h = elim h [
 abbrev pub Among : List Record → List Numbered → Type 0
 Among records ks = (a : Numbered) → Has ks a → Has (numbered_from 1 records) a
 
-items_at : (records : List Record) (ks : List Numbered) → Among records ks → entries_in records (map place_of ks) ≡ map item_of ks
+items_at : (records : List Record) (ks : List Numbered) → Among records ks → records_at records (map place_of ks) ≡ map item_of ks
 items_at records [] f = refl
 items_at records (k ∷ ks) f =
     let first : get_or records (place_of k) no_record ≡ k.item = at_number 1 records k (f k (inl refl)) in
     let rest = items_at records ks (λ a h. f a (inr h)) in
     λ i. first i ∷ rest i
 
-all_within : (records : List Record) (ks : List Numbered) → Among records ks → AreWithin (length records) (map place_of ks)
+all_within : (records : List Record) (ks : List Numbered) → Among records ks → ArePlaces (length records) (map place_of ks)
 all_within records [] f = tt
 all_within records (k ∷ ks) f =
     let h = f k (inl refl) in
@@ -52,27 +52,11 @@ kept_among records S p a h =
     let c = has_from_contains S a (Contains-from_dedup same_place S a (contains_from_has (dedup same_place S) a h)) in
     has_moved S (numbered_from 1 records) (IsPermutation-sym (numbered_from 1 records) S p) a c
 
-pub places_are : (records : List Record) (S : List Numbered) → IsPermutation (numbered_from 1 records) S → entries_in records (map place_of (dedup same_place S)) ≡ map item_of (dedup same_place S)
+pub places_are : (records : List Record) (S : List Numbered) → IsPermutation (numbered_from 1 records) S → records_at records (map place_of (dedup same_place S)) ≡ map item_of (dedup same_place S)
 places_are records S p = items_at records (dedup same_place S) (kept_among records S p)
 
-pub places_within : (records : List Record) (S : List Numbered) → IsPermutation (numbered_from 1 records) S → AreWithin (length records) (map place_of (dedup same_place S))
+pub places_within : (records : List Record) (S : List Numbered) → IsPermutation (numbered_from 1 records) S → ArePlaces (length records) (map place_of (dedup same_place S))
 places_within records S p = all_within records (dedup same_place S) (kept_among records S p)
-
--- a place that is read
-pub within_at : (count : ℕ) (places : List ℕ) (e place : ℕ) → AreWithin count places → e < length places → place ≡ get_or places e place → place < count
-within_at count [] e place w l h = absurd (omega arith)
-within_at count (p ∷ places) zero place w l h = omega (arith, h, w.0)
-within_at count (p ∷ places) (suc e) place w l h = within_at count places e place w.1 (omega arith) h
-
--- the record that stands there
-pub entry_at : (records : List Record) (places : List ℕ) (e place : ℕ) (r : Record) → e < length places → place ≡ get_or places e place → slice_get records place ≡ Some r → slice_get (entries_in records places) e ≡ Some r
-entry_at records places e place r l h g =
-    slice_get-map (λ p. get_or records p no_record) places e
-    ∙ ap (option_map (λ p. get_or records p no_record)) (slice_get_read places (length places) e place refl l h)
-    ∙ ap Some (get_or_from_slice_get records place r no_record g)
-
-pub length_entries : (records : List Record) (places : List ℕ) → length (entries_in records places) ≡ length places
-length_entries records places = length-map places (λ p. get_or records p no_record)
 
 -- one record more
 pub numbered_next : (records : List Record) (k number : ℕ) (r : Record) (all new : List Numbered) → k < length records → r ≡ get_or records k r → number ≡ k
@@ -90,7 +74,3 @@ calm_tree (Some d) entries kept h = cc
 pub kept_tree : (d : Option (ℕ × ℕ)) (entries kept : List Record) → unless_doubled d entries ≡ Ok kept → kept ≡ entries
 kept_tree None entries kept h = cc
 kept_tree (Some d) entries kept h = cc
-
--- the path at a place within is that of the record
-pub path_at : (root : Path) (records : List Record) (place : ℕ) → root ≡ [] → path_in root records place ≡ (get_or records place no_record).path
-path_at root records place e = ap (λ r. path_in r records place) e ∙ get_or-map (λ r. r.path) records place no_record

@@ -6,7 +6,7 @@ use Rattle.label_base.specs.Kind.{same_kind}
 use Rattle.label_base.specs.Path.{at_or_below, strictly_below}
 use Rattle.label_base.specs.declared.kind.EntryKind.TheVariants.{Directory}
 use Rattle.find_records.specs.Record.{Record}
-use Rattle.tree_model.specs.Tree.{no_record}
+use Rattle.find_records.specs.Places.{no_record}
 use Rattle.tree_model.specs.declared.extents.TheConstants.{NO_PARENT}
 
 -- the entry with this index

@@ -3,7 +3,7 @@ use Rattle.std.specs.Prelude.{◌≡◌, ℕ, ◌-◌, ◌≤◌, List, length, 
 use Rattle.label_base.specs.Path.{Path}
 use Rattle.find_records.specs.Record.{Record}
 use Rattle.tree_model.specs.Numbered.{Numbered}
-use Rattle.tree_model.specs.Tree.{no_record}
+use Rattle.find_records.specs.Places.{no_record}
 
 -- the record with this number, from 1 on
 abbrev pub with_number : List Record → ℕ → Numbered

@@ -2,7 +2,9 @@ pub mod Entries
 pub mod Numbered
 pub mod Runs
 pub mod Tree
+pub mod Laws
 pub mod Links
+pub mod Search
 pub mod Extents
 pub mod Known
 pub mod Up

@@ -4,7 +4,8 @@ ghost use Rattle.label_base.specs.Answers.{Answers};
 ghost use Rattle.tree_model.specs.Entries.{doubled, entries_of, tree_of};
 ghost use Rattle.tree_model.specs.Numbered.{item_of, numbered_from, place_of};
 ghost use Rattle.tree_model.specs.Runs.{same_place, noted, passed, doubled_in};
-ghost use Rattle.tree_model.specs.Tree.{AreWithin, entries_in, tree_cause};
+ghost use Rattle.find_records.specs.Places.{ArePlaces, records_at};
+ghost use Rattle.tree_model.specs.Tree.{tree_cause};
 ghost use Rattle.tree_model.specs.Up.{goes_up, is_next, steps_up};
 
 use crate::fault::TreeFault;
@@ -96,10 +97,10 @@ fn sort_records(alloc: Global, records: &Records) -> Result<Vec<Numbered<'_>>, O
     ensures entries { IfOk result (λ sorted. doubled records.now ≡ None
         → map item_of (dedup same_place sorted.items) ≡ entries_of records.now) }
     ensures places { IfOk result (λ sorted.
-        entries_in records.now (map place_of (dedup same_place sorted.items))
+        records_at records.now (map place_of (dedup same_place sorted.items))
         ≡ map item_of (dedup same_place sorted.items)) }
     ensures within { IfOk result (λ sorted.
-        AreWithin (length records.now) (map place_of (dedup same_place sorted.items))) }
+        ArePlaces (length records.now) (map place_of (dedup same_place sorted.items))) }
     ensures fewer { IfOk result (λ sorted.
         length (map place_of (dedup same_place sorted.items)) ≤ length records.now) }
 {
@@ -111,9 +112,9 @@ fn sort_records(alloc: Global, records: &Records) -> Result<Vec<Numbered<'_>>, O
 // The places of a tree's entries among its records, in the order of their paths, found by sorting.
 fn sorted_order(alloc: Global, records: &Records) -> Result<Vec<u32>, TreeFault>
     requires { length records.now < 2 ^ 32 }
-    ensures answer { Answers (λ order. entries_in records.now order.items) tree_cause result
+    ensures answer { Answers (λ order. records_at records.now order.items) tree_cause result
         (tree_of records.now) }
-    ensures within { IfOk result (λ order. AreWithin (length records.now) order.items) }
+    ensures within { IfOk result (λ order. ArePlaces (length records.now) order.items) }
     ensures fewer { IfOk result (λ order. length order.items ≤ length records.now) }
 {
     let sorted = sort_records(alloc, records)?;
@@ -167,8 +168,8 @@ fn goes_up(records: &Records, places: &[u32]) -> bool
 // strictly.
 #[tactic(auto, using(crate::proofs::UpLemmas::up_entries, crate::proofs::UpLemmas::goes_within))]
 fn is_order(records: &Records, places: &[u32]) -> bool
-    ensures entries { result ≡ true → tree_of records.now ≡ Ok (entries_in records.now places.now) }
-    ensures within { result ≡ true → AreWithin (length records.now) places.now }
+    ensures entries { result ≡ true → tree_of records.now ≡ Ok (records_at records.now places.now) }
+    ensures within { result ≡ true → ArePlaces (length records.now) places.now }
     ensures count { result ≡ true → length places.now ≡ length records.now }
 {
     if places.len() != records.len() as usize {
@@ -177,15 +178,15 @@ fn is_order(records: &Records, places: &[u32]) -> bool
     goes_up(records, places)
 }
 
-/// The places of a tree's entries among its records, in the order of their paths.
-///
-/// The order that is given and one that is guessed are taken if they are right; only where they aren't
-/// are the records sorted.
-pub fn order_of(alloc: Global, records: &Records) -> Result<Vec<u32>, TreeFault>
+// The places of a tree's entries among its records, in the order of their paths.
+//
+// The order that is given and one that is guessed are taken if they are right; only where they aren't
+// are the records sorted.
+fn order_of(alloc: Global, records: &Records) -> Result<Vec<u32>, TreeFault>
     requires { length records.now < 2 ^ 32 }
-    ensures answer { Answers (λ order. entries_in records.now order.items) tree_cause result
+    ensures answer { Answers (λ order. records_at records.now order.items) tree_cause result
         (tree_of records.now) }
-    ensures within { IfOk result (λ order. AreWithin (length records.now) order.items) }
+    ensures within { IfOk result (λ order. ArePlaces (length records.now) order.items) }
     ensures fewer { IfOk result (λ order. length order.items ≤ length records.now) }
 {
     let given = given_order(alloc, records)?;
@@ -197,4 +198,14 @@ pub fn order_of(alloc: Global, records: &Records) -> Result<Vec<u32>, TreeFault>
         return Ok(guessed);
     }
     sorted_order(alloc, records)
+}
+
+/// The entries of records, laid in the order of their paths: each record once, however often it is given.
+pub fn put_in_order(alloc: Global, records: Records) -> Result<Records, TreeFault>
+    requires { length records < 2 ^ 32 }
+    ensures answer { Answers (λ entries. entries) tree_cause result (tree_of records) }
+    ensures fewer { IfOk result (λ entries. length entries ≤ length records) }
+{
+    let order = order_of(alloc, &records)?;
+    Ok(records.in_order(alloc, order.as_slice())?)
 }

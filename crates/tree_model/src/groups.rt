@@ -43,8 +43,8 @@ pub fn number_groups(alloc: Global, sorted: &Sorted) -> Result<Numbering, OutOfM
     ensures inside { IfOk result (λ numbering.
         AreGroups numbering.count numbering.group_of.items) }
 {
-    let mut seen = IndexSet::new(alloc);
     let mut group_of = Vec::with_capacity(alloc, sorted.len() as usize)?;
+    let mut seen = IndexSet::with_capacity(alloc, sorted.len() as usize)?;
     'entries: for e in 0..sorted.len() {
         let entry = sorted.entry(e);
         let group = number_of(&mut seen, (entry.device, entry.inode))?;
@@ -195,14 +195,23 @@ pub struct Groups {
     pub closed: Vec<bool>,
 }
 
-/// The groups of entries, by their extents.
-pub fn make_groups(alloc: Global, sorted: &Sorted, ends: &[u32]) -> Result<Groups, OutOfMemory>
+/// The groups of entries, as they are numbered, by the extents of the entries.
+pub fn make_groups(
+    alloc: Global,
+    sorted: &Sorted,
+    numbering: Numbering,
+    ends: &[u32],
+) -> Result<Groups, OutOfMemory>
     requires by_path { ByPath sorted.now }
+    requires groups { numbering.group_of.items ≡ groups_behind [] (map inode_of sorted.now) }
+    requires count { numbering.count ≡ groups_in sorted.now }
+    requires sized { length numbering.group_of.items ≡ length sorted.now }
+    requires inside { AreGroups numbering.count numbering.group_of.items }
     requires ends { EndsFrom 0 sorted.now ends.now }
     ensures { IfOk result (λ groups. KeepsGroups sorted.now groups.total
         groups.group_of.items groups.names.items groups.starts.items groups.closed.items) }
 {
-    let numbering = number_groups(alloc, sorted)?;
+    let _count = sorted.len();
     let chains = make_chains(alloc, numbering.group_of.as_slice(), numbering.count)?;
     let closed = closed_by(
         alloc,

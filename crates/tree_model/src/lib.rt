@@ -10,14 +10,17 @@ mod fault;
 mod groups;
 mod guess;
 mod jobs;
+mod laws;
 mod marks;
 mod numbered;
 mod same;
+mod search;
 mod selection;
 mod sorted;
 mod tree;
 
 pub use fault::TreeFault;
+pub use laws::{absent_have_no_entry, groups_are_inodes};
 pub use selection::{Choice, Selected};
 pub use tree::Tree;
 

@@ -6,47 +6,32 @@ ghost use Rattle.find_records.specs.Entry.{entry_of};
 ghost use Rattle.find_records.specs.Record.{Record};
 ghost use Rattle.tree_model.specs.Entries.{tree_of};
 ghost use Rattle.tree_model.specs.Extents.{entry_at, in_extent, is_directory};
-ghost use Rattle.tree_model.specs.Tree.{ByPath, IsFrom, tree_cause, find_in, path_in};
+ghost use Rattle.tree_model.specs.Tree.{ByPath, IsFrom, tree_cause, find_in};
 
-use crate::building::order_of;
+use crate::building::put_in_order;
 use crate::fault::TreeFault;
+use crate::search::{first_from, stands_at};
 use find_records::{Entry, Records};
-use label_base::{EntryKind, NormPath, PathRef};
+use label_base::{EntryKind, PathRef};
 use std::alloc::Global;
 use std::marker::Model;
 
 /// The entries of a tree by themselves, seen as their list in the order of their paths.
 #[derive(Drop)]
 pub struct Sorted {
-    // In the order in which they were given, so that none is moved.
     records: Records,
-    // The places of the entries among the records.
-    order: Vec<u32>,
-    // The path `/`, to be compared with.
-    root: NormPath,
 }
 
 impl Model for Sorted {
     ghost use Rattle.std.specs.Prelude.{List};
     ghost use Rattle.find_records.specs.Record.{Record};
-    ghost use Rattle.tree_model.specs.Tree.{IsTree, entries_in};
+    ghost use Rattle.tree_model.specs.Tree.{IsTree};
 
     ghost Value = { List Record };
 
-    ghost view = { λ t. entries_in t.records t.order.items };
+    ghost view = { λ t. t.records };
 
-    ghost invariant = { λ t. IsTree t.records t.order.items t.root };
-}
-
-// The path of the record at a place.
-fn path_in<'a>(records: &'a Records, root: &'a NormPath, place: u32) -> PathRef<'a>
-    ensures { path_of result ≡ path_in root.now records.now place }
-{
-    if place < records.len() {
-        records.entry(place).path
-    } else {
-        root.path()
-    }
+    ghost invariant = { λ t. IsTree t.records };
 }
 
 impl Sorted {
@@ -59,19 +44,15 @@ impl Sorted {
         ensures same { IfOk result (λ sorted. (r : Record)
             → Contains sorted r ↔ Contains records r) }
     {
-        let order = order_of(alloc, &records)?;
-        Ok(Sorted {
-            records,
-            order,
-            root: NormPath::root(alloc),
-        })
+        let records = put_in_order(alloc, records)?;
+        Ok(Sorted { records })
     }
 
     /// How many entries there are.
     pub fn len(&self) -> u32
         ensures { result ≡ length self.now }
     {
-        self.order.len() as u32
+        self.records.len()
     }
 
     /// The entry with an index.
@@ -79,22 +60,19 @@ impl Sorted {
         requires { e < length self.now }
         ensures { slice_get self.now e ≡ Some (entry_of result) }
     {
-        self.records.entry(self.order[e as usize])
+        self.records.entry(e)
     }
 
     /// The index of the entry with a path.
+    #[tactic(auto, using(crate::proofs::FindLemmas::found_where, crate::proofs::FindLemmas::found_nowhere))]
     pub fn find(&self, path: &PathRef<'_>) -> Option<u32>
         ensures { result ≡ find_in (path_of path.now) self.now }
     {
-        let records = &self.records;
-        let root = &self.root;
-        match self
-            .order
-            .as_slice()
-            .binary_search_by(|place| path_in(records, root, *place).compare(path))
-        {
-            Ok(at) => Some(at as u32),
-            Err(_) => None,
+        let at = first_from(&self.records, path);
+        if stands_at(&self.records, path, at) {
+            Some(at)
+        } else {
+            None
         }
     }
 
@@ -122,15 +100,6 @@ impl Sorted {
     pub fn first_from(&self, path: &PathRef<'_>) -> u32
         ensures { IsFrom (path_of path.now) self.now result }
     {
-        let records = &self.records;
-        let root = &self.root;
-        match self
-            .order
-            .as_slice()
-            .binary_search_by(|place| path_in(records, root, *place).compare(path))
-        {
-            Ok(at) => at as u32,
-            Err(at) => at as u32,
-        }
+        first_from(&self.records, path)
     }
 }

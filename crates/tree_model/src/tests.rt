@@ -1,4 +1,4 @@
-use crate::{Choice, Tree, TreeFault};
+use crate::{Choice, Tree, TreeFault, absent_have_no_entry, groups_are_inodes};
 use context_syntax::Label;
 use find_records::{Records, Told};
 use label_base::{EntryKind, NormPath, Row};
@@ -41,57 +41,56 @@ fn fault_of(alloc: Global, all: &[Told<'_>]) -> Option<TreeFault> {
     tree_from(alloc, all).err()
 }
 
-// The index of a path's entry.
-fn found(alloc: Global, tree: &Tree, path: &[u8]) -> Option<u32> {
+// Whether a path's entry has this index; none where there is no such entry.
+fn stands(alloc: Global, tree: &Tree, path: &[u8], wanted: Option<u32>) -> bool {
     match NormPath::read(alloc, path) {
-        Ok(path) => tree.find(&path.path()),
-        Err(_) => None,
+        Ok(path) => tree.find(&path.path()) == wanted,
+        Err(_) => false,
     }
 }
 
-fn inode_at(tree: &Tree, e: u32) -> Option<u64> {
-    if e < tree.len() {
-        Some(tree.entry(e).inode)
-    } else {
-        None
+// Whether these are the inodes of the entries.
+fn has_inodes(tree: &Tree, wanted: &[u64]) -> bool {
+    for e in 0..tree.len() {
+        match wanted.get(e as usize) {
+            Some(inode) if *inode == tree.entry(e).inode => (),
+            _ => return false,
+        }
     }
+    wanted.len() == tree.len() as usize
 }
 
 #[test]
 fn counts_a_record_once(rt: HostRuntime) -> Result<(), Fail> {
     let all = [file(5, b"/a"), file(5, b"//a/")];
     let tree = tree_from(rt.alloc(), all.as_slice())?;
-    assert_eq!(rt; tree.len(), 1);
+    assert!(rt; has_inodes(&tree, [5].as_slice()));
     Ok(())
 }
 
+// Whether these records make no tree, for the doubled ones have these numbers.
+fn is_doubled(alloc: Global, all: &[Told<'_>], first: u32, second: u32) -> bool {
+    match tree_from(alloc, all) {
+        Ok(_) => false,
+        Err(fault) => fault == TreeFault::Doubled { first, second },
+    }
+}
+
 #[test]
-fn refuses_a_doubled_path(rt: HostRuntime) -> Result<(), Fail> {
+fn refuses_a_doubled_path(rt: HostRuntime) {
     let all = [file(5, b"/a"), file(5, b"//a/"), directory(5, b"/a")];
-    let fault = fault_of(rt.alloc(), all.as_slice());
-    let doubled = TreeFault::Doubled {
-        first: 1,
-        second: 3,
-    };
-    assert_eq!(rt; fault, Some(doubled));
-    Ok(())
+    assert!(rt; is_doubled(rt.alloc(), all.as_slice(), 1, 3));
 }
 
 #[test]
-fn tells_the_least_second_record(rt: HostRuntime) -> Result<(), Fail> {
+fn tells_the_least_second_record(rt: HostRuntime) {
     let all = [
         file(7, b"/b"),
         file(5, b"/a"),
         file(8, b"/b"),
         file(6, b"/a"),
     ];
-    let fault = fault_of(rt.alloc(), all.as_slice());
-    let doubled = TreeFault::Doubled {
-        first: 1,
-        second: 3,
-    };
-    assert_eq!(rt; fault, Some(doubled));
-    Ok(())
+    assert!(rt; is_doubled(rt.alloc(), all.as_slice(), 1, 3));
 }
 
 // In the order of find(1): the names of a directory stand in any order.
@@ -105,8 +104,7 @@ fn sorts_names_in_directories(rt: HostRuntime) -> Result<(), Fail> {
         file(6, b"/a"),
     ];
     let tree = tree_from(rt.alloc(), all.as_slice())?;
-    assert_eq!(rt; inode_at(&tree, 1), Some(6));
-    assert_eq!(rt; inode_at(&tree, 3), Some(5));
+    assert!(rt; has_inodes(&tree, [2, 6, 3, 5, 4].as_slice()));
     Ok(())
 }
 
@@ -114,9 +112,9 @@ fn sorts_names_in_directories(rt: HostRuntime) -> Result<(), Fail> {
 fn finds_entries(rt: HostRuntime) -> Result<(), Fail> {
     let all = [file(7, b"/b"), file(6, b"/"), file(8, b"/a/c")];
     let tree = tree_from(rt.alloc(), all.as_slice())?;
-    assert_eq!(rt; found(rt.alloc(), &tree, b"/b"), Some(2));
-    assert_eq!(rt; found(rt.alloc(), &tree, b"/a"), None);
-    assert_eq!(rt; inode_at(&tree, 1), Some(8));
+    assert!(rt; stands(rt.alloc(), &tree, b"/b", Some(2)));
+    assert!(rt; stands(rt.alloc(), &tree, b"/a", None));
+    assert!(rt; has_inodes(&tree, [6, 8, 7].as_slice()));
     Ok(())
 }
 
@@ -134,49 +132,62 @@ fn small_tree(alloc: Global) -> Result<Tree, TreeFault> {
     tree_from(alloc, all.as_slice())
 }
 
-#[test]
-fn tells_extents(rt: HostRuntime) -> Result<(), Fail> {
-    let tree = small_tree(rt.alloc())?;
-    let mut extents = Vec::new(rt.alloc());
+// Whether these are the extents of the entries.
+fn has_extents(tree: &Tree, wanted: &[u32]) -> bool {
     for e in 0..tree.len() {
-        extents.push(tree.extent(e))?;
+        match wanted.get(e as usize) {
+            Some(end) if *end == tree.extent(e) => (),
+            _ => return false,
+        }
     }
-    assert_eq!(rt; extents.as_slice(), [6, 5, 4, 4, 5, 6].as_slice());
+    wanted.len() == tree.len() as usize
+}
+
+// Whether these are the parents of the entries.
+fn has_parents(tree: &Tree, wanted: &[Option<u32>]) -> bool {
+    for e in 0..tree.len() {
+        match wanted.get(e as usize) {
+            Some(parent) if *parent == tree.parent(e) => (),
+            _ => return false,
+        }
+    }
+    wanted.len() == tree.len() as usize
+}
+
+#[test]
+fn tells_extents_and_parents(rt: HostRuntime) -> Result<(), Fail> {
+    let tree = small_tree(rt.alloc())?;
+    assert!(rt; has_extents(&tree, [6, 5, 4, 4, 5, 6].as_slice()));
+    let parents = [None, Some(0), Some(1), Some(1), Some(1), Some(0)];
+    assert!(rt; has_parents(&tree, parents.as_slice()));
     Ok(())
 }
 
-#[test]
-fn tells_parents(rt: HostRuntime) -> Result<(), Fail> {
-    let tree = small_tree(rt.alloc())?;
-    let mut parents = Vec::new(rt.alloc());
+// Whether these are the groups of the entries.
+fn has_groups(tree: &Tree, wanted: &[u32]) -> bool {
     for e in 0..tree.len() {
-        parents.push(tree.parent(e))?;
-    }
-    let wanted = [None, Some(0), Some(1), Some(1), Some(1), Some(0)];
-    assert_eq!(rt; parents.as_slice(), wanted.as_slice());
-    Ok(())
-}
-
-// The group of each entry.
-fn groups_of(alloc: Global, tree: &Tree) -> Result<Vec<u32>, TreeFault> {
-    let mut groups = Vec::new(alloc);
-    for e in 0..tree.len() {
-        if groups.push(tree.group(e)).is_err() {
-            return Err(TreeFault::OutOfMemory);
+        match wanted.get(e as usize) {
+            Some(group) if *group == tree.group(e) => (),
+            _ => return false,
         }
     }
-    Ok(groups)
+    wanted.len() == tree.len() as usize
 }
 
-// For each entry whether its extent is closed.
-fn closed_in(alloc: Global, tree: &Tree) -> Result<Vec<bool>, TreeFault> {
-    let mut closed = Vec::new(alloc);
+// Whether these extents are closed.
+fn has_closed(tree: &Tree, wanted: &[bool]) -> bool {
     for e in 0..tree.len() {
-        if closed.push(tree.closed(e)).is_err() {
-            return Err(TreeFault::OutOfMemory);
+        match wanted.get(e as usize) {
+            Some(closed) if *closed == tree.closed(e) => (),
+            _ => return false,
         }
     }
-    Ok(closed)
+    wanted.len() == tree.len() as usize
+}
+
+// Whether these are the names of an entry's inode.
+fn has_names(tree: &Tree, e: u32, wanted: &[u32]) -> bool {
+    e < tree.len() && tree.names_of(tree.group(e)) == wanted
 }
 
 // Two directories that share a file, which has a third name on another device by chance.
@@ -195,30 +206,20 @@ fn linked_tree(alloc: Global) -> Result<Tree, TreeFault> {
 }
 
 #[test]
-fn numbers_groups(rt: HostRuntime) -> Result<(), Fail> {
+fn tells_groups(rt: HostRuntime) -> Result<(), Fail> {
+    groups_are_inodes();
     let tree = linked_tree(rt.alloc())?;
-    let groups = groups_of(rt.alloc(), &tree)?;
-    assert_eq!(rt; groups.as_slice(), [0, 1, 2, 3, 2, 4].as_slice());
-    assert_eq!(rt; tree.groups(), 5);
+    assert!(rt; has_groups(&tree, [0, 1, 2, 3, 2, 4].as_slice()));
+    assert!(rt; tree.groups() == 5);
+    assert!(rt; has_names(&tree, 2, [2, 4].as_slice()));
+    let closed = [true, false, false, false, false, true];
+    assert!(rt; has_closed(&tree, closed.as_slice()));
     Ok(())
 }
 
-#[test]
-fn lists_names(rt: HostRuntime) -> Result<(), Fail> {
-    let tree = linked_tree(rt.alloc())?;
-    if tree.len() > 2 {
-        assert_eq!(rt; tree.names_of(tree.group(2)), [2, 4].as_slice());
-    }
-    Ok(())
-}
-
-#[test]
-fn tells_closed_extents(rt: HostRuntime) -> Result<(), Fail> {
-    let tree = linked_tree(rt.alloc())?;
-    let closed = closed_in(rt.alloc(), &tree)?;
-    let wanted = [true, false, false, false, false, true];
-    assert_eq!(rt; closed.as_slice(), wanted.as_slice());
-    Ok(())
+// Whether an entry's group has a context for its label.
+fn has_context(tree: &Tree, e: u32) -> bool {
+    e < tree.len() && matches!(tree.label(tree.group(e)), Label::Is(_))
 }
 
 #[test]
@@ -227,9 +228,7 @@ fn takes_the_first_label(rt: HostRuntime) -> Result<(), Fail> {
     late.label = b"?".as_slice();
     let all = [late, file(5, b"/a")];
     let tree = tree_from(rt.alloc(), all.as_slice())?;
-    if tree.len() > 1 {
-        assert!(rt; matches!(tree.label(tree.group(1)), Label::Is(_)));
-    }
+    assert!(rt; has_context(&tree, 1));
     Ok(())
 }
 
@@ -244,23 +243,53 @@ fn row_of(alloc: Global, paths: &[&[u8]]) -> Result<Row<NormPath>, TreeFault> {
     Ok(row)
 }
 
-// The flags of the entries that a choice means, and how many operands are absent.
-fn selected(alloc: Global, tree: &Tree, choice: &Choice) -> Result<(Vec<bool>, usize), TreeFault> {
+// The choice of operands, with what lies below them, but for what is at or below excluded paths.
+fn choice_of(alloc: Global, operands: &[&[u8]], excluded: &[&[u8]]) -> Result<Choice, TreeFault> {
+    let operands = row_of(alloc, operands)?;
+    let excluded = row_of(alloc, excluded)?;
+    Ok(Choice {
+        operands,
+        excluded,
+        recurse: true,
+        one_device: false,
+    })
+}
+
+// Whether a choice means just these entries, and so many of its operands are absent.
+fn means(
+    alloc: Global,
+    tree: &Tree,
+    choice: &Choice,
+    wanted: &[bool],
+    absent: usize,
+) -> Result<bool, TreeFault> {
     if choice.operands.len() > u32::MAX as usize {
         return Err(TreeFault::OutOfMemory);
     }
     let selected = tree.select(alloc, choice)?;
-    let mut live = Vec::new(alloc);
     for e in 0..tree.len() {
-        if live.push(selected.is_live(e)).is_err() {
-            return Err(TreeFault::OutOfMemory);
+        match wanted.get(e as usize) {
+            Some(live) if *live == selected.is_live(e) => (),
+            _ => return Ok(false),
         }
     }
-    Ok((live, selected.absent().len()))
+    Ok(wanted.len() == tree.len() as usize && selected.absent().len() == absent)
 }
 
-// A file system that is mounted in a directory, with a directory of the outer one below it.
-fn mounted_tree(alloc: Global) -> Result<Tree, TreeFault> {
+// The same of the tree of these records, where no operand is absent.
+fn means_in(
+    alloc: Global,
+    all: &[Told<'_>],
+    choice: &Choice,
+    wanted: &[bool],
+) -> Result<bool, TreeFault> {
+    let tree = tree_from(alloc, all)?;
+    means(alloc, &tree, choice, wanted, 0)
+}
+
+// A file system that is mounted in a directory.
+#[test]
+fn stays_on_one_device(rt: HostRuntime) -> Result<(), Fail> {
     let mut mount = directory(2, b"/a/m");
     mount.device = 2;
     let all = [
@@ -269,20 +298,11 @@ fn mounted_tree(alloc: Global) -> Result<Tree, TreeFault> {
         file(5, b"/a/m/x"),
         file(6, b"/a/y"),
     ];
-    tree_from(alloc, all.as_slice())
-}
-
-#[test]
-fn stays_on_one_device(rt: HostRuntime) -> Result<(), Fail> {
-    let tree = mounted_tree(rt.alloc())?;
-    let choice = Choice {
-        operands: row_of(rt.alloc(), [b"/a".as_slice()].as_slice())?,
-        excluded: Row::new(rt.alloc()),
-        recurse: true,
-        one_device: true,
-    };
-    let (live, _) = selected(rt.alloc(), &tree, &choice)?;
-    assert_eq!(rt; live.as_slice(), [true, false, false, true].as_slice());
+    let operands = [b"/a".as_slice()];
+    let mut choice = choice_of(rt.alloc(), operands.as_slice(), [].as_slice())?;
+    choice.one_device = true;
+    let wanted = [true, false, false, true];
+    assert!(rt; means_in(rt.alloc(), all.as_slice(), &choice, wanted.as_slice())?);
     Ok(())
 }
 
@@ -294,33 +314,32 @@ fn leaves_out_what_no_entry_has(rt: HostRuntime) -> Result<(), Fail> {
         file(4, b"/a/q/y/z"),
         file(5, b"/a/qq"),
     ];
-    let tree = tree_from(rt.alloc(), all.as_slice())?;
-    let choice = Choice {
-        operands: row_of(rt.alloc(), [b"/a".as_slice()].as_slice())?,
-        excluded: row_of(rt.alloc(), [b"/a/q".as_slice()].as_slice())?,
-        recurse: true,
-        one_device: false,
-    };
-    let (live, _) = selected(rt.alloc(), &tree, &choice)?;
-    assert_eq!(rt; live.as_slice(), [true, false, false, true].as_slice());
+    let (operands, excluded) = ([b"/a".as_slice()], [b"/a/q".as_slice()]);
+    let choice = choice_of(rt.alloc(), operands.as_slice(), excluded.as_slice())?;
+    let wanted = [true, false, false, true];
+    assert!(rt; means_in(rt.alloc(), all.as_slice(), &choice, wanted.as_slice())?);
     Ok(())
 }
 
 #[test]
 fn tells_absent_operands(rt: HostRuntime) -> Result<(), Fail> {
+    absent_have_no_entry();
     let tree = small_tree(rt.alloc())?;
-    let paths = [b"/none".as_slice(), b"/a/b".as_slice()];
-    let choice = Choice {
-        operands: row_of(rt.alloc(), paths.as_slice())?,
-        excluded: Row::new(rt.alloc()),
-        recurse: false,
-        one_device: false,
-    };
-    let (live, absent) = selected(rt.alloc(), &tree, &choice)?;
+    let operands = [b"/none".as_slice(), b"/a/b".as_slice()];
+    let mut choice = choice_of(rt.alloc(), operands.as_slice(), [].as_slice())?;
+    choice.recurse = false;
     let wanted = [false, false, true, false, false, false];
-    assert_eq!(rt; live.as_slice(), wanted.as_slice());
-    assert_eq!(rt; absent, 1);
+    assert!(rt; means(rt.alloc(), &tree, &choice, wanted.as_slice(), 1)?);
     Ok(())
+}
+
+// Whether an entry is whole where a choice is made from a tree.
+fn is_whole(alloc: Global, tree: &Tree, choice: &Choice, e: u32) -> Result<bool, TreeFault> {
+    if e >= tree.len() || choice.operands.len() > u32::MAX as usize {
+        return Err(TreeFault::OutOfMemory);
+    }
+    let selected = tree.select(alloc, choice)?;
+    Ok(selected.is_whole(tree, e))
 }
 
 // Whether the directory /b is whole where all of / is meant but for one file.
@@ -331,18 +350,10 @@ fn is_whole_without(alloc: Global, path: &[u8]) -> Result<bool, TreeFault> {
         directory(4, b"/b"),
         file(5, b"/b/x"),
     ];
+    let (operands, excluded) = ([b"/".as_slice()], [path]);
+    let choice = choice_of(alloc, operands.as_slice(), excluded.as_slice())?;
     let tree = tree_from(alloc, all.as_slice())?;
-    let choice = Choice {
-        operands: row_of(alloc, [b"/".as_slice()].as_slice())?,
-        excluded: row_of(alloc, [path].as_slice())?,
-        recurse: true,
-        one_device: false,
-    };
-    if tree.len() < 3 || choice.operands.len() > u32::MAX as usize {
-        return Err(TreeFault::OutOfMemory);
-    }
-    let selected = tree.select(alloc, &choice)?;
-    Ok(selected.is_whole(&tree, 2))
+    is_whole(alloc, &tree, &choice, 2)
 }
 
 #[test]
@@ -356,8 +367,8 @@ fn tells_whole_directories(rt: HostRuntime) -> Result<(), Fail> {
 fn makes_a_shape(rt: HostRuntime) -> Result<(), Fail> {
     let tree = small_tree(rt.alloc())?;
     let shape = tree.shape(rt.alloc())?;
-    assert_eq!(rt; shape.parents.as_slice(), [0, 1].as_slice());
-    assert_eq!(rt; shape.homes.as_slice(), [0, 1, 2, 2, 2, 1].as_slice());
-    assert_eq!(rt; shape.groups, 6);
+    assert!(rt; shape.parents.as_slice() == [0, 1].as_slice());
+    assert!(rt; shape.homes.as_slice() == [0, 1, 2, 2, 2, 1].as_slice());
+    assert!(rt; shape.groups == 6);
     Ok(())
 }

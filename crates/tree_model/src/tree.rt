@@ -14,7 +14,7 @@ ghost use Rattle.walk_steps.specs.Shaped.{IsValid};
 
 use crate::extents::{all_ends, all_parents, parent_told, word_at};
 use crate::fault::TreeFault;
-use crate::groups::{Groups, flag_at, make_groups, part_at};
+use crate::groups::{Groups, flag_at, make_groups, number_groups, part_at};
 use crate::jobs::shape_in;
 use crate::selection::{Choice, Selected, select_in};
 use crate::sorted::Sorted;
@@ -61,9 +61,11 @@ impl Tree {
         ensures same { IfOk result (λ tree. (r : Record) → Contains tree r ↔ Contains records r) }
     {
         let sorted = Sorted::new(alloc, records)?;
+        // First of all that is made, since what numbers the inodes takes most room and is dropped then.
+        let numbering = number_groups(alloc, &sorted)?;
         let ends = all_ends(alloc, &sorted)?;
         let parents = all_parents(alloc, &sorted, ends.as_slice())?;
-        let groups = make_groups(alloc, &sorted, ends.as_slice())?;
+        let groups = make_groups(alloc, &sorted, numbering, ends.as_slice())?;
         Ok(Tree {
             sorted,
             ends,

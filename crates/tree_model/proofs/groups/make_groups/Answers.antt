@@ -7,14 +7,14 @@ use Rattle.tree_model.proofs.groups.make_groups.Goals as goal
 
 pub closed_by-requires-clause-ends : goal.closed_by-requires-clause-ends
 closed_by-requires-clause-ends c =
-    ends_runs c.args.sorted.now c.requires.by_path c.args.ends.now c.requires.ends (omega (arith, c.in_ok-numbering.ensures.sized, c.in_ok-numbering.ensures.inside.few))
+    ends_runs c.args.sorted.now c.requires.by_path c.args.ends.now c.requires.ends (omega (arith, c.requires.sized, c.requires.inside.few))
 
 pub returns : goal.returns
 returns c =
-    kept_groups c.args.sorted.now c.args.ends.now c.in_ok-numbering.numbering.group_of.items c.in_ok-kept.kept.names.items c.in_ok-kept.kept.starts.items c.in_ok-closed.closed.items
-    c.in_ok-numbering.numbering.count c.requires.by_path c.requires.ends c.in_ok-numbering.ensures.groups c.in_ok-numbering.ensures.count
+    kept_groups c.args.sorted.now c.args.ends.now c.args.numbering.group_of.items c.in_ok-kept.kept.names.items c.in_ok-kept.kept.starts.items c.in_ok-closed.closed.items
+    c.args.numbering.count c.requires.by_path c.requires.ends c.requires.groups c.requires.count
     (c.in_ok-kept.ensures.names ∙ ap (λ gs. names_below gs (length c.in_ok-chains.chains.first.items)) c.as_slice-4.ensures.value
-    ∙ ap (names_below c.in_ok-numbering.numbering.group_of.items) c.in_ok-chains.ensures.count)
-    (subst (λ k. AreStarts c.in_ok-numbering.numbering.group_of.items (k + 1) c.in_ok-kept.kept.starts.items) c.in_ok-chains.ensures.count
+    ∙ ap (names_below c.args.numbering.group_of.items) c.in_ok-chains.ensures.count)
+    (subst (λ k. AreStarts c.args.numbering.group_of.items (k + 1) c.in_ok-kept.kept.starts.items) c.in_ok-chains.ensures.count
     (subst (λ gs. AreStarts gs (length c.in_ok-chains.chains.first.items + 1) c.in_ok-kept.kept.starts.items) c.as_slice-4.ensures.value c.in_ok-kept.ensures.starts))
     (subst (λ gs. AreClosed gs c.args.ends.now 0 c.in_ok-closed.closed.items) c.as_slice-2.ensures.value c.in_ok-closed.ensures)

@@ -36,6 +36,6 @@ returns-clause-sized c = sized c.args.sorted.now c.entries.group_of.items
 pub returns-clause-inside : goal.returns-clause-inside
 returns-clause-inside c =
     let over : length (map inode_of c.args.sorted.now) ≤ c.entries.e = omega (arith, inodes_count c.args.sorted.now, c.len-e-end.ensures) in
-    are_groups c.args.sorted.now c.entries.group_of.items c.len-2.result (omega (arith, c.len.ensures))
+    are_groups c.args.sorted.now c.entries.group_of.items c.len-3.result (omega (arith, c.len.ensures))
     (groups_over (map inode_of c.args.sorted.now) c.entries.e c.entries.seen.keys c.entries.group_of.items _ over c.entries.invariant.groups)
-    (c.len-2.ensures.len ∙ ap length (seen_over (map inode_of c.args.sorted.now) c.entries.e c.entries.seen.keys _ over c.entries.invariant.seen))
+    (c.len-3.ensures.len ∙ ap length (seen_over (map inode_of c.args.sorted.now) c.entries.e c.entries.seen.keys _ over c.entries.invariant.seen))

@@ -1,21 +1,22 @@
 use Rattle.std.proofs.Common.{◌≡◌, ◌∙◌, ap, sym, subst}
 use Rattle.label_base.specs.PathText.{IsNormal}
+use Rattle.find_records.specs.Marks.{mark_of}
 use Rattle.find_records.specs.Rows.{text_in}
 use Rattle.find_records.proofs.RowLemmas.{entry_is, row_read, within_at}
 use Rattle.find_records.proofs.records.Records.entry.Goals as goal
 
-pub get-requires : goal.get-requires
-get-requires c =
+pub get-device-requires : goal.get-device-requires
+get-device-requires c =
     let s = c.self.inside in
     let row = c.index-row.result.now in
-    (within_at s.texts.items s.labels s.rows.items c.args.i row c.self.invariant.within (row_read s.texts.items s.labels c.args.self.now s.rows.items c.args.i row c.self.view_is c.requires c.index-row.ensures)).known
+    (within_at s.texts.items s.marks s.rows.items c.args.i row c.self.invariant.within (row_read s.texts.items s.marks c.args.self.now s.rows.items c.args.i row c.self.view_is c.requires c.index-row.ensures)).known
 
 pub text_at-requires : goal.text_at-requires
 text_at-requires c =
     let s = c.self.inside in
     let row = c.index-row.result.now in
     rw c.as_slice.ensures.value
-    (within_at s.texts.items s.labels s.rows.items c.args.i row c.self.invariant.within (row_read s.texts.items s.labels c.args.self.now s.rows.items c.args.i row c.self.view_is c.requires c.index-row.ensures)).fits
+    (within_at s.texts.items s.marks s.rows.items c.args.i row c.self.invariant.within (row_read s.texts.items s.marks c.args.self.now s.rows.items c.args.i row c.self.view_is c.requires c.index-row.ensures)).fits
 
 pub of_text-requires : goal.of_text-requires
 of_text-requires c =
@@ -23,13 +24,13 @@ of_text-requires c =
     let row = c.index-row.result.now in
     let text : c.text_at.result.now ≡ text_in s.texts.items row = c.text_at.ensures ∙ ap (λ t. text_in t row) c.as_slice.ensures.value in
     subst IsNormal (sym text)
-    (within_at s.texts.items s.labels s.rows.items c.args.i row c.self.invariant.within (row_read s.texts.items s.labels c.args.self.now s.rows.items c.args.i row c.self.view_is c.requires c.index-row.ensures)).normal
+    (within_at s.texts.items s.marks s.rows.items c.args.i row c.self.invariant.within (row_read s.texts.items s.marks c.args.self.now s.rows.items c.args.i row c.self.view_is c.requires c.index-row.ensures)).normal
 
 pub returns : goal.returns
 returns c =
     let s = c.self.inside in
     let row = c.index-row.result.now in
     let text : c.text_at.result.now ≡ text_in s.texts.items row = c.text_at.ensures ∙ ap (λ t. text_in t row) c.as_slice.ensures.value in
-    entry_is s.texts.items s.labels c.args.self.now s.rows.items c.args.i row c.get.result.now c.text_at.result.now _ c.self.view_is
-    (row_read s.texts.items s.labels c.args.self.now s.rows.items c.args.i row c.self.view_is c.requires c.index-row.ensures)
-    c.get.ensures text c.of_text.ensures
+    entry_is s.texts.items s.marks c.args.self.now s.rows.items c.args.i row (mark_of c.get-device.result.0 c.get-device.result.1.now) c.text_at.result.now _ c.self.view_is
+    (row_read s.texts.items s.marks c.args.self.now s.rows.items c.args.i row c.self.view_is c.requires c.index-row.ensures)
+    c.get-device.ensures text c.of_text.ensures
