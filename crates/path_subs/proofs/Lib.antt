@@ -2,3 +2,4 @@ pub mod PlainPaths
 pub mod Covering
 pub mod NamesAt
 pub mod SubsMeant
+pub mod ListedLemmas

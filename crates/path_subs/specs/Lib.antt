@@ -1,3 +1,4 @@
+pub mod Listed
 pub mod SubGrammar
 pub mod SubLines
 pub mod Subs

@@ -4,9 +4,9 @@ ghost use Rattle.label_base.specs.Path.{at_or_below, same_bytes, strictly_below}
 ghost use Rattle.label_base.specs.PathRef.{path_of};
 ghost use Rattle.path_subs.specs.Subs.{by_last, by_sub, covering, has_below};
 
-use crate::stage::last_cover;
 use crate::sub::Sub;
-use label_base::{PathRef, Row};
+use crate::sub_list::SubList;
+use label_base::PathRef;
 
 fn is_strictly_below(path: &PathRef<'_>, top: &PathRef<'_>) -> bool
     ensures { result ≡ strictly_below (path_of path.now) (path_of top.now) }
@@ -15,10 +15,13 @@ fn is_strictly_below(path: &PathRef<'_>, top: &PathRef<'_>) -> bool
 }
 
 /// Whether the source of some line lies strictly below the path.
-pub fn has_source_below(subs: &Row<Sub>, path: &PathRef<'_>) -> bool
+pub fn has_source_below(subs: &SubList, path: &PathRef<'_>) -> bool
     ensures { result ≡ has_below subs.now (path_of path.now) }
 {
-    subs.as_slice().iter().any(|sub| is_source_below(sub, path))
+    subs.lines()
+        .as_slice()
+        .iter()
+        .any(|sub| is_source_below(sub, path))
 }
 
 fn is_source_below(sub: &Sub, path: &PathRef<'_>) -> bool
@@ -73,20 +76,21 @@ fn is_longer(path: &PathRef<'_>, other: &PathRef<'_>, sub: &Sub) -> bool
 }
 
 /// Whether the source of some line lies strictly below what the lines of the first stage make of the path.
-pub fn has_source_below_first(subs: &Row<Sub>, first: &Row<Sub>, path: &PathRef<'_>) -> bool
+pub fn has_source_below_first(subs: &SubList, first: &SubList, path: &PathRef<'_>) -> bool
     ensures { result ≡ has_below subs.now (by_last first.now (path_of path.now)) }
 {
-    match last_cover(first, path) {
+    match first.last_cover(path) {
         None => has_source_below(subs, path),
         Some(sub) => has_source_below_replaced(subs, path, sub),
     }
 }
 
 // Whether the source of some line lies strictly below what another line makes of the path.
-fn has_source_below_replaced(subs: &Row<Sub>, path: &PathRef<'_>, sub: &Sub) -> bool
+fn has_source_below_replaced(subs: &SubList, path: &PathRef<'_>, sub: &Sub) -> bool
     ensures { result ≡ has_below subs.now (by_sub (path_of path.now) (Some sub.now)) }
 {
-    subs.as_slice()
+    subs.lines()
+        .as_slice()
         .iter()
         .any(|other| is_source_below_replaced(other, path, sub))
 }

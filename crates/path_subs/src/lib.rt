@@ -8,11 +8,13 @@ mod reading;
 mod stage;
 mod sub;
 mod sub_fault;
+mod sub_list;
 mod subs;
 
 pub use reading::{read_subs, subs_follow_grammar};
 pub use sub::Sub;
 pub use sub_fault::{NoSub, SubFault};
+pub use sub_list::SubList;
 pub use subs::Subs;
 
 #[cfg(test)]

@@ -6,17 +6,17 @@ ghost use Rattle.path_subs.specs.Subs.{KeepsBelow, covers, has_below, is_covered
 
 use crate::below::{has_source_below, has_source_below_first};
 use crate::stage::stage;
-use crate::sub::Sub;
-use label_base::{NormPath, OutOfMemory, PathRef, Row};
+use crate::sub_list::SubList;
+use label_base::{NormPath, OutOfMemory, PathRef};
 use std::alloc::Global;
 
 /// The substitutions of a policy. Each stage is applied at most once.
 #[derive(Debug, Drop)]
 pub struct Subs {
     /// The lines of file_contexts.subs.
-    pub first: Row<Sub>,
+    pub first: SubList,
     /// The lines of file_contexts.subs_dist, which change what the first stage gives.
-    pub second: Row<Sub>,
+    pub second: SubList,
 }
 
 fn copy_of(alloc: Global, path: &PathRef<'_>) -> Result<NormPath, OutOfMemory>

@@ -2,6 +2,7 @@ ghost use Rattle.std.specs.Prelude.{◌<◌, ◌^◌, length};
 
 use crate::reading::{read_subs, subs_follow_grammar};
 use crate::sub_fault::{NoSub, SubFault};
+use crate::sub_list::SubList;
 use crate::subs::Subs;
 use label_base::{Fault, NormPath, RefusedLine};
 use std::test::Fail;
@@ -11,8 +12,8 @@ fn subs_of(rt: &HostRuntime, first: &[u8], second: &[u8]) -> Result<Subs, SubFau
     requires second { length second.now < 2 ^ 32 }
 {
     Ok(Subs {
-        first: read_subs(rt.alloc(), first)?,
-        second: read_subs(rt.alloc(), second)?,
+        first: SubList::new(rt.alloc(), read_subs(rt.alloc(), first)?)?,
+        second: SubList::new(rt.alloc(), read_subs(rt.alloc(), second)?)?,
     })
 }
 

@@ -1,0 +1,288 @@
+-- The last line that covers a path, by the texts of the path's fronts.
+use Rattle.std.proofs.Common.{◌≡◌, ◌∙◌, ap, ap₂, sym, refl, subst, ℕ, zero, suc, ◌+◌, ◌<◌, ◌≤◌, Bool, true, false, cond, List, [], ◌∷◌, ◌++◌, length, take, drop, get_or, arith, add-one, length-append, ◌⊎◌, inl, inr}
+use Rattle.std.specs.Prelude.{Option, Some, None, IfSome, ◌&&◌, ◌||◌, nat_le, nat_lt, filter, slice_get, min}
+use Rattle.std.specs.List.{last_or, flat_map}
+use Rattle.std.specs.Option.{option_map}
+use Rattle.std.specs.Cmp.Lexicographic.{nat_list_eq_equiv, pointwise}
+use Rattle.std.proofs.lemmas.Bool.{cases_lt, true≢false}
+use Rattle.std.proofs.lemmas.Bool.Decides.{nat_tests}
+use Rattle.std.proofs.lemmas.Slice.Eq.{bytes_eq-Decides}
+use Rattle.indexmap.specs.IndexMap.{insert_entry}
+use Rattle.std.proofs.lemmas.List.Concat.{flat_map-append}
+use Rattle.std.proofs.lemmas.List.{take_more, take-append-drop, take_all}
+use Rattle.std.proofs.lemmas.Option.{get_or_from_slice_get, slice_get-get_or, slice_get_within}
+use Rattle.std.proofs.Math.Seq.{take-append_seam}
+use Rattle.std.specs.declared.vec.Vec.{Vec}
+use Rattle.label_base.specs.Bounded.{greatest_below, last_or_found}
+use Rattle.label_base.specs.Path.{Path, are_names, at_or_below, is_name, path_text, same_bytes, with_slashes}
+use Rattle.label_base.proofs.BoundedLemmas.{greatest_none}
+use Rattle.label_base.proofs.PathTexts.{same_texts}
+use Rattle.label_base.proofs.PathLemmas.{text_pushed}
+use Rattle.path_subs.specs.Listed.{IsListed, covers_to, greater, has_text, last_covering, last_with, number_under, sub_at, no_sub}
+use Rattle.path_subs.specs.Subs.{SubValue, covering, covers, is_root}
+use Rattle.path_subs.proofs.Covering.{last_found, last_passed}
+
+-- ---- numbers below a bound
+
+greatest_agree : (n : ℕ) (p q : ℕ → Bool) → ((k : ℕ) → k < n → p k ≡ q k) → greatest_below n p ≡ greatest_below n q
+greatest_agree zero p q h = refl
+greatest_agree (suc n) p q h = ap₂ (λ o b. last_or_found o n b) (greatest_agree n p q (λ k l. h k (omega (arith, l)))) (h n (omega arith))
+
+if_some_more : (n : ℕ) (o : Option ℕ) → IfSome o (λ k. k < n) → IfSome o (λ k. k < suc n)
+if_some_more n None h = tt
+if_some_more n (Some k) h = omega (arith, h)
+
+bound_case : (n : ℕ) (o : Option ℕ) (b : Bool) → IfSome o (λ k. k < n) → IfSome (last_or_found o n b) (λ k. k < suc n)
+bound_case n o true h = omega arith
+bound_case n o false h = if_some_more n o h
+
+greatest_bound : (n : ℕ) (p : ℕ → Bool) → IfSome (greatest_below n p) (λ k. k < n)
+greatest_bound zero p = tt
+greatest_bound (suc n) p = bound_case n (greatest_below n p) (p n) (greatest_bound n p)
+
+is_less : (a b : ℕ) → a < b → nat_lt a b ≡ true
+is_less a b h = grind (arith, nat_tests)
+
+not_less : (a b : ℕ) → b ≤ a → nat_lt a b ≡ false
+not_less a b h = grind (arith, nat_tests)
+
+greater_case : (n : ℕ) (a b : Option ℕ) (p q : Bool) → IfSome a (λ k. k < n) → IfSome b (λ k. k < n)
+    → greater (last_or_found a n p) (last_or_found b n q) ≡ last_or_found (greater a b) n (p || q)
+greater_case n a b false false h k = refl
+greater_case n a b true true h k = ap (λ t. cond t (Some n) (Some n)) (not_less n n (omega arith))
+greater_case n a None true false h k = refl
+greater_case n a (Some j) true false h k = ap (λ t. cond t (Some j) (Some n)) (not_less n j (omega (arith, k)))
+greater_case n None b false true h k = refl
+greater_case n (Some i) b false true h k = ap (λ t. cond t (Some n) (Some i)) (is_less i n h)
+
+-- the greater of two is the greatest that passes either test
+greater_below : (n : ℕ) (p q : ℕ → Bool) → greater (greatest_below n p) (greatest_below n q) ≡ greatest_below n (λ i. p i || q i)
+greater_below zero p q = refl
+greater_below (suc n) p q =
+    greater_case n (greatest_below n p) (greatest_below n q) (p n) (q n) (greatest_bound n p) (greatest_bound n q)
+    ∙ ap (λ o. last_or_found o n (p n || q n)) (greater_below n p q)
+
+-- ---- fronts of a path
+
+le_zero : (n d : ℕ) → nat_le (suc n) zero ≡ false
+le_zero n d = grind (arith, nat_tests)
+
+le_suc : (m n : ℕ) → nat_le (suc m) (suc n) ≡ nat_le m n
+le_suc m n = grind (arith, nat_tests)
+
+le_none : (n : ℕ) → nat_le 0 n ≡ true
+le_none n = grind (arith, nat_tests)
+
+le_two : (n : ℕ) → nat_le (suc (suc n)) 1 ≡ false
+le_two n = grind (arith, nat_tests)
+
+le_one : nat_le 1 1 ≡ true
+le_one = grind (arith, nat_tests)
+
+and_case : (s a b c pw : Bool) → ((a && b) ≡ ((a && c) || pw)) → ((s && a) && b) ≡ (((s && a) && c) || (s && pw))
+and_case true a b c pw h = h
+and_case false a b c pw h = refl
+
+and_end : (s : Bool) → ((s && true) && true) ≡ (((s && true) && false) || (s && true))
+and_end true = refl
+and_end false = refl
+
+and_past : (a s : Bool) → (a && false) ≡ ((a && false) || (s && false))
+and_past true true = refl
+and_past true false = refl
+and_past false true = refl
+and_past false false = refl
+
+-- a source with one name more is the front of so many names
+front_case : (path source : Path) (d : ℕ) → d < length path
+    → (at_or_below path source && nat_le (length source) (suc d)) ≡ ((at_or_below path source && nat_le (length source) d) || pointwise same_bytes (take (suc d) path) source)
+front_case [] source d l = absurd (omega (arith, l))
+front_case (x ∷ xs) [] d l = rw (le_none (suc d), le_none d) refl
+front_case (x ∷ xs) (y ∷ []) zero l = rw (le_one, le_zero 0 0, nat_list_eq_equiv.symm y x) (and_end (same_bytes x y))
+front_case (x ∷ xs) (y ∷ z ∷ zs) zero l = rw (le_two (length zs), le_zero (suc (length zs)) 0) (and_past (same_bytes y x && at_or_below xs (z ∷ zs)) (same_bytes x y))
+front_case (x ∷ xs) (y ∷ ys) (suc d) l =
+    rw (le_suc (length ys) (suc d), le_suc (length ys) d, nat_list_eq_equiv.symm y x)
+    (and_case (same_bytes x y) (at_or_below xs ys) (nat_le (length ys) (suc d)) (nat_le (length ys) d) (pointwise same_bytes (take (suc d) xs) ys) (front_case xs ys d (omega (arith, l))))
+
+second_true : (a b : Bool) → (a && b) ≡ true → b ≡ true
+second_true true b h = h
+second_true false b h = cc
+
+both_true : (a b c : Bool) → (a && b) ≡ true → (b ≡ true → c ≡ true) → (a && c) ≡ true
+both_true true b c h f = f h
+both_true false b c h f = cc
+
+and_past_right : (a b : Bool) → b ≡ false → (a && b) ≡ false
+and_past_right true b e = e
+and_past_right false b e = refl
+
+names_taken : (path : Path) (k : ℕ) → are_names path ≡ true → are_names (take k path) ≡ true
+names_taken path zero h = refl
+names_taken [] (suc k) h = refl
+names_taken (x ∷ xs) (suc k) h = both_true (is_name x) (are_names xs) (are_names (take k xs)) h (names_taken xs k)
+
+shorter : (xs ys : Path) → at_or_below xs ys ≡ true → length ys ≤ length xs
+shorter xs [] h = omega arith
+shorter [] (y ∷ ys) h = cc
+shorter (x ∷ xs) (y ∷ ys) h = let s = shorter xs ys (second_true (same_bytes y x) (at_or_below xs ys) h) in omega (arith, s)
+
+-- the line covers the path and has at most one name more: it had at most so many, or it has the front's text
+covers_more : (path : Path) (d : ℕ) (sub : SubValue) → are_names path ≡ true → are_names sub.source ≡ true → d < length path
+    → (covers_to path d sub || has_text (with_slashes (take (d + 1) path)) sub) ≡ covers_to path (d + 1) sub
+covers_more path d sub named own l =
+    rw add-one
+    (ap (λ b. covers_to path d sub || b) (sym (same_texts (take (suc d) path) sub.source (names_taken path (suc d) named) own))
+    ∙ sym (front_case path sub.source d l))
+
+module _ {A : Type 0} (subs : List SubValue) (entries : List (Vec ℕ A × ℕ)) (deepest : ℕ) (listed : IsListed subs (length subs) entries deepest) (path : Path) (named : are_names path ≡ true) where
+  no_names : (sub : SubValue) → 0 < length sub.source → covers_to path 0 sub ≡ false
+  no_names sub h = and_past_right (covers path sub) (nat_le (length sub.source) 0) (grind (arith, nat_tests))
+
+  -- no name is looked at
+  pub found_none : None ≡ greatest_below (length subs) (λ i. covers_to path 0 (sub_at subs i))
+  found_none = sym (greatest_none (length subs) (λ i. covers_to path 0 (sub_at subs i)) (λ i l. no_names (sub_at subs i) (listed.some i l)))
+
+  -- one name more
+  pub found_next : (d : ℕ) (found number : Option ℕ) (front : List ℕ) → d < length path → front ≡ with_slashes (take (d + 1) path)
+      → found ≡ greatest_below (length subs) (λ i. covers_to path d (sub_at subs i)) → number ≡ number_under front entries
+      → greater found number ≡ greatest_below (length subs) (λ i. covers_to path (d + 1) (sub_at subs i))
+  found_next d found number front l e h k =
+      ap₂ greater h (k ∙ listed.last front ∙ ap (last_with subs (length subs)) e)
+      ∙ greater_below (length subs) (λ i. covers_to path d (sub_at subs i)) (λ i. has_text (with_slashes (take (d + 1) path)) (sub_at subs i))
+      ∙ greatest_agree (length subs) (λ i. covers_to path d (sub_at subs i) || has_text (with_slashes (take (d + 1) path)) (sub_at subs i)) (λ i. covers_to path (d + 1) (sub_at subs i))
+      (λ i m. covers_more path d (sub_at subs i) named (listed.named i m) l)
+
+  whole : (most i : ℕ) (b : Bool) → most ≡ min (length path) deepest → i < length subs → covers path (sub_at subs i) ≡ b → covers_to path most (sub_at subs i) ≡ covers path (sub_at subs i)
+  whole most i false m l e = ap (λ b. b && nat_le (length (sub_at subs i).source) most) e ∙ sym e
+  whole most i true m l e =
+      let low : length (sub_at subs i).source ≤ most = omega (arith, m, shorter path (sub_at subs i).source e, listed.shallow i l) in
+      let le : nat_le (length (sub_at subs i).source) most ≡ true = grind (arith, nat_tests) in
+      (λ j. e j && le j) ∙ sym e
+
+  -- as many names as could serve
+  pub found_all : (most : ℕ) (found : Option ℕ) → most ≡ min (length path) deepest → found ≡ greatest_below (length subs) (λ i. covers_to path most (sub_at subs i)) → found ≡ last_covering subs path
+  found_all most found m h = h ∙ greatest_agree (length subs) (λ i. covers_to path most (sub_at subs i)) (λ i. covers path (sub_at subs i)) (λ i l. whole most i (covers path (sub_at subs i)) m l refl)
+
+-- ---- the texts of the fronts
+
+slashes_append : (a b : Path) → with_slashes (a ++ b) ≡ with_slashes a ++ with_slashes b
+slashes_append a b = flat_map-append (λ name. 47 ∷ name) a b
+
+slashes_split : (path : Path) (k : ℕ) → with_slashes path ≡ with_slashes (take k path) ++ with_slashes (drop k path)
+slashes_split path k = ap with_slashes (sym (take-append-drop k path)) ∙ slashes_append (take k path) (drop k path)
+
+pub nonroot_text : (path : Path) → is_root path ≡ false → path_text path ≡ with_slashes path
+nonroot_text [] h = cc
+nonroot_text (x ∷ xs) h = refl
+
+text_is : (path : Path) (d : ℕ) → d < length path → path_text path ≡ with_slashes path
+text_is [] d l = absurd (omega (arith, l))
+text_is (x ∷ xs) d l = refl
+
+next_front : (path : Path) (d : ℕ) (name : List ℕ) → slice_get path d ≡ Some name → with_slashes (take (d + 1) path) ≡ with_slashes (take d path) ++ 47 ∷ name
+next_front path d name h =
+    let l = slice_get_within path d name h in
+    ap with_slashes (take_more path d name l ∙ ap (λ n. take d path ++ n ∷ []) (get_or_from_slice_get path d name name h))
+    ∙ text_pushed (take d path) name
+
+pub end_next : (path : Path) (d end : ℕ) (name : List ℕ) → slice_get path d ≡ Some name → end ≡ length (with_slashes (take d path)) → end + (1 + length name) ≡ length (with_slashes (take (d + 1) path))
+end_next path d end name h e = omega (arith, e, ap length (next_front path d name h), length-append (with_slashes (take d path)) (47 ∷ name))
+
+pub end_within : (path : Path) (d k end : ℕ) → d < length path → end ≡ length (with_slashes (take k path)) → end ≤ length (path_text path)
+end_within path d k end l e =
+    omega (arith, e, ap length (text_is path d l), ap length (slashes_split path k), length-append (with_slashes (take k path)) (with_slashes (drop k path)))
+
+pub front_is : (path : Path) (d k end : ℕ) (text : List ℕ) → d < length path → text ≡ path_text path → end ≡ length (with_slashes (take k path)) → take end text ≡ with_slashes (take k path)
+front_is path d k end text l t e =
+    (λ i. take (e i) ((t ∙ text_is path d l ∙ slashes_split path k) i)) ∙ take-append_seam (with_slashes (take k path)) (with_slashes (drop k path))
+
+-- ---- a line more
+
+last_case : (n i : ℕ) → i < suc n → (i < n) ⊎ (i ≡ n)
+last_case n i l = elim (cases_lt i n) [ inl lt ↦ inl lt | inr ge ↦ inr (omega (arith, ge, l)) ]
+
+under_case : (n : ℕ) (found : Option ℕ) (b : Bool) → cond b (Some n) found ≡ last_or_found found n b
+under_case n found true = refl
+under_case n found false = refl
+
+pub listed_more : {A : Type 0} (subs : List SubValue) (n deepest deeper : ℕ) (sub : SubValue) (entries new : List (Vec ℕ A × ℕ)) → slice_get subs n ≡ Some sub
+    → ((text : List ℕ) → number_under text new ≡ cond (has_text text sub) (Some n) (number_under text entries))
+    → 0 < length sub.source → are_names sub.source ≡ true → length sub.source ≤ deeper → deepest ≤ deeper
+    → IsListed subs n entries deepest → IsListed subs (n + 1) new deeper
+listed_more subs n deepest deeper sub entries new h under some named low high listed =
+    let own : sub_at subs n ≡ sub = get_or_from_slice_get subs n sub no_sub h in
+    rw add-one (record {
+      last = λ text. under text ∙ ap₂ (λ s o. cond (has_text text s) (Some n) o) (sym own) (listed.last text) ∙ under_case n (last_with subs n text) (has_text text (sub_at subs n));
+      some = λ i l. elim (last_case n i l) [ inl lt ↦ listed.some i lt | inr same ↦ subst (λ s. 0 < length s.source) (sym (ap (sub_at subs) same ∙ own)) some ];
+      named = λ i l. elim (last_case n i l) [ inl lt ↦ listed.named i lt | inr same ↦ ap (λ s. are_names s.source) (ap (sub_at subs) same ∙ own) ∙ named ];
+      shallow = λ i l. elim (last_case n i l) [ inl lt ↦ (let s = listed.shallow i lt in omega (arith, s, high)) | inr same ↦ subst (λ s. length s.source ≤ deeper) (sym (ap (sub_at subs) same ∙ own)) low ];
+    })
+
+-- a text under which a number is put
+under_here : (X : Option ℕ) (n m : ℕ) (b c : Bool) → b ≡ c → cond c (Some n) X ≡ cond b (Some n) (cond c (Some m) X)
+under_here X n m true true h = refl
+under_here X n m false false h = refl
+under_here X n m true false h = cc
+under_here X n m false true h = cc
+
+under_there : (X : Option ℕ) (n m : ℕ) (b c : Bool) → (b ≡ true → c ≡ true → ⊥) → cond c (Some m) (cond b (Some n) X) ≡ cond b (Some n) (cond c (Some m) X)
+under_there X n m true true h = absurd (h refl refl)
+under_there X n m false true h = refl
+under_there X n m true false h = refl
+under_there X n m false false h = refl
+
+same_text : (a b : List ℕ) → same_bytes a b ≡ true → a ≡ b
+same_text a b h = (bytes_eq-Decides a b).0 h
+
+under_by : {A : Type 0} (key : Vec ℕ A) (n : ℕ) (e : Vec ℕ A × ℕ) (es : List (Vec ℕ A × ℕ)) (text : List ℕ) (a : Bool) → same_bytes key.items e.0.items ≡ a
+    → number_under text (insert_entry (λ a b. same_bytes a.items b.items) es key n) ≡ cond (same_bytes text key.items) (Some n) (number_under text es)
+    → number_under text (cond a ((e.0, n) ∷ es) (e ∷ insert_entry (λ a b. same_bytes a.items b.items) es key n))
+    ≡ cond (same_bytes text key.items) (Some n) (cond (same_bytes text e.0.items) (Some e.1) (number_under text es))
+under_by key n e es text true h rest =
+    under_here (number_under text es) n e.1 (same_bytes text key.items) (same_bytes text e.0.items) (ap (same_bytes text) (same_text key.items e.0.items h))
+under_by key n e es text false h rest =
+    ap (λ o. cond (same_bytes text e.0.items) (Some e.1) o) rest
+    ∙ under_there (number_under text es) n e.1 (same_bytes text key.items) (same_bytes text e.0.items)
+    (λ b c. true≢false (sym ((bytes_eq-Decides key.items e.0.items).1 (sym (same_text text key.items b) ∙ same_text text e.0.items c)) ∙ h))
+
+pub under_more : {A : Type 0} (key : Vec ℕ A) (n : ℕ) (entries : List (Vec ℕ A × ℕ)) (text : List ℕ)
+    → number_under text (insert_entry (λ a b. same_bytes a.items b.items) entries key n) ≡ cond (same_bytes text key.items) (Some n) (number_under text entries)
+under_more key n [] text = refl
+under_more key n (e ∷ es) text = under_by key n e es text (same_bytes key.items e.0.items) refl (under_more key n es text)
+
+-- ---- the line with the index
+
+last_by : (subs : List SubValue) (path : Path) (n : ℕ) (b : Bool) → n < length subs → covers path (sub_at subs n) ≡ b
+    → last_or None (filter (covers path) (take n subs)) ≡ option_map (sub_at subs) (greatest_below n (λ i. covers path (sub_at subs i)))
+    → last_or None (filter (covers path) (take (suc n) subs)) ≡ option_map (sub_at subs) (last_or_found (greatest_below n (λ i. covers path (sub_at subs i))) n b)
+last_by subs path n true l e h = last_found (covers path) subs n (suc n) (sub_at subs n) (omega arith) (slice_get-get_or subs n no_sub l) e
+last_by subs path n false l e h = last_passed (covers path) subs n (suc n) (sub_at subs n) (omega arith) (slice_get-get_or subs n no_sub l) e ∙ h
+
+take_last : (subs : List SubValue) (path : Path) (n : ℕ) → n ≤ length subs → last_or None (filter (covers path) (take n subs)) ≡ option_map (sub_at subs) (greatest_below n (λ i. covers path (sub_at subs i)))
+take_last subs path zero l = refl
+take_last subs path (suc n) l = last_by subs path n (covers path (sub_at subs n)) (omega (arith, l)) refl (take_last subs path n (omega (arith, l)))
+
+pub covering_is : (subs : List SubValue) (path : Path) → covering subs path ≡ option_map (sub_at subs) (last_covering subs path)
+covering_is subs path = ap (λ s. last_or None (filter (covers path) s)) (sym (take_all (length subs) subs (omega arith))) ∙ take_last subs path (length subs) (omega arith)
+
+pub covering_none : (subs : List SubValue) (path : Path) → None ≡ last_covering subs path → covering subs path ≡ None
+covering_none subs path h = covering_is subs path ∙ ap (option_map (sub_at subs)) (sym h)
+
+pub covering_some : (subs : List SubValue) (path : Path) (i : ℕ) (sub : SubValue) → slice_get subs i ≡ Some sub → Some i ≡ last_covering subs path → covering subs path ≡ Some sub
+covering_some subs path i sub g h = covering_is subs path ∙ ap (option_map (sub_at subs)) (sym h) ∙ ap Some (get_or_from_slice_get subs i sub no_sub g)
+
+pub index_within : (subs : List SubValue) (path : Path) (i : ℕ) → Some i ≡ last_covering subs path → i < length subs
+index_within subs path i h = subst (λ o. IfSome o (λ k. k < length subs)) (sym h) (greatest_bound (length subs) (λ i. covers path (sub_at subs i)))
+
+passes_case : (n : ℕ) (p : ℕ → Bool) (o : Option ℕ) (b : Bool) → p n ≡ b → IfSome o (λ k. p k ≡ true) → IfSome (last_or_found o n b) (λ k. p k ≡ true)
+passes_case n p o true e h = e
+passes_case n p o false e h = h
+
+greatest_passes : (n : ℕ) (p : ℕ → Bool) → IfSome (greatest_below n p) (λ k. p k ≡ true)
+greatest_passes zero p = tt
+greatest_passes (suc n) p = passes_case n p (greatest_below n p) (p n) refl (greatest_passes n p)
+
+pub covered_by : (subs : List SubValue) (path : Path) (i : ℕ) (sub : SubValue) → slice_get subs i ≡ Some sub → Some i ≡ last_covering subs path → covers path sub ≡ true
+covered_by subs path i sub g h =
+    let own : covers path (sub_at subs i) ≡ true = subst (λ o. IfSome o (λ k. covers path (sub_at subs k) ≡ true)) (sym h) (greatest_passes (length subs) (λ i. covers path (sub_at subs i))) in
+    ap (covers path) (sym (get_or_from_slice_get subs i sub no_sub g)) ∙ own
