@@ -1,0 +1,298 @@
+-- Candidates by the greatest of those that are left.
+use Rattle.std.proofs.Common.{◌≡◌, ◌∙◌, ap, ap₂, sym, refl, subst, ℕ, zero, suc, ◌+◌, ◌<◌, ◌≤◌, ◌^◌, ◌-◌, Bool, true, false, cond, ◌==◌, List, [], ◌∷◌, ◌++◌, length, get_or, arith, length-append, ◌⊎◌, inl, inr}
+use Rattle.std.specs.Prelude.{Option, Some, None, IfSome, ◌&&◌, ◌||◌, not, nat_lt}
+use Rattle.std.proofs.lemmas.Bool.{cases_lt, eqb-true, true≢false}
+use Rattle.std.proofs.lemmas.Bool.Decides.{nat_tests}
+use Rattle.std.proofs.lemmas.List.{get_or_append_left}
+use Rattle.std.proofs.Math.Seq.{get_or-append_seam}
+use Rattle.std.proofs.lemmas.Slice.Eq.{bytes_eq-Decides}
+use Rattle.std.specs.declared.vec.Vec.{Vec}
+use Rattle.indexmap.specs.IndexMap.{insert_entry}
+use Rattle.label_base.specs.Bounded.{greatest_below, last_or_found}
+use Rattle.label_base.specs.Path.{same_bytes}
+use Rattle.label_base.proofs.BoundedLemmas.{greatest_none}
+use Rattle.stem_index.specs.Kept.{AreHeads, IsKept, greater, last_with, number_under}
+use Rattle.stem_index.specs.Stems.{candidates_below, fits, is_none, is_stem, stem_at}
+
+-- ---- numbers below a bound
+
+greatest_agree : (n : ℕ) (p q : ℕ → Bool) → ((k : ℕ) → k < n → p k ≡ q k) → greatest_below n p ≡ greatest_below n q
+greatest_agree zero p q h = refl
+greatest_agree (suc n) p q h = ap₂ (λ o b. last_or_found o n b) (greatest_agree n p q (λ k l. h k (omega (arith, l)))) (h n (omega arith))
+
+if_some_more : (n : ℕ) (o : Option ℕ) → IfSome o (λ k. k < n) → IfSome o (λ k. k < suc n)
+if_some_more n None h = tt
+if_some_more n (Some k) h = omega (arith, h)
+
+bound_case : (n : ℕ) (o : Option ℕ) (b : Bool) → IfSome o (λ k. k < n) → IfSome (last_or_found o n b) (λ k. k < suc n)
+bound_case n o true h = omega arith
+bound_case n o false h = if_some_more n o h
+
+greatest_bound : (n : ℕ) (p : ℕ → Bool) → IfSome (greatest_below n p) (λ k. k < n)
+greatest_bound zero p = tt
+greatest_bound (suc n) p = bound_case n (greatest_below n p) (p n) (greatest_bound n p)
+
+is_less : (a b : ℕ) → a < b → nat_lt a b ≡ true
+is_less a b h = grind (arith, nat_tests)
+
+not_less : (a b : ℕ) → b ≤ a → nat_lt a b ≡ false
+not_less a b h = grind (arith, nat_tests)
+
+greater_case : (n : ℕ) (a b : Option ℕ) (p q : Bool) → IfSome a (λ k. k < n) → IfSome b (λ k. k < n)
+    → greater (last_or_found a n p) (last_or_found b n q) ≡ last_or_found (greater a b) n (p || q)
+greater_case n a b false false h k = refl
+greater_case n a b true true h k = ap (λ t. cond t (Some n) (Some n)) (not_less n n (omega arith))
+greater_case n a None true false h k = refl
+greater_case n a (Some j) true false h k = ap (λ t. cond t (Some j) (Some n)) (not_less n j (omega (arith, k)))
+greater_case n None b false true h k = refl
+greater_case n (Some i) b false true h k = ap (λ t. cond t (Some n) (Some i)) (is_less i n h)
+
+-- the greater of two is the greatest that passes either test
+greater_below : (n : ℕ) (p q : ℕ → Bool) → greater (greatest_below n p) (greatest_below n q) ≡ greatest_below n (λ i. p i || q i)
+greater_below zero p q = refl
+greater_below (suc n) p q =
+    greater_case n (greatest_below n p) (greatest_below n q) (p n) (q n) (greatest_bound n p) (greatest_bound n q)
+    ∙ ap (λ o. last_or_found o n (p n || q n)) (greater_below n p q)
+
+passes_case : (n : ℕ) (p : ℕ → Bool) (o : Option ℕ) (b : Bool) → p n ≡ b → IfSome o (λ k. p k ≡ true) → IfSome (last_or_found o n b) (λ k. p k ≡ true)
+passes_case n p o true e h = e
+passes_case n p o false e h = h
+
+greatest_passes : (n : ℕ) (p : ℕ → Bool) → IfSome (greatest_below n p) (λ k. p k ≡ true)
+greatest_passes zero p = tt
+greatest_passes (suc n) p = passes_case n p (greatest_below n p) (p n) refl (greatest_passes n p)
+
+last_case : (n i : ℕ) → i < suc n → (i < n) ⊎ (i ≡ n)
+last_case n i l = elim (cases_lt i n) [ inl lt ↦ inl lt | inr ge ↦ inr (omega (arith, ge, l)) ]
+
+above_case : (n : ℕ) (p : ℕ → Bool) (o : Option ℕ) (b : Bool) → p n ≡ b → IfSome o (λ k. (j : ℕ) → k < j → j < n → p j ≡ false)
+    → IfSome (last_or_found o n b) (λ k. (j : ℕ) → k < j → j < suc n → p j ≡ false)
+above_case n p o true e h = λ j a b. absurd (omega (arith, a, b))
+above_case n p None false e h = tt
+above_case n p (Some k) false e h = λ j a b. elim (last_case n j b) [ inl lt ↦ h j a lt | inr same ↦ subst (λ i. p i ≡ false) (sym same) e ]
+
+greatest_above : (n : ℕ) (p : ℕ → Bool) → IfSome (greatest_below n p) (λ k. (j : ℕ) → k < j → j < n → p j ≡ false)
+greatest_above zero p = tt
+greatest_above (suc n) p = above_case n p (greatest_below n p) (p n) refl (greatest_above n p)
+
+-- none passes from a place on
+greatest_shrinks : (n k : ℕ) (p : ℕ → Bool) → k ≤ n → ((j : ℕ) → k ≤ j → j < n → p j ≡ false) → greatest_below n p ≡ greatest_below k p
+greatest_shrinks zero k p l h = let same : zero ≡ k = omega (arith, l) in ap (λ m. greatest_below m p) same
+greatest_shrinks (suc n) k p l h = elim (cases_lt n k) [
+  | inl lt ↦ (let same : suc n ≡ k = omega (arith, l, lt) in ap (λ m. greatest_below m p) same)
+  | inr ge ↦ ap (λ b. last_or_found (greatest_below n p) n b) (h n ge (omega arith)) ∙ greatest_shrinks n k p ge (λ j a b. h j a (omega (arith, b)))
+]
+
+-- ---- candidates
+
+abbrev from_found : List (List ℕ) → List ℕ → Option ℕ → List ℕ
+from_found stems name None = []
+from_found stems name (Some k) = k ∷ candidates_below stems k name
+
+found_case : (stems : List (List ℕ)) (name : List ℕ) (n : ℕ) (o : Option ℕ) (b : Bool) → candidates_below stems n name ≡ from_found stems name o
+    → cond b (n ∷ candidates_below stems n name) (candidates_below stems n name) ≡ from_found stems name (last_or_found o n b)
+found_case stems name n o true h = refl
+found_case stems name n o false h = h
+
+by_greatest : (stems : List (List ℕ)) (name : List ℕ) (n : ℕ) → candidates_below stems n name ≡ from_found stems name (greatest_below n (λ i. fits name (stem_at stems i)))
+by_greatest stems name zero = refl
+by_greatest stems name (suc n) = found_case stems name n (greatest_below n (λ i. fits name (stem_at stems i))) (fits name (stem_at stems n)) (by_greatest stems name n)
+
+or_first : (a b : Bool) → (a || b) ≡ false → a ≡ false
+or_first true b h = cc
+or_first false b h = refl
+
+or_second : (a b : Bool) → (a || b) ≡ false → b ≡ false
+or_second true b h = cc
+or_second false b h = h
+
+module _ (stems : List (List ℕ)) (name : List ℕ) (bound : ℕ) (free own : Option ℕ) (heads : AreHeads stems name bound free own) where
+  greatest_is : greater free own ≡ greatest_below bound (λ i. fits name (stem_at stems i))
+  greatest_is = ap₂ greater heads.free_is heads.own_is ∙ greater_below bound (λ i. is_none (stem_at stems i)) (λ i. is_stem name (stem_at stems i))
+
+  pub none_left : greater free own ≡ None → candidates_below stems bound name ≡ []
+  none_left h = by_greatest stems name bound ∙ ap (from_found stems name) (sym greatest_is ∙ h)
+
+  pub one_left : (k : ℕ) → greater free own ≡ Some k → candidates_below stems bound name ≡ k ∷ candidates_below stems k name
+  one_left k h = by_greatest stems name bound ∙ ap (from_found stems name) (sym greatest_is ∙ h)
+
+  pub within : (k : ℕ) → greater free own ≡ Some k → k < bound
+  within k h = subst (λ o. IfSome o (λ k. k < bound)) (sym greatest_is ∙ h) (greatest_bound bound (λ i. fits name (stem_at stems i)))
+
+  module _ (k : ℕ) (found : greater free own ≡ Some k) where
+    fits_it : fits name (stem_at stems k) ≡ true
+    fits_it = subst (λ o. IfSome o (λ k. fits name (stem_at stems k) ≡ true)) (sym greatest_is ∙ found) (greatest_passes bound (λ i. fits name (stem_at stems i)))
+
+    none_above : (j : ℕ) → k < j → j < bound → fits name (stem_at stems j) ≡ false
+    none_above = subst (λ o. IfSome o (λ k. (j : ℕ) → k < j → j < bound → fits name (stem_at stems j) ≡ false)) (sym greatest_is ∙ found) (greatest_above bound (λ i. fits name (stem_at stems i)))
+
+    from_k : (p : ℕ → Bool) → p k ≡ false → ((j : ℕ) → k < j → j < bound → p j ≡ false) → (j : ℕ) → k ≤ j → j < bound → p j ≡ false
+    from_k p here above j a b = elim (cases_lt k j) [
+      | inl lt ↦ above j lt b
+      | inr ge ↦ (let same : k ≡ j = omega (arith, a, ge) in subst (λ i. p i ≡ false) same here)
+    ]
+
+    none_then_own : (s : List ℕ) → is_none s ≡ true → is_stem name s ≡ false
+    none_then_own s h = ap (λ b. not b && same_bytes name s) h
+
+    empty_is : (s : List ℕ) → is_none s ≡ true → s ≡ []
+    empty_is s h = sym ((bytes_eq-Decides [] s).0 h)
+
+    own_is : (s : List ℕ) → is_none s ≡ false → fits name s ≡ true → name ≡ s
+    own_is s h f = (bytes_eq-Decides name s).0 (sym (ap (λ b. b || (not b && same_bytes name s)) h) ∙ f)
+
+    same_own : (s t : List ℕ) → is_none s ≡ false → name ≡ s → same_bytes s t ≡ is_stem name t
+    same_own s t h e = own_by (is_none t) refl
+      where
+        own_by : (b : Bool) → is_none t ≡ b → same_bytes s t ≡ (not (is_none t) && same_bytes name t)
+        own_by false n = ap (λ x. same_bytes x t) (sym e) ∙ sym (ap (λ b. not b && same_bytes name t) n)
+        own_by true n = differs (same_bytes s t) refl ∙ sym (ap (λ b. not b && same_bytes name t) n)
+          where
+            differs : (b : Bool) → same_bytes s t ≡ b → same_bytes s t ≡ false
+            differs false d = d
+            differs true d = absurd (true≢false (sym (ap (same_bytes []) ((bytes_eq-Decides s t).0 d) ∙ n) ∙ h))
+
+    pub below_none : (before : Option ℕ) → is_none (stem_at stems k) ≡ true → before ≡ last_with stems k (stem_at stems k) → AreHeads stems name k before own
+    below_none before h e = record {
+      within = omega (arith, heads.within, within k found);
+      free_is = e ∙ ap (last_with stems k) (empty_is (stem_at stems k) h);
+      own_is = heads.own_is ∙ greatest_shrinks bound k (λ i. is_stem name (stem_at stems i)) (omega (arith, within k found))
+          (from_k (λ i. is_stem name (stem_at stems i)) (none_then_own (stem_at stems k) h) (λ j a b. or_second (is_none (stem_at stems j)) (is_stem name (stem_at stems j)) (none_above j a b)));
+    }
+
+    pub below_own : (before : Option ℕ) → is_none (stem_at stems k) ≡ false → before ≡ last_with stems k (stem_at stems k) → AreHeads stems name k free before
+    below_own before h e = record {
+      within = omega (arith, heads.within, within k found);
+      free_is = heads.free_is ∙ greatest_shrinks bound k (λ i. is_none (stem_at stems i)) (omega (arith, within k found))
+          (from_k (λ i. is_none (stem_at stems i)) h (λ j a b. or_first (is_none (stem_at stems j)) (is_stem name (stem_at stems j)) (none_above j a b)));
+      own_is = e ∙ greatest_agree k (λ i. same_bytes (stem_at stems k) (stem_at stems i)) (λ i. is_stem name (stem_at stems i))
+          (λ j l. same_own (stem_at stems k) (stem_at stems j) h (own_is (stem_at stems k) h fits_it));
+    }
+
+-- ---- a text more
+
+under_case : (n : ℕ) (found : Option ℕ) (b : Bool) → cond b (Some n) found ≡ last_or_found found n b
+under_case n found true = refl
+under_case n found false = refl
+
+-- a text under which a number is put
+under_here : (X : Option ℕ) (n m : ℕ) (b c : Bool) → b ≡ c → cond c (Some n) X ≡ cond b (Some n) (cond c (Some m) X)
+under_here X n m true true h = refl
+under_here X n m false false h = refl
+under_here X n m true false h = cc
+under_here X n m false true h = cc
+
+under_there : (X : Option ℕ) (n m : ℕ) (b c : Bool) → (b ≡ true → c ≡ true → ⊥) → cond c (Some m) (cond b (Some n) X) ≡ cond b (Some n) (cond c (Some m) X)
+under_there X n m true true h = absurd (h refl refl)
+under_there X n m false true h = refl
+under_there X n m true false h = refl
+under_there X n m false false h = refl
+
+same_text : (a b : List ℕ) → same_bytes a b ≡ true → a ≡ b
+same_text a b h = (bytes_eq-Decides a b).0 h
+
+under_by : {A : Type 0} (key : Vec ℕ A) (n : ℕ) (e : Vec ℕ A × ℕ) (es : List (Vec ℕ A × ℕ)) (text : List ℕ) (a : Bool) → same_bytes key.items e.0.items ≡ a
+    → number_under text (insert_entry (λ a b. same_bytes a.items b.items) es key n) ≡ cond (same_bytes text key.items) (Some n) (number_under text es)
+    → number_under text (cond a ((e.0, n) ∷ es) (e ∷ insert_entry (λ a b. same_bytes a.items b.items) es key n))
+    ≡ cond (same_bytes text key.items) (Some n) (cond (same_bytes text e.0.items) (Some e.1) (number_under text es))
+under_by key n e es text true h rest =
+    under_here (number_under text es) n e.1 (same_bytes text key.items) (same_bytes text e.0.items) (ap (same_bytes text) (same_text key.items e.0.items h))
+under_by key n e es text false h rest =
+    ap (λ o. cond (same_bytes text e.0.items) (Some e.1) o) rest
+    ∙ under_there (number_under text es) n e.1 (same_bytes text key.items) (same_bytes text e.0.items)
+    (λ b c. true≢false (sym ((bytes_eq-Decides key.items e.0.items).1 (sym (same_text text key.items b) ∙ same_text text e.0.items c)) ∙ h))
+
+pub under_more : {A : Type 0} (key : Vec ℕ A) (n : ℕ) (entries : List (Vec ℕ A × ℕ)) (text : List ℕ)
+    → number_under text (insert_entry (λ a b. same_bytes a.items b.items) entries key n) ≡ cond (same_bytes text key.items) (Some n) (number_under text entries)
+under_more key n [] text = refl
+under_more key n (e ∷ es) text = under_by key n e es text (same_bytes key.items e.0.items) refl (under_more key n es text)
+
+module _ (stems : List (List ℕ)) (stem : List ℕ) where
+  abbrev more : List (List ℕ)
+  more = stems ++ stem ∷ []
+
+  at_before : (i : ℕ) → i < length stems → stem_at more i ≡ stem_at stems i
+  at_before i l = get_or_append_left stems (stem ∷ []) [] i l
+
+  at_end : stem_at more (length stems) ≡ stem
+  at_end = get_or-append_seam stems stem [] []
+
+  last_before : (i : ℕ) (s : List ℕ) → i ≤ length stems → last_with more i s ≡ last_with stems i s
+  last_before i s l = greatest_agree i (λ k. same_bytes s (stem_at more k)) (λ k. same_bytes s (stem_at stems k)) (λ k m. ap (same_bytes s) (at_before k (omega (arith, l, m))))
+
+  links_by : (before : List (Option ℕ)) (earlier : Option ℕ) (i : ℕ) → length before ≡ length stems → ((i : ℕ) → i < length stems → get_or before i None ≡ last_with stems i (stem_at stems i))
+      → earlier ≡ last_with stems (length stems) stem → (i < length stems) ⊎ (i ≡ length stems) → get_or (before ++ earlier ∷ []) i None ≡ last_with more i (stem_at more i)
+  links_by before earlier i n links e (inl lt) =
+      get_or_append_left before (earlier ∷ []) None i (omega (arith, n, lt)) ∙ links i lt ∙ ap (last_with stems i) (sym (at_before i lt)) ∙ sym (last_before i (stem_at more i) (omega (arith, lt)))
+  links_by before earlier i n links e (inr same) =
+      (let own : length before ≡ i = omega (arith, n, same) in subst (λ k. get_or (before ++ earlier ∷ []) k None ≡ earlier) own (get_or-append_seam before earlier [] None))
+      ∙ e ∙ sym (last_before (length stems) stem (omega arith)) ∙ ap (last_with more (length stems)) (sym at_end) ∙ ap (λ k. last_with more k (stem_at more k)) (sym same)
+
+  pub kept_more : {A : Type 0} (key : Vec ℕ A) (entries new : List (Vec ℕ A × ℕ)) (before : List (Option ℕ)) (earlier : Option ℕ) → key.items ≡ stem
+      → new ≡ insert_entry (λ a b. same_bytes a.items b.items) entries key (length stems) → earlier ≡ number_under stem entries → length stems < 2 ^ 32 - 1
+      → IsKept stems entries before → IsKept more new (before ++ earlier ∷ [])
+  kept_more key entries new before earlier k e r few kept =
+      let count : length more ≡ suc (length stems) = omega (arith, length-append stems (stem ∷ [])) in
+      record {
+        last = λ s.
+            ap (number_under s) e ∙ under_more key (length stems) entries s
+            ∙ ap₂ (λ t o. cond (same_bytes s t) (Some (length stems)) o) k (kept.last s ∙ sym (last_before (length stems) s (omega arith)))
+            ∙ under_case (length stems) (last_with more (length stems) s) (same_bytes s stem)
+            ∙ ap (λ t. last_or_found (last_with more (length stems) s) (length stems) (same_bytes s t)) (sym at_end)
+            ∙ ap (λ n. last_with more n s) (sym count);
+        sized = omega (arith, length-append before (earlier ∷ []), kept.sized, count);
+        links = λ i l. links_by before earlier i kept.sized kept.links (r ∙ kept.last stem) (last_case (length stems) i (omega (arith, l, count)));
+        few = omega (arith, count, few);
+      }
+
+-- nothing is kept
+pub kept_none : {A : Type 0} → IsKept {A = A} [] [] []
+kept_none = record {
+  last = λ s. refl;
+  sized = refl;
+  links = λ i l. absurd (omega (arith, l));
+  few = omega arith;
+}
+
+-- ---- the heads of all texts
+
+no_stem : (s : List ℕ) → is_stem [] s ≡ false
+no_stem [] = refl
+no_stem (b ∷ bs) = refl
+
+stem_named : (name s : List ℕ) → is_none name ≡ false → same_bytes name s ≡ is_stem name s
+stem_named name [] h = stem_empty name h
+  where
+    stem_empty : (name : List ℕ) → is_none name ≡ false → same_bytes name [] ≡ is_stem name []
+    stem_empty [] h = cc
+    stem_empty (b ∷ bs) h = refl
+stem_named name (b ∷ bs) h = refl
+
+pub heads_root : (stems : List (List ℕ)) (name : List ℕ) (free : Option ℕ) → is_none name ≡ true → free ≡ last_with stems (length stems) [] → AreHeads stems name (length stems) free None
+heads_root stems name free h f =
+    let empty : [] ≡ name = (bytes_eq-Decides [] name).0 h in
+    record {
+      within = omega arith;
+      free_is = f;
+      own_is = sym (greatest_none (length stems) (λ i. is_stem name (stem_at stems i)) (λ k l. subst (λ n. is_stem n (stem_at stems k) ≡ false) empty (no_stem (stem_at stems k))));
+    }
+
+pub heads_named : (stems : List (List ℕ)) (name : List ℕ) (free own : Option ℕ) → is_none name ≡ false → free ≡ last_with stems (length stems) [] → own ≡ last_with stems (length stems) name → AreHeads stems name (length stems) free own
+heads_named stems name free own h f o = record {
+  within = omega arith;
+  free_is = f;
+  own_is = o ∙ greatest_agree (length stems) (λ i. same_bytes name (stem_at stems i)) (λ i. is_stem name (stem_at stems i)) (λ k l. stem_named name (stem_at stems k) h);
+}
+
+pub empty_none : (name : List ℕ) (b : Bool) → (length name == 0) ≡ b → is_none name ≡ b
+empty_none [] b h = h
+empty_none (x ∷ xs) true h = absurd (omega (arith, eqb-true (length (x ∷ xs)) 0 h))
+empty_none (x ∷ xs) false h = refl
+
+pub kept_at : {A : Type 0} (stems : List (List ℕ)) (stem : List ℕ) (key : Vec ℕ A) (entries new : List (Vec ℕ A × ℕ)) (before : List (Option ℕ)) (earlier : Option ℕ) (n : ℕ)
+    (longer : List (List ℕ)) (linked : List (Option ℕ)) → key.items ≡ stem → n ≡ length stems → new ≡ insert_entry (λ a b. same_bytes a.items b.items) entries key n
+    → earlier ≡ number_under stem entries → longer ≡ stems ++ stem ∷ [] → linked ≡ before ++ earlier ∷ [] → length stems < 2 ^ 32 - 1
+    → IsKept stems entries before → IsKept longer new linked
+kept_at stems stem key entries new before earlier n longer linked k m e r s t few kept =
+    subst (λ ss. IsKept ss new linked) (sym s) (subst (IsKept (stems ++ stem ∷ []) new) (sym t)
+    (kept_more stems stem key entries new before earlier k (e ∙ ap (insert_entry (λ a b. same_bytes a.items b.items) entries key) m) r few kept))

@@ -1,0 +1,12 @@
+//! An index of texts by their first names: which of many patterns can stand for a path at all.
+#![tactic(auto)]
+
+mod candidates;
+mod stem;
+mod stem_index;
+
+pub use candidates::Candidates;
+pub use stem_index::StemIndex;
+
+#[cfg(test)]
+mod tests;
