@@ -12,9 +12,11 @@ use Rattle.pattern_syntax.specs.declared.node.Node.{Node}
 use Rattle.pattern_syntax.specs.declared.node.Node.TheVariants as node
 use Rattle.pattern_match.specs.Automaton.{automaton}
 use Rattle.pattern_match.specs.Starts.{behind_start}
-use Rattle.pattern_match.specs.States.{AreMarksBy, AreMarksOf, AreStatesOf, Progress, is_bare}
+use Rattle.pattern_match.specs.States.{AreMarksBy, AreMarksOf, AreStatesOf, IsBehind, Progress, StandsFor, is_bare}
 use Rattle.pattern_match.proofs.Cutting.{Follows, cut_behind_start, parts_are}
 use Rattle.pattern_match.proofs.Holding.{holds_tells}
+use Rattle.pattern_match.proofs.Ready.{bare_behind}
+use Rattle.pattern_match.proofs.Standing.{stands_at_start}
 
 pub nothing_behind : (t : Tree) (nodes : List Node) → is_proper t ≡ true → after_nodes nodes (bytes_tree (literal_start_of t) ∷ []) ≡ t ∷ []
     → nodes ≡ [] → behind_start t ≡ Nothing
@@ -38,7 +40,7 @@ pub empty_list : {X : Type 0} (xs : List X) → (length xs == 0) ≡ true → xs
 empty_list [] h = refl
 empty_list (x ∷ xs) h = absurd (grind (arith, h))
 
-nothing_is_bare : is_bare Nothing ≡ true
+pub nothing_is_bare : is_bare Nothing ≡ true
 unfolding automaton
 nothing_is_bare = refl
 
@@ -47,3 +49,11 @@ pub no_states : (states : Progress) → length states.marks ≡ 0 → (tree : Tr
 no_states states n tree e =
     let m : AreMarksOf Nothing states.marks = subst (λ b. AreMarksBy b Nothing states.marks) (sym nothing_is_bare) n in
     record { marks = subst (λ t. AreMarksOf t states.marks) (sym e) m }
+
+-- nothing is left behind the marks of a pattern without a rest
+pub none_left : (marks : List ℕ) → IsBehind Nothing marks []
+none_left marks = (bare_behind Nothing marks [] nothing_is_bare).1 refl
+
+pub text_begun : (states : Progress) → states.seen ≡ 0 → (tree : Tree) → behind_start tree ≡ Nothing → StandsFor tree states []
+text_begun states z tree e =
+    stands_at_start tree states z (subst (λ b. (text : List ℕ) → (IsBehind b states.marks text → In b text) × (In b text → IsBehind b states.marks text)) (sym e) (λ text. bare_behind Nothing states.marks text nothing_is_bare))

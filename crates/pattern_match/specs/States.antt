@@ -55,6 +55,9 @@ pub record Progress : Type 0 where
   pub seen : ℕ
   pub marks : List ℕ
 
+abbrev pub progress : ℕ → List ℕ → Progress
+progress seen marks = record { seen = seen; marks = marks }
+
 -- the states are a matcher's of this pattern
 pub record AreStatesOf (tree : Tree) (states : Progress) : Type 0 where
   pub marks : AreMarksOf (behind_start tree) states.marks

@@ -86,4 +86,12 @@ impl Marks {
     {
         self.marks.copy_from_slice(from.as_slice());
     }
+
+    /// Takes over words that were kept.
+    pub(crate) fn set(&mut self, words: &[u64])
+        requires { length words.now ≡ length self.old }
+        ensures { self.new ≡ words.now }
+    {
+        self.marks.copy_from_slice(words);
+    }
 }

@@ -82,6 +82,14 @@ fn begins_with(text: &[u8], start: &[u8]) -> bool
     true
 }
 
+/// Whether the text begins with the pattern's literal start. Where it doesn't, it isn't in the language.
+pub fn may_hold(pattern: &Pattern, text: &[u8]) -> bool
+    ensures { result ≡ false → holds pattern.now text.now ≡ false }
+{
+    let start = pattern.start();
+    begins_with(text, start)
+}
+
 impl Matcher {
     /// Makes a pattern ready. There may be too little memory for its tables.
     pub fn new(alloc: Global, pattern: &Pattern) -> Result<Matcher, OutOfMemory>
@@ -303,6 +311,14 @@ mod tests {
         assert_eq!(rt; held(alloc, b"(a?){3,}b", b"b"), Some(true));
         assert_eq!(rt; held(alloc, b".{70}", &[b'x'; 70]), Some(true));
         assert_eq!(rt; held(alloc, b".{70}", &[b'x'; 69]), Some(false));
+    }
+
+    #[test]
+    fn texts_that_begin_as_the_pattern(rt: HostRuntime) -> Result<(), Fail> {
+        let pattern = Pattern::read(rt.alloc(), b"/ab.*")?;
+        assert!(rt; may_hold(&pattern, b"/abc"));
+        assert!(rt; !may_hold(&pattern, b"/a"));
+        Ok(())
     }
 
     #[test]

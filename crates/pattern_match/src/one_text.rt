@@ -1,10 +1,12 @@
-ghost use Rattle.std.specs.Prelude.{◌≡◌, true, ℕ, List};
+ghost use Rattle.std.specs.Prelude.{◌≡◌, ◌++◌, ◌∷◌, ◌↔◌, true, ℕ, List, [], IsTrue};
 ghost use Rattle.label_base.specs.Path.{same_bytes};
 ghost use Rattle.pattern_syntax.specs.Tree.{Nothing};
-ghost use Rattle.pattern_syntax.specs.Language.{holds};
+ghost use Rattle.pattern_syntax.specs.Language.{Opens, holds};
 ghost use Rattle.pattern_syntax.specs.Literal.{literal_start_of};
 ghost use Rattle.pattern_match.specs.Starts.{behind_start};
+ghost use Rattle.pattern_match.specs.States.{AreStatesOf, StandsFor};
 
+use crate::states::States;
 use pattern_syntax::Pattern;
 
 /// Whether the pattern's language is one text, its literal start, so that a comparison does for a [`Matcher`](crate::Matcher).
@@ -18,11 +20,101 @@ pub fn is_one_text(pattern: &Pattern) -> bool
     rest.is_empty()
 }
 
+/// Goes on by a byte, where the pattern is one text: what the states stand for gets it at its end.
+pub fn step_text(pattern: &Pattern, states: &mut States, byte: u8)
+    requires one { behind_start pattern.now ≡ Nothing }
+    requires made { AreStatesOf pattern.now states.old }
+    ensures made { AreStatesOf pattern.now states.new }
+    ensures stands { (text : List ℕ) → StandsFor pattern.now states.old text
+        → StandsFor pattern.now states.new (text ++ byte ∷ []) }
+{
+    let seen = states.seen;
+    let start = pattern.start();
+    if seen > start.len() {
+        return;
+    }
+    if seen < start.len() {
+        if start[seen] == byte {
+            states.seen = seen + 1;
+            return;
+        }
+        states.seen = start.len() + 1;
+        return;
+    }
+    states.seen = start.len() + 1;
+}
+
+/// Whether the text that was read is in the language, where the pattern is one text.
+pub fn accepts_text(pattern: &Pattern, states: &States) -> bool
+    requires one { behind_start pattern.now ≡ Nothing }
+    ensures { (text : List ℕ) → StandsFor pattern.now states.now text
+        → result ≡ holds pattern.now text }
+{
+    let start = pattern.start();
+    if states.seen != start.len() {
+        return false;
+    }
+    true
+}
+
+/// Whether the pattern, which is one text, begins with the text that was read.
+pub fn is_text_alive(pattern: &Pattern, states: &States) -> bool
+    requires one { behind_start pattern.now ≡ Nothing }
+    ensures { (text : List ℕ) → StandsFor pattern.now states.now text
+        → IsTrue result ↔ Opens pattern.now text }
+{
+    let start = pattern.start();
+    if states.seen > start.len() {
+        return false;
+    }
+    true
+}
+
 #[cfg(test)]
 mod tests {
     use super::*;
-    use crate::states::States;
+    use std::alloc::Global;
     use std::test::Fail;
+
+    // Whether the pattern is alive behind a slash, and behind a byte more, and whether it then holds what was read.
+    fn read_on(alloc: Global, pattern: &Pattern, byte: u8) -> Option<(bool, bool, bool)> {
+        if !is_one_text(pattern) {
+            return None;
+        }
+        let mut states = States::of_one_text(alloc);
+        states.restart_text();
+        step_text(pattern, &mut states, b'/');
+        let first = is_text_alive(pattern, &states);
+        step_text(pattern, &mut states, byte);
+        Some((
+            first,
+            is_text_alive(pattern, &states),
+            accepts_text(pattern, &states),
+        ))
+    }
+
+    #[test]
+    fn one_text_byte_by_byte(rt: HostRuntime) -> Result<(), Fail> {
+        let pattern = Pattern::read(rt.alloc(), b"/a")?;
+        assert_eq!(rt;
+            read_on(rt.alloc(), &pattern, b'a'),
+            Some((true, true, true))
+        );
+        assert_eq!(rt;
+            read_on(rt.alloc(), &pattern, b'b'),
+            Some((true, false, false))
+        );
+        Ok(())
+    }
+
+    #[test]
+    fn states_that_are_kept(rt: HostRuntime) {
+        let mut states = States::of_one_text(rt.alloc());
+        if states.marks().is_empty() {
+            states.set(3, &[]);
+        }
+        assert_eq!(rt; states.seen(), 3);
+    }
 
     #[test]
     fn patterns_of_one_text(rt: HostRuntime) -> Result<(), Fail> {

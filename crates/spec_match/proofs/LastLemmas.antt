@@ -6,7 +6,7 @@ use Rattle.label_base.specs.Kind.{applies}
 use Rattle.label_base.specs.declared.kind.Asked.{Asked}
 use Rattle.pattern_match.proofs.Holding.{holds_tells}
 use Rattle.spec_match.specs.LastMatch.{fits, Fits, Decides, last_index, last_match}
-use Rattle.spec_match.specs.Scratches.{spec_in}
+use Rattle.spec_match.specs.StatesFor.{spec_in}
 use Rattle.spec_match.specs.declared.rule.Rule.{Rule}
 use Rattle.spec_reader.specs.SpecValue.{SpecValue}
 

@@ -1,11 +1,14 @@
 -- The states for specifications with their matchers are those for the specifications.
-use Rattle.std.proofs.Common.{◌≡◌, ◌∙◌, sym, refl, ap, subst, ℕ, ◌+◌, ◌<◌, ◌⊎◌, inl, inr, List, [], ◌∷◌, ◌++◌, map, take, take-suc, length, length-append, get_or, add-one, arith}
+use Rattle.std.proofs.Common.{◌≡◌, ◌≢◌, ◌∙◌, sym, refl, ap, subst, ℕ, zero, suc, ◌+◌, ◌<◌, ◌==◌, Bool, true, false, true≢false, eqb-true, eq-eqb, set, length-set, get_or-set_same, get_or-set_other, ◌⊎◌, inl, inr, List, [], ◌∷◌, ◌++◌, map, take, take-suc, length, length-append, get_or, add-one, arith}
 use Rattle.std.proofs.Math.ListN.{get_or-append}
 use Rattle.std.proofs.lemmas.Bool.{cases_lt}
 use Rattle.std.proofs.lemmas.List.{get_or_push}
 use Rattle.pattern_match.specs.States.{AreStatesOf, Progress}
 use Rattle.pattern_syntax.specs.Tree.{Tree, Nothing}
-use Rattle.spec_match.specs.Scratches.{AreStatesFor, no_progress, IsScratchOf, pattern_in, patterns_of, spec_in}
+use Rattle.spec_match.specs.StatesFor.{AreStatesFor, no_progress, pattern_in, patterns_of, spec_in}
+use Rattle.spec_match.specs.Remembering.{IsTableOf}
+use Rattle.spec_match.specs.Trail.{IsTrail}
+use Rattle.spec_match.specs.Scratches.{IsScratchOf, Room}
 use Rattle.spec_match.specs.declared.rule.Rule.{Rule}
 use Rattle.spec_reader.specs.SpecValue.{SpecValue}
 
@@ -13,15 +16,32 @@ patterns_by_specs : (rules : List Rule) → map pattern_in (map spec_in rules) �
 patterns_by_specs [] = refl
 patterns_by_specs (r ∷ rules) = ap (λ ps. r.spec.pattern ∷ ps) (patterns_by_specs rules)
 
-pub scratch_of : (rules : List Rule) (specs : List SpecValue) (states : List Progress) → map spec_in rules ≡ specs → AreStatesFor (patterns_of rules) states → IsScratchOf specs states
+pub scratch_of : (rules : List Rule) (specs : List SpecValue) (room : Room) → map spec_in rules ≡ specs → AreStatesFor (patterns_of rules) room.states → IsTableOf (patterns_of rules) (map spec_in rules) room.table → room.draft ≡ [] → IsTrail (patterns_of rules) room.table.lists room.trail → IsScratchOf specs room
 unfolding IsScratchOf
-scratch_of rules specs states h own =
-    subst (λ ps. AreStatesFor ps states) (sym (patterns_by_specs rules) ∙ ap (map pattern_in) h) own
+scratch_of rules specs room h states table draft trail =
+    let e : patterns_of rules ≡ map pattern_in specs = sym (patterns_by_specs rules) ∙ ap (map pattern_in) h in record {
+      states = subst (λ ps. AreStatesFor ps room.states) e states;
+      table = subst (λ ps. IsTableOf ps specs room.table) e (subst (λ ss. IsTableOf (patterns_of rules) ss room.table) h table);
+      draft = draft;
+      trail = subst (λ ps. IsTrail ps room.table.lists room.trail) e trail;
+    }
 
-pub states_in : (rules : List Rule) (specs : List SpecValue) (states : List Progress) → map spec_in rules ≡ specs → IsScratchOf specs states → AreStatesFor (patterns_of rules) states
+-- a scratch of the specifications, by their rules
+pub record IsReadyBy (rules : List Rule) (room : Room) : Type 0 where
+  pub states : AreStatesFor (patterns_of rules) room.states
+  pub table : IsTableOf (patterns_of rules) (map spec_in rules) room.table
+  pub draft : room.draft ≡ []
+  pub trail : IsTrail (patterns_of rules) room.table.lists room.trail
+
+pub ready_in : (rules : List Rule) (specs : List SpecValue) (room : Room) → map spec_in rules ≡ specs → IsScratchOf specs room → IsReadyBy rules room
 unfolding IsScratchOf
-states_in rules specs states h own =
-    subst (λ ps. AreStatesFor ps states) (sym (ap (map pattern_in) h) ∙ patterns_by_specs rules) own
+ready_in rules specs room h own =
+    let e : map pattern_in specs ≡ patterns_of rules = sym (ap (map pattern_in) h) ∙ patterns_by_specs rules in record {
+      states = subst (λ ps. AreStatesFor ps room.states) e own.states;
+      table = subst (λ ss. IsTableOf (patterns_of rules) ss room.table) (sym h) (subst (λ ps. IsTableOf ps specs room.table) e own.table);
+      draft = own.draft;
+      trail = subst (λ ps. IsTrail ps room.table.lists room.trail) e own.trail;
+    }
 
 at_or_before : (k n : ℕ) → k < n + 1 → (k < n) ⊎ (n ≡ k)
 at_or_before k n h = elim (cases_lt k n) [ inl below ↦ inl below | inr above ↦ inr (omega arith) ]
@@ -44,3 +64,26 @@ pub states_more : (rules : List Rule) (i : ℕ) (d : Rule) (states : List Progre
 states_more rules i d states new h own this =
     let e : patterns_of (take (i + 1) rules) ≡ patterns_of (take i rules) ++ (get_or rules i d).spec.pattern ∷ [] = ap patterns_of (ap (λ n. take n rules) (add-one i) ∙ take-suc rules i d h) ∙ patterns_push (take i rules) (get_or rules i d) in
     subst (λ ps. AreStatesFor ps (states ++ new ∷ [])) (sym e) (one_more (patterns_of (take i rules)) (get_or rules i d).spec.pattern states new own this)
+
+pattern_here : (rules : List Rule) (i : ℕ) (d : Rule) → i < length rules → (get_or rules i d).spec.pattern ≡ get_or (patterns_of rules) i Nothing
+pattern_here [] i d l = absurd (omega (arith, l))
+pattern_here (r ∷ rules) zero d l = refl
+pattern_here (r ∷ rules) (suc i) d l = pattern_here rules i d (omega (arith, l))
+
+-- other states of one specification
+pub states_set : (rules : List Rule) (states : List Progress) (i : ℕ) (rule : Rule) (new : Progress) → i < length rules → rule ≡ get_or rules i rule → AreStatesOf rule.spec.pattern new → AreStatesFor (patterns_of rules) states → AreStatesFor (patterns_of rules) (set states i new)
+states_set rules states i rule new l e made own = record {
+  count = length-set states i new ∙ own.count;
+  own = λ k below. at k below (k == i) refl;
+}
+  where
+    at : (k : ℕ) → k < length (patterns_of rules) → (same : Bool) → (k == i) ≡ same → AreStatesOf (get_or (patterns_of rules) k Nothing) (get_or (set states i new) k no_progress)
+    at k below true t =
+        let here : k ≡ i = eqb-true k i t in
+        let p : rule.spec.pattern ≡ get_or (patterns_of rules) i Nothing = ap (λ (r : Rule). r.spec.pattern) e ∙ pattern_here rules i rule l in
+        let n : i < length states = omega (arith, own.count, below, here) in
+        subst (λ j. AreStatesOf (get_or (patterns_of rules) j Nothing) (get_or (set states i new) j no_progress)) (sym here)
+        (subst (λ s. AreStatesOf (get_or (patterns_of rules) i Nothing) s) (sym (get_or-set_same states i new no_progress n)) (subst (λ t. AreStatesOf t new) p made))
+    at k below false t =
+        let other : k ≢ i = λ same. true≢false (sym (eq-eqb k i same) ∙ t) in
+        subst (λ s. AreStatesOf (get_or (patterns_of rules) k Nothing) s) (sym (get_or-set_other states i k new no_progress other)) (own.own k below)

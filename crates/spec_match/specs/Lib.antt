@@ -1,3 +1,12 @@
 pub mod LastMatch
-pub mod Scratches
+pub mod StatesFor
 pub mod PatternTests
+pub mod Alive
+pub mod Stepping
+pub mod Members
+pub mod Written
+pub mod Remembering
+pub mod Trail
+pub mod Tables
+pub mod Scratches
+pub mod Workspaces

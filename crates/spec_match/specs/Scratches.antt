@@ -1,30 +1,26 @@
--- The states in which the patterns of a list are matched.
-use Rattle.std.specs.Prelude.{◌≡◌, ℕ, ◌<◌, List, [], length, map}
-use Rattle.std.specs.List.{slice_index_or}
-use Rattle.pattern_match.specs.States.{AreStatesOf, Progress}
-use Rattle.pattern_syntax.specs.Tree.{Tree, Nothing}
+-- What look-ups work in.
+use Rattle.std.specs.Prelude.{◌≡◌, List, [], map}
+use Rattle.pattern_match.specs.States.{Progress}
 use Rattle.spec_reader.specs.SpecValue.{SpecValue}
-use Rattle.spec_match.specs.declared.rule.Rule.{Rule}
+use Rattle.spec_match.specs.Alive.{Alive}
+use Rattle.spec_match.specs.Remembering.{Kept, IsTableOf}
+use Rattle.spec_match.specs.Trail.{IsTrail}
+use Rattle.spec_match.specs.declared.trail.Passed.{Passed}
+use Rattle.spec_match.specs.StatesFor.{AreStatesFor, pattern_in}
 
--- what stands for no states
-abbrev pub no_progress : Progress
-no_progress = record { seen = 0; marks = [] }
+-- states for each pattern, what is remembered, what is being written, and the text that was read last
+pub record Room : Type 0 where
+  pub states : List Progress
+  pub table : Kept
+  pub draft : List Alive
+  pub trail : List Passed
 
--- there are states for each pattern, at its place
-pub record AreStatesFor (patterns : List Tree) (states : List Progress) : Type 0 where
-  pub count : length states ≡ length patterns
-  pub own : (i : ℕ) → i < length patterns → AreStatesOf (slice_index_or patterns i Nothing) (slice_index_or states i no_progress)
-
-abbrev pub pattern_in : SpecValue → Tree
-pattern_in spec = spec.pattern
+pub record IsReady (specs : List SpecValue) (room : Room) : Type 0 where
+  pub states : AreStatesFor (map pattern_in specs) room.states
+  pub table : IsTableOf (map pattern_in specs) specs room.table
+  pub draft : room.draft ≡ []
+  pub trail : IsTrail (map pattern_in specs) room.table.lists room.trail
 
 -- the scratch was made for this list
-unfoldable pub IsScratchOf : List SpecValue → List Progress → Type 0
-IsScratchOf specs states = AreStatesFor (map pattern_in specs) states
-
-abbrev pub spec_in : Rule → SpecValue
-spec_in rule = rule.spec
-
--- the patterns of the specifications
-abbrev pub patterns_of : List Rule → List Tree
-patterns_of rules = map (λ rule. rule.spec.pattern) rules
+unfoldable pub IsScratchOf : List SpecValue → Room → Type 0
+IsScratchOf specs room = IsReady specs room

@@ -1,11 +1,11 @@
-ghost use Rattle.std.specs.Prelude.{◌≡◌, IfOk};
+ghost use Rattle.std.specs.Prelude.{◌≡◌, ◌↔◌, ◌++◌, ◌∷◌, ℕ, List, [], IfOk, IsTrue};
 ghost use Rattle.label_base.specs.Path.{same_bytes};
-ghost use Rattle.pattern_syntax.specs.Language.{holds};
-ghost use Rattle.pattern_match.specs.States.{AreStatesOf};
+ghost use Rattle.pattern_syntax.specs.Language.{Opens, holds};
+ghost use Rattle.pattern_match.specs.States.{AreStatesOf, StandsFor};
 ghost use Rattle.spec_match.specs.PatternTests.{IsTestOf};
 
 use label_base::OutOfMemory;
-use pattern_match::{Matcher, States, is_one_text};
+use pattern_match::{Matcher, States, accepts_text, is_one_text, is_text_alive, step_text};
 use pattern_syntax::Pattern;
 use std::alloc::Global;
 
@@ -51,6 +51,59 @@ impl PatternTest {
         match self {
             PatternTest::ByStart => text == pattern.start(),
             PatternTest::ByMatcher(matcher) => matcher.matches(states, text),
+        }
+    }
+
+    /// Goes back to the states before the first byte of a text.
+    pub fn restart(&self, pattern: &Pattern, states: &mut States)
+        requires test { IsTestOf pattern.now self.now }
+        requires own { AreStatesOf pattern.now states.old }
+        ensures own { AreStatesOf pattern.now states.new }
+        ensures stands { StandsFor pattern.now states.new [] }
+    {
+        match self {
+            PatternTest::ByStart => states.restart_text(),
+            PatternTest::ByMatcher(matcher) => matcher.restart(states),
+        }
+    }
+
+    /// Goes on by a byte: what the states stand for gets it at its end.
+    pub fn step(&self, pattern: &Pattern, states: &mut States, byte: u8)
+        requires test { IsTestOf pattern.now self.now }
+        requires own { AreStatesOf pattern.now states.old }
+        ensures own { AreStatesOf pattern.now states.new }
+        ensures stands { (text : List ℕ) → StandsFor pattern.now states.old text
+            → StandsFor pattern.now states.new (text ++ byte ∷ []) }
+    {
+        match self {
+            PatternTest::ByStart => step_text(pattern, states, byte),
+            PatternTest::ByMatcher(matcher) => matcher.step(states, byte),
+        }
+    }
+
+    /// Whether the text that was read is in the language.
+    pub fn accepts(&self, pattern: &Pattern, states: &States) -> bool
+        requires test { IsTestOf pattern.now self.now }
+        requires own { AreStatesOf pattern.now states.now }
+        ensures { (text : List ℕ) → StandsFor pattern.now states.now text
+            → result ≡ holds pattern.now text }
+    {
+        match self {
+            PatternTest::ByStart => accepts_text(pattern, states),
+            PatternTest::ByMatcher(matcher) => matcher.accepts(states),
+        }
+    }
+
+    /// Whether some text of the language begins with the text that was read.
+    pub fn alive(&self, pattern: &Pattern, states: &States) -> bool
+        requires test { IsTestOf pattern.now self.now }
+        requires own { AreStatesOf pattern.now states.now }
+        ensures { (text : List ℕ) → StandsFor pattern.now states.now text
+            → IsTrue result ↔ Opens pattern.now text }
+    {
+        match self {
+            PatternTest::ByStart => is_text_alive(pattern, states),
+            PatternTest::ByMatcher(matcher) => matcher.alive(states),
         }
     }
 }

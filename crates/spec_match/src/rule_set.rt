@@ -1,17 +1,28 @@
-ghost use Rattle.std.specs.Prelude.{◌≡◌, ◌+◌, ◌<◌, ◌^◌, IfOk, IfSome, OnOk, Some, length, map, option_and_then, slice_get};
+ghost use Rattle.std.specs.Prelude.{◌≡◌, ◌+◌, ◌<◌, ◌^◌, [], IfOk, IfSome, OnOk, Some, length, map, option_and_then, slice_get};
 ghost use Rattle.label_base.specs.Path.{path_text};
 ghost use Rattle.label_base.specs.PathRef.{path_of};
 ghost use Rattle.spec_match.specs.LastMatch.{Decides, last_index, last_match};
-ghost use Rattle.spec_match.specs.Scratches.{AreStatesFor, IsScratchOf, pattern_in, patterns_of, spec_in};
+ghost use Rattle.spec_match.specs.StatesFor.{AreStatesFor, pattern_in, patterns_of, spec_in};
+ghost use Rattle.spec_match.specs.Scratches.{IsScratchOf};
 
 use crate::rule::Rule;
 use crate::scratch::Scratch;
+use crate::table::Table;
+use crate::workspace::Workspace;
 use label_base::{Asked, OutOfMemory, PathRef, Row, Steps};
 use pattern_match::States;
 use spec_reader::Spec;
 use std::alloc::Global;
 use std::marker::Model;
 use std::sync::ledger::Ledger;
+
+// For how many lists, specifications in all of them, and words of their marks a scratch reserves room: 26 MB, of which
+// only what is used is touched.
+const MOST_LISTS: usize = 16384;
+
+const MOST_MEMBERS: usize = 524_288;
+
+const MOST_WORDS: usize = 1_048_576;
 
 /// A list of specifications in which the last match is looked for, seen as that list.
 #[derive(Debug, Drop)]
@@ -29,7 +40,7 @@ impl Model for RuleSet {
 
     ghost coded = { Prim.hlevel (codes, tree_code) };
 
-    ghost use Rattle.spec_match.specs.Scratches.{spec_in};
+    ghost use Rattle.spec_match.specs.StatesFor.{spec_in};
 
     ghost view = { λ s. map spec_in s.rules.items };
 
@@ -54,27 +65,6 @@ fn states_of(alloc: Global, rules: &[Rule]) -> Result<Vec<States>, OutOfMemory>
         states.push(rule.states(alloc)?)?;
     }
     Ok(states)
-}
-
-fn find_last(rules: &[Rule], states: &mut Vec<States>, text: &[u8], asked: Asked) -> Option<usize>
-    requires { AreStatesFor (patterns_of rules.now) states.old.items }
-    ensures own { AreStatesFor (patterns_of rules.now) states.new.items }
-    ensures within { IfSome result (λ i. i < length rules.now) }
-    ensures index { result ≡ last_index asked text.now (map spec_in rules.now) }
-    ensures member { option_and_then (slice_get (map spec_in rules.now)) result
-        ≡ last_match asked text.now (map spec_in rules.now) }
-    ensures decides { Decides asked text.now (map spec_in rules.now) result }
-{
-    let mut left = rules.len();
-    'rules: while left > 0 {
-        left -= 1;
-        let rule = &rules[left];
-        let own = &mut states[left];
-        if rule.does_fit(own, text, asked) {
-            return Some(left);
-        }
-    }
-    None
 }
 
 impl RuleSet {
@@ -116,12 +106,10 @@ impl RuleSet {
             ≡ last_match asked (path_text (path_of path.now)) self.now }
         ensures decides { Decides asked (path_text (path_of path.now)) self.now result }
     {
-        match find_last(
-            self.rules.as_slice(),
-            &mut scratch.states,
-            path.as_text(),
-            asked,
-        ) {
+        match scratch
+            .room
+            .look_up(self.rules.as_slice(), path.as_text(), asked)
+        {
             Some(i) => Some(i as u32),
             None => None,
         }
@@ -154,8 +142,26 @@ impl Scratch {
     pub fn new(alloc: Global, rules: &RuleSet) -> Result<Scratch, OutOfMemory>
         ensures { IfOk result (λ scratch. IsScratchOf rules.now scratch) }
     {
-        Ok(Scratch {
+        Scratch::with_room(alloc, rules, MOST_LISTS, MOST_MEMBERS, MOST_WORDS)
+    }
+
+    /// The same with room for so many lists, so many specifications in all of them, and so many words of marks.
+    pub(crate) fn with_room(
+        alloc: Global,
+        rules: &RuleSet,
+        lists: usize,
+        members: usize,
+        words: usize,
+    ) -> Result<Scratch, OutOfMemory>
+        ensures { IfOk result (λ scratch. IsScratchOf rules.now scratch) }
+    {
+        let room = Workspace {
             states: states_of(alloc, rules.rules.as_slice())?,
+            table: Table::new(alloc, lists, members, words)?,
+            tried: 0,
+        };
+        Ok(Scratch {
+            room: Box::new(alloc, room)?,
         })
     }
 }

@@ -1,19 +1,26 @@
-ghost use Rattle.std.specs.Prelude.{◌≡◌, IfOk};
-
-use pattern_match::States;
+use crate::workspace::Workspace;
 use std::marker::Model;
 
-/// The states in which the patterns of one [`RuleSet`](crate::RuleSet) are matched, so that a look-up takes no memory.
+/// What look-ups in one [`RuleSet`](crate::RuleSet) work in, so that they take no memory: the states in which its patterns
+/// are matched, and what earlier look-ups found out.
 #[derive(Debug, Drop)]
 pub struct Scratch {
-    pub(crate) states: Vec<States>,
+    // It stands apart, so that a scratch is a word to whoever owns it.
+    pub(crate) room: Box<Workspace>,
 }
 
 impl Model for Scratch {
-    ghost use Rattle.std.specs.Prelude.{List};
-    ghost use Rattle.pattern_match.specs.States.{Progress};
+    ghost use Rattle.spec_match.specs.Scratches.{Room};
+    ghost use Rattle.spec_match.specs.Workspaces.{room_in};
 
-    ghost Value = { List Progress };
+    ghost Value = { Room };
 
-    ghost view = { λ s. s.states.items };
+    ghost view = { λ s. room_in s.room.value };
+}
+
+impl Scratch {
+    /// How many specifications' states were looked at by all look-ups in this scratch, as far as a number of 64 bits goes.
+    pub fn tried(&self) -> u64 {
+        self.room.tried.saturating_add(self.room.table.tried)
+    }
 }

@@ -1,4 +1,5 @@
 ghost use Rattle.std.specs.Prelude.{◌≡◌, ◌<◌, ◌^◌, length};
+ghost use Rattle.spec_match.specs.Scratches.{IsScratchOf};
 
 use crate::rule_set::RuleSet;
 use crate::scratch::Scratch;
@@ -130,4 +131,88 @@ fn a_specification_by_its_place(rt: HostRuntime) {
             assert!(rt; false);
         }
     }
+}
+
+// What is found for a path that is read here, or 99 where it can't be.
+fn found_in(alloc: Global, rules: &RuleSet, scratch: &mut Scratch, path: &[u8]) -> Option<u32>
+    requires { IsScratchOf rules.now scratch.old }
+    ensures { IsScratchOf rules.now scratch.new }
+{
+    match NormPath::read(alloc, path) {
+        Ok(path) => rules.find_last(scratch, &path.path(), Asked::Any),
+        Err(_) => Some(99),
+    }
+}
+
+// Whether one path after the other has its last match.
+fn is_round_right(alloc: Global, rules: &RuleSet, scratch: &mut Scratch) -> bool
+    requires { IsScratchOf rules.now scratch.old }
+    ensures { IsScratchOf rules.now scratch.new }
+{
+    if found_in(alloc, rules, scratch, b"/a") != Some(1) {
+        return false;
+    }
+    if found_in(alloc, rules, scratch, b"/bc") != Some(0) {
+        return false;
+    }
+    if found_in(alloc, rules, scratch, b"/") != None {
+        return false;
+    }
+    found_in(alloc, rules, scratch, b"/b/cd") == Some(2)
+}
+
+fn are_rounds_right(alloc: Global, rules: &RuleSet, scratch: &mut Scratch) -> bool
+    requires { IsScratchOf rules.now scratch.old }
+{
+    'rounds: for _ in 0..60 {
+        if !is_round_right(alloc, rules, scratch) {
+            return false;
+        }
+    }
+    true
+}
+
+// Whether all is found in a scratch with room for so many lists, and for so many specifications in them.
+fn found_with(alloc: Global, lists: usize, members: usize) -> Option<bool> {
+    let text = b"/[ab].* <<none>>\n/a <<none>>\n/b/.*d <<none>>\n".as_slice();
+    let specs = read_specs(alloc, text, Part::Base, 9).ok()?;
+    let rules = RuleSet::new(alloc, specs).ok()?;
+    let mut scratch = Scratch::with_room(alloc, &rules, lists, members, 100).ok()?;
+    Some(are_rounds_right(alloc, &rules, &mut scratch))
+}
+
+#[test]
+fn look_ups_without_room(rt: HostRuntime) {
+    for (lists, members) in [
+        (20usize, 100usize),
+        (4, 100),
+        (2, 100),
+        (20, 8),
+        (20, 2),
+        (0, 0),
+    ] {
+        assert_eq!(rt;
+            found_with(rt.alloc(), lists, members),
+            Some(true),
+            "at {lists}"
+        );
+    }
+}
+
+// How many specifications are tried for two look-ups of a path.
+fn tried(alloc: Global, specs: &[u8], path: &[u8]) -> Option<u64>
+    requires { length specs.now < 2 ^ 32 }
+{
+    let specs = read_specs(alloc, specs, Part::Base, 9).ok()?;
+    let rules = RuleSet::new(alloc, specs).ok()?;
+    let mut scratch = Scratch::new(alloc, &rules).ok()?;
+    found_in(alloc, &rules, &mut scratch, path);
+    found_in(alloc, &rules, &mut scratch, path);
+    Some(scratch.tried())
+}
+
+#[test]
+fn specifications_that_begin_otherwise_are_not_tried(rt: HostRuntime) {
+    let specs = b"/s4/.* <<none>>\n/s5/.* <<none>>\n/s6/.* <<none>>\n".as_slice();
+    assert_eq!(rt; tried(rt.alloc(), specs, b"/s5/x"), Some(2));
 }

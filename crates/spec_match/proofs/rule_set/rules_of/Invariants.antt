@@ -1,5 +1,5 @@
 use Rattle.std.proofs.Common.{◌≡◌, map}
-use Rattle.spec_match.specs.Scratches.{spec_in}
+use Rattle.spec_match.specs.StatesFor.{spec_in}
 use Rattle.spec_match.proofs.rule_set.rules_of.Given as goal
 
 abbrev pub invariant-specs : goal.invariant-specs

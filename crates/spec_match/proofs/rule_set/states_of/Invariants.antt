@@ -1,5 +1,5 @@
 use Rattle.std.proofs.Common.{take}
-use Rattle.spec_match.specs.Scratches.{AreStatesFor, patterns_of}
+use Rattle.spec_match.specs.StatesFor.{AreStatesFor, patterns_of}
 use Rattle.spec_match.proofs.rule_set.states_of.Given as goal
 
 abbrev pub invariant-rules : goal.invariant-rules

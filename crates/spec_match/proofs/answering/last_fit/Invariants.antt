@@ -1,13 +1,13 @@
 use Rattle.std.proofs.Common.{◌≡◌, ◌≤◌, [], drop, length, map}
 use Rattle.std.specs.Prelude.{filter}
 use Rattle.spec_match.specs.LastMatch.{fits}
-use Rattle.spec_match.specs.Scratches.{AreStatesFor, patterns_of, spec_in}
-use Rattle.spec_match.proofs.rule_set.find_last.Given as goal
+use Rattle.spec_match.specs.StatesFor.{AreStatesFor, patterns_of, spec_in}
+use Rattle.spec_match.proofs.answering.last_fit.Given as goal
 
 -- none of the specifications from here on fits
 abbrev pub invariant-rules : goal.invariant-rules
 invariant-rules l = record {
-  own : AreStatesFor (patterns_of l.rules) l.states.items;
+  states : AreStatesFor (patterns_of l.rules) l.states.items;
   within : l.left ≤ length l.rules;
   none : filter (fits l.asked l.text) (map spec_in (drop l.left l.rules)) ≡ [];
 }

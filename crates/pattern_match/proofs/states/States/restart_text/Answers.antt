@@ -1,0 +1,6 @@
+use Rattle.std.proofs.Common.{refl}
+use Rattle.pattern_match.proofs.OneText.{text_begun}
+use Rattle.pattern_match.proofs.states.States.restart_text.Goals as goal
+
+pub returns-clause-stands : goal.returns-clause-stands
+returns-clause-stands c = text_begun _ refl

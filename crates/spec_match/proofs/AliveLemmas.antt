@@ -1,0 +1,158 @@
+-- Lists of the specifications that are alive, a byte on.
+use Rattle.std.proofs.Common.{◌≡◌, ◌∙◌, refl, sym, ap, subst, ℕ, zero, suc, ◌+◌, ◌-◌, ◌<◌, ◌≤◌, ◌⊎◌, inl, inr, true, false, List, [], ◌∷◌, ◌++◌, length, length-append, get_or, take, drop, append_assoc, append-nil, add-one, arith}
+use Rattle.std.proofs.lemmas.Bool.{cases_lt}
+use Rattle.std.proofs.lemmas.List.Elements.{All-push}
+use Rattle.std.proofs.lemmas.List.{take_more, take-append-drop}
+use Rattle.std.specs.List.{All}
+use Rattle.pattern_match.specs.States.{AreStatesOf, Progress, StandsFor}
+use Rattle.pattern_syntax.specs.Language.{In, Opens}
+use Rattle.pattern_syntax.specs.Tree.{Tree}
+use Rattle.spec_match.specs.Alive.{Alive, AreAlive, IsOwn, Leads, NoneAlive, alive, alive_at, pattern_at}
+use Rattle.spec_match.specs.Stepping.{GoesOn, IsDropped, IsWritten}
+
+less_opens : (t : Tree) (text more : List ℕ) → Opens t (text ++ more) → Opens t text
+less_opens t text more (rest, i) = (more ++ rest, subst (λ w. In t w) (append_assoc text more rest) i)
+
+none_more : (ps : List Tree) (text more : List ℕ) (from below : ℕ) → NoneAlive ps text from below → NoneAlive ps (text ++ more) from below
+none_more ps text more from below h i l m o = h i l m (less_opens (pattern_at ps i) text more o)
+
+joined : (ps : List Tree) (text : List ℕ) (from low high : ℕ) → NoneAlive ps text from low → NoneAlive ps text low high → NoneAlive ps text from high
+joined ps text from low high a b i l m o = elim (cases_lt i low) [
+  | inl below ↦ a i l below o
+  | inr above ↦ b i (omega (arith, above)) m o
+]
+
+widened : (ps : List Tree) (text : List ℕ) (low high : ℕ) (list : List Alive) → low ≤ high → NoneAlive ps text low high → AreAlive ps text low list → AreAlive ps text high list
+widened ps text low high [] l n h = joined ps text 0 low high h n
+widened ps text low high (one ∷ list) l n h =
+    (omega (arith, h.0, l), joined ps text (one.index + 1) low high h.1 n, h.2, h.3)
+
+-- below which index the members behind so many of a list are
+abbrev pub bound_at : ℕ → List Alive → ℕ → ℕ
+bound_at bound list zero = bound
+bound_at bound [] (suc k) = bound
+bound_at bound (one ∷ list) (suc k) = bound_at one.index list k
+
+pub bound_next : (bound : ℕ) (list : List Alive) (k : ℕ) → k < length list → bound_at bound list (suc k) ≡ (alive_at list k).index
+bound_next bound [] k l = absurd (omega (arith, l))
+bound_next bound (one ∷ list) zero l = refl
+bound_next bound (one ∷ list) (suc k) l = bound_next one.index list k (omega (arith, l))
+
+pub rest_alive : (ps : List Tree) (text : List ℕ) (bound : ℕ) (list : List Alive) (k : ℕ) → AreAlive ps text bound list → AreAlive ps text (bound_at bound list k) (drop k list)
+rest_alive ps text bound list zero h = h
+rest_alive ps text bound [] (suc k) h = h
+rest_alive ps text bound (one ∷ list) (suc k) h = rest_alive ps text one.index list k h.3
+
+-- what is known of a member
+pub record IsMember (ps : List Tree) (text : List ℕ) (bound : ℕ) (one : Alive) : Type 0 where
+  pub below : one.index < bound
+  pub none : NoneAlive ps text (one.index + 1) bound
+  pub stands : StandsFor (pattern_at ps one.index) one.states text
+
+pub member_at : (ps : List Tree) (text : List ℕ) (bound : ℕ) (list : List Alive) (k : ℕ) → k < length list → AreAlive ps text bound list → IsMember ps text (bound_at bound list k) (alive_at list k)
+member_at ps text bound [] k l h = absurd (omega (arith, l))
+member_at ps text bound (one ∷ list) zero l h = record { below = h.0; none = h.1; stands = h.2 }
+member_at ps text bound (one ∷ list) (suc k) l h = member_at ps text one.index list k (omega (arith, l)) h.3
+
+pub none_left : (ps : List Tree) (text : List ℕ) (bound : ℕ) (list : List Alive) (k : ℕ) → length list ≤ k → AreAlive ps text bound list → NoneAlive ps text 0 (bound_at bound list k)
+none_left ps text bound list k l h = subst (λ rest. AreAlive ps text (bound_at bound list k) rest) (past list k l) (rest_alive ps text bound list k h)
+  where
+    past : (list : List Alive) (k : ℕ) → length list ≤ k → drop k list ≡ []
+    past [] zero l = refl
+    past [] (suc k) l = refl
+    past (one ∷ list) zero l = absurd (omega (arith, l))
+    past (one ∷ list) (suc k) l = past list k (omega (arith, l))
+
+-- so many members were stepped: what is written, and whatever is right for the rest, is right behind the byte
+pub record IsStepped (ps : List Tree) (byte : ℕ) (list draft : List Alive) (k : ℕ) : Type 0 where
+  pub own : All (IsOwn ps) draft
+  pub so_far : (text : List ℕ) → AreAlive ps text (length ps) list → (rest : List Alive)
+      → AreAlive ps (text ++ byte ∷ []) (bound_at (length ps) list k) rest
+      → AreAlive ps (text ++ byte ∷ []) (length ps) (draft ++ rest)
+
+pub none_stepped : (ps : List Tree) (byte : ℕ) (list draft : List Alive) → draft ≡ [] → IsStepped ps byte list draft 0
+none_stepped ps byte list draft e = subst (λ d. IsStepped ps byte list d 0) (sym e) (record {
+  own = λ k d l. absurd (omega (arith, l));
+  so_far = λ text a rest r. r;
+})
+
+from_or_past : (i n : ℕ) → n ≤ i → (i ≡ n) ⊎ (n + 1 ≤ i)
+from_or_past i n l = elim (cases_lt n i) [ inl past ↦ inr (omega (arith, past)) | inr here ↦ inl (omega (arith, here, l)) ]
+
+-- of those from a dead one on, none is alive
+none_from : (ps : List Tree) (text : List ℕ) (n below : ℕ) → (Opens (pattern_at ps n) text → ⊥) → NoneAlive ps text (n + 1) below → NoneAlive ps text n below
+none_from ps text n below d h i l m o = elim (from_or_past i n l) [
+  | inl here ↦ d (subst (λ j. Opens (pattern_at ps j) text) here o)
+  | inr past ↦ h i past m o
+]
+
+dropped_on : (ps : List Tree) (pattern : Tree) (byte : ℕ) (list old new : List Alive) (k : ℕ) → k < length list → pattern ≡ pattern_at ps (alive_at list k).index → IsDropped pattern byte (alive_at list k) old new → IsStepped ps byte list old k → IsStepped ps byte list new (suc k)
+dropped_on ps pattern byte list old new k l e d s = record {
+  own = subst (All (IsOwn ps)) (sym d.same) s.own;
+  so_far = λ text a rest r.
+      let one = alive_at list k in
+      let m = member_at ps text (length ps) list k l a in
+      let dead : Opens (pattern_at ps one.index) (text ++ byte ∷ []) → ⊥ =
+      subst (λ t. Opens t (text ++ byte ∷ []) → ⊥) e (d.dead text (subst (λ t. StandsFor t one.states text) (sym e) m.stands)) in
+      let none = none_from ps (text ++ byte ∷ []) one.index (bound_at (length ps) list k) dead (none_more ps text (byte ∷ []) (one.index + 1) (bound_at (length ps) list k) m.none) in
+      let behind = subst (λ n. AreAlive ps (text ++ byte ∷ []) n rest) (bound_next (length ps) list k l) r in
+      subst (λ w. AreAlive ps (text ++ byte ∷ []) (length ps) (w ++ rest)) (sym d.same)
+      (s.so_far text a rest (widened ps (text ++ byte ∷ []) one.index (bound_at (length ps) list k) rest (omega (arith, m.below)) none behind));
+}
+
+written_on : (ps : List Tree) (pattern : Tree) (byte : ℕ) (list old new : List Alive) (k : ℕ) → k < length list → pattern ≡ pattern_at ps (alive_at list k).index → IsOwn ps (alive_at list k) → IsWritten pattern byte (alive_at list k) old new → IsStepped ps byte list old k → IsStepped ps byte list new (suc k)
+written_on ps pattern byte list old new k l e o d s =
+    let one = alive_at list k in
+    let next = alive one.index d.states in
+    let own : IsOwn ps next = record { within = o.within; made = subst (λ t. AreStatesOf t d.states) e d.made } in record {
+      own = subst (All (IsOwn ps)) (sym d.more) (All-push (IsOwn ps) old next s.own own);
+      so_far = λ text a rest r.
+          let m = member_at ps text (length ps) list k l a in
+          let stands : StandsFor (pattern_at ps one.index) d.states (text ++ byte ∷ []) =
+          subst (λ t. StandsFor t d.states (text ++ byte ∷ [])) e (d.stands text (subst (λ t. StandsFor t one.states text) (sym e) m.stands)) in
+          let behind = subst (λ n. AreAlive ps (text ++ byte ∷ []) n rest) (bound_next (length ps) list k l) r in
+          let all : AreAlive ps (text ++ byte ∷ []) (length ps) (old ++ next ∷ rest) =
+          s.so_far text a (next ∷ rest) (m.below, none_more ps text (byte ∷ []) (one.index + 1) (bound_at (length ps) list k) m.none, stands, behind) in
+          subst (λ w. AreAlive ps (text ++ byte ∷ []) (length ps) w) (sym (append_assoc old (next ∷ []) rest) ∙ ap (λ w. w ++ rest) (sym d.more)) all;
+    }
+
+pub stepped_on : (ps : List Tree) (pattern : Tree) (byte : ℕ) (list old new : List Alive) (k : ℕ) → k < length list → pattern ≡ pattern_at ps (alive_at list k).index → IsOwn ps (alive_at list k) → GoesOn pattern byte (alive_at list k) old new → IsStepped ps byte list old k → IsStepped ps byte list new (suc k)
+stepped_on ps pattern byte list old new k l e o (inl d) s = dropped_on ps pattern byte list old new k l e d s
+stepped_on ps pattern byte list old new k l e o (inr d) s = written_on ps pattern byte list old new k l e o d s
+
+pub all_stepped : (ps : List Tree) (byte : ℕ) (list draft : List Alive) (k : ℕ) → length list ≤ k → IsStepped ps byte list draft k → Leads ps byte list draft
+all_stepped ps byte list draft k l s text a =
+    subst (λ w. AreAlive ps (text ++ byte ∷ []) (length ps) w) (append-nil draft)
+    (s.so_far text a [] (none_more ps text (byte ∷ []) 0 (bound_at (length ps) list k) (none_left ps text (length ps) list k l a)))
+
+-- the specifications from one on are written, before the first byte
+pub record IsStarted (ps : List Tree) (draft : List Alive) (left : ℕ) : Type 0 where
+  pub own : All (IsOwn ps) draft
+  pub so_far : (rest : List Alive) → AreAlive ps [] left rest → AreAlive ps [] (length ps) (draft ++ rest)
+
+pub none_started : (ps : List Tree) (draft : List Alive) (n : ℕ) → draft ≡ [] → n ≡ length ps → IsStarted ps draft n
+none_started ps draft n e f = subst (λ d. IsStarted ps d n) (sym e) (record {
+  own = λ k d l. absurd (omega (arith, l));
+  so_far = λ rest r. subst (λ m. AreAlive ps [] m rest) f r;
+})
+
+pub started_on : (ps : List Tree) (pattern : Tree) (states : Progress) (old new : List Alive) (i left : ℕ) → i + 1 ≡ left → i < length ps → pattern ≡ pattern_at ps i → AreStatesOf pattern states → StandsFor pattern states [] → new ≡ old ++ alive i states ∷ [] → IsStarted ps old left → IsStarted ps new i
+started_on ps pattern states old new i left n l e made stands more s =
+    let one = alive i states in record {
+      own = subst (All (IsOwn ps)) (sym more) (All-push (IsOwn ps) old one s.own (record { within = l; made = subst (λ t. AreStatesOf t states) e made }));
+      so_far = λ rest r.
+          let all : AreAlive ps [] (length ps) (old ++ one ∷ rest) =
+          s.so_far (one ∷ rest) (omega (arith, n), (λ j a b. absurd (omega (arith, n, a, b))), subst (λ t. StandsFor t states []) e stands, r) in
+          subst (λ w. AreAlive ps [] (length ps) w) (sym (append_assoc old (one ∷ []) rest) ∙ ap (λ w. w ++ rest) (sym more)) all;
+    }
+
+pub all_started : (ps : List Tree) (draft : List Alive) (left : ℕ) → left ≤ 0 → IsStarted ps draft left → AreAlive ps [] (length ps) draft
+all_started ps draft left l s =
+    subst (λ w. AreAlive ps [] (length ps) w) (append-nil draft) (s.so_far [] (λ j a b. absurd (omega (arith, a, b, l))))
+
+pub read_more : (ps : List Tree) (text : List ℕ) (i : ℕ) (list : List Alive) → i < length text → AreAlive ps (take i text ++ get_or text i 0 ∷ []) (length ps) list → AreAlive ps (take (i + 1) text) (length ps) list
+read_more ps text i list l h = subst (λ w. AreAlive ps w (length ps) list) (sym (take_more text i 0 l)) h
+
+-- what is dead behind a front is dead behind the whole
+pub front_none : (ps : List Tree) (text : List ℕ) (i from below : ℕ) → NoneAlive ps (take i text) from below → NoneAlive ps text from below
+front_none ps text i from below h = subst (λ w. NoneAlive ps w from below) (take-append-drop i text) (none_more ps (take i text) (drop i text) from below h)

@@ -1,0 +1,170 @@
+-- What is remembered stays right while lists are added and entries are noted.
+use Rattle.std.proofs.Common.{◌≡◌, ◌≢◌, ◌∙◌, sym, refl, ap, subst, ℕ, zero, suc, ◌+◌, ◌-◌, ◌*◌, ◌/◌, ◌%◌, ◌<◌, ◌≤◌, ◌==◌, ◌⊎◌, inl, inr, Bool, true, false, List, [], ◌∷◌, ◌++◌, Option, None, Some, length, length-append, length-set, get_or, get_or-set_same, get_or-set_other, set, slice_index, replicate, eqb-true, eq-eqb, true≢false, arith}
+use Rattle.std.proofs.Math.ListN.{get_or-append}
+use Rattle.std.proofs.lemmas.Bool.{cases_lt}
+use Rattle.std.proofs.lemmas.List.{get_or_default, get_or_push, length-replicate}
+use Rattle.std.specs.List.{All}
+use Rattle.label_base.specs.declared.kind.Asked.{Asked}
+use Rattle.label_base.specs.declared.kind.Asked.TheVariants.{Any, Of}
+use Rattle.label_base.specs.declared.kind.EntryKind.{EntryKind}
+use Rattle.label_base.specs.declared.kind.EntryKind.TheVariants.{Regular, Directory, Link, Pipe, Socket, Block, Char, Other}
+use Rattle.pattern_syntax.specs.Tree.{Tree}
+use Rattle.spec_reader.specs.SpecValue.{SpecValue}
+use Rattle.spec_match.specs.Alive.{Alive, AreAlive, IsOwn, Leads, list_of}
+use Rattle.spec_match.specs.Remembering.{Kept, HasAnswer, HasStep, IsAnswer, IsGrown, IsNoted, IsStep, IsTableOf, Remembers, asked_number, asked_of, decoded, kept, with_list}
+
+recalled : (R : ℕ → ℕ → Type 0) (row : List ℕ) (p known : ℕ) → Remembers R row → p < length row → known ≡ get_or row p known → 0 < known → R p (known - 1)
+recalled R row p known m w e h = m.entry p (known - 1) (get_or_default row p 0 known w ∙ sym e ∙ omega (arith, h))
+
+entry_by : (R : ℕ → ℕ → Type 0) (row : List ℕ) (p x q v : ℕ) (same : Bool) → (q == p) ≡ same → p < length row → Remembers R row → ((v : ℕ) → x ≡ suc v → R p v) → slice_index (set row p x) q ≡ suc v → R q v
+entry_by R row p x q v true t w m h e =
+    let same : q ≡ p = eqb-true q p t in
+    subst (λ k. R k v) (sym same) (h v (sym (get_or-set_same row p x 0 w) ∙ ap (λ k. slice_index (set row p x) k) (sym same) ∙ e))
+entry_by R row p x q v false t w m h e =
+    let other : q ≢ p = λ same. true≢false (sym (eq-eqb q p same) ∙ t) in
+    m.entry q v (sym (get_or-set_other row p q x 0 other) ∙ e)
+
+noted : (R : ℕ → ℕ → Type 0) (row : List ℕ) (p x : ℕ) → p < length row → ((v : ℕ) → x ≡ suc v → R p v) → Remembers R row → Remembers R (set row p x)
+noted R row p x w h m = record { entry = λ q v e. entry_by R row p x q v (q == p) refl w m h e }
+
+none_there : (n p : ℕ) → slice_index (replicate n 0) p ≡ 0
+none_there zero p = refl
+none_there (suc n) zero = refl
+none_there (suc n) (suc p) = none_there n p
+
+-- a row behind which nothing is known
+longer : (R : ℕ → ℕ → Type 0) (row : List ℕ) (n : ℕ) → Remembers R row → Remembers R (row ++ replicate n 0)
+longer R row n m = record { entry = λ p v e. m.entry p v (at row p v n e) }
+  where
+    at : (row : List ℕ) (p v n : ℕ) → slice_index (row ++ replicate n 0) p ≡ suc v → slice_index row p ≡ suc v
+    at [] p v n e = absurd (omega (arith, e, none_there n p))
+    at (x ∷ row) zero v n e = e
+    at (x ∷ row) (suc p) v n e = at row p v n e
+
+weaker : (R S : ℕ → ℕ → Type 0) (row : List ℕ) → ((p v : ℕ) → R p v → S p v) → Remembers R row → Remembers S row
+weaker R S row f m = record { entry = λ p v e. f p v (m.entry p v e) }
+
+list_kept : (old more : List (List Alive)) (i : ℕ) → i < length old → list_of (old ++ more) i ≡ list_of old i
+list_kept old more i l = get_or-append old more [] i l
+
+steps_kept : (ps : List Tree) (lists : List (List Alive)) (new : List Alive) (row : List ℕ) → Remembers (IsStep ps lists) row → Remembers (IsStep ps (lists ++ new ∷ [])) row
+steps_kept ps lists new row m =
+    weaker (IsStep ps lists) (IsStep ps (lists ++ new ∷ [])) row (λ p v h. record {
+      from_within = omega (arith, h.from_within, length-append lists (new ∷ []));
+      to_within = omega (arith, h.to_within, length-append lists (new ∷ []));
+      leads = rw (list_kept lists (new ∷ []) (p / 256) h.from_within, list_kept lists (new ∷ []) (suc v) h.to_within) h.leads;
+    }) m
+
+answers_kept : (ps : List Tree) (specs : List SpecValue) (lists : List (List Alive)) (new : List Alive) (row : List ℕ) → Remembers (IsNoted ps specs lists) row → Remembers (IsNoted ps specs (lists ++ new ∷ [])) row
+answers_kept ps specs lists new row m =
+    weaker (IsNoted ps specs lists) (IsNoted ps specs (lists ++ new ∷ [])) row (λ p v h. record {
+      within = omega (arith, h.within, length-append lists (new ∷ []));
+      told = λ text a. h.told text (subst (λ list. AreAlive ps text (length ps) list) (list_kept lists (new ∷ []) (p / 9) h.within) a);
+    }) m
+
+pub nothing_kept : (ps : List Tree) (specs : List SpecValue) → IsTableOf ps specs (kept [] [] [])
+nothing_kept ps specs = record {
+  own = λ i l. absurd (omega (arith, l));
+  first = λ l. absurd (omega (arith, l));
+  none = refl;
+  rows = refl;
+  answer_rows = refl;
+  steps = record { entry = λ p v e. absurd (omega (arith, e)) };
+  answers = record { entry = λ p v e. absurd (omega (arith, e)) };
+}
+
+before_or_last : (i n : ℕ) → i < n + 1 → (i < n) ⊎ (n ≡ i)
+before_or_last i n l = elim (cases_lt i n) [ inl before ↦ inl before | inr after ↦ inr (omega (arith, after, l)) ]
+
+own_more : (ps : List Tree) (lists : List (List Alive)) (new : List Alive) → ((i : ℕ) → i < length lists → All (IsOwn ps) (list_of lists i)) → All (IsOwn ps) new → (i : ℕ) → i < length (lists ++ new ∷ []) → All (IsOwn ps) (list_of (lists ++ new ∷ []) i)
+own_more ps lists new own this i l = elim (before_or_last i (length lists) (omega (arith, l, length-append lists (new ∷ [])))) [
+  | inl before ↦ subst (All (IsOwn ps)) (sym (list_kept lists (new ∷ []) i before)) (own i before)
+  | inr here ↦ subst (All (IsOwn ps)) (sym (get_or_push lists new [] i here)) this
+]
+
+first_more : (ps : List Tree) (lists : List (List Alive)) (new : List Alive) → (0 < length lists → AreAlive ps [] (length ps) (list_of lists 0)) → (length lists ≡ 0 → AreAlive ps [] (length ps) new) → AreAlive ps [] (length ps) (list_of (lists ++ new ∷ []) 0)
+first_more ps [] new first this = this refl
+first_more ps (x ∷ lists) new first this = first (omega arith)
+
+none_more : (lists : List (List Alive)) (new : List Alive) → list_of lists 1 ≡ [] → (length lists ≡ 1 → new ≡ []) → list_of (lists ++ new ∷ []) 1 ≡ []
+none_more [] new none this = refl
+none_more (x ∷ []) new none this = this refl
+none_more (x ∷ y ∷ lists) new none this = none
+
+pub added : (ps : List Tree) (specs : List SpecValue) (k : Kept) (new : List Alive) → IsTableOf ps specs k → All (IsOwn ps) new → (length k.lists ≡ 0 → AreAlive ps [] (length ps) new) → (length k.lists ≡ 1 → new ≡ []) → IsTableOf ps specs (with_list k new)
+added ps specs k new t own first none = record {
+  own = own_more ps k.lists new t.own own;
+  first = λ _. first_more ps k.lists new t.first first;
+  none = none_more k.lists new t.none none;
+  rows = omega (arith, t.rows, length-append k.next (replicate 256 0), length-append k.lists (new ∷ []), length-replicate {A = ℕ} 256 0);
+  answer_rows = omega (arith, t.answer_rows, length-append k.answers (replicate 9 0), length-append k.lists (new ∷ []), length-replicate {A = ℕ} 9 0);
+  steps = longer (IsStep ps (k.lists ++ new ∷ [])) k.next 256 (steps_kept ps k.lists new k.next t.steps);
+  answers = longer (IsNoted ps specs (k.lists ++ new ∷ [])) k.answers 9 (answers_kept ps specs k.lists new k.answers t.answers);
+}
+
+pub step_noted : (ps : List Tree) (specs : List SpecValue) (k : Kept) (from byte to : ℕ) → IsTableOf ps specs k → from < length k.lists → byte < 256 → to < length k.lists → Leads ps byte (list_of k.lists from) (list_of k.lists to) → IsTableOf ps specs (kept k.lists (set k.next (256 * from + byte) to) k.answers)
+step_noted ps specs k from byte to t f b o leads = record {
+  own = t.own;
+  first = t.first;
+  none = t.none;
+  rows = length-set k.next (256 * from + byte) to ∙ t.rows;
+  answer_rows = t.answer_rows;
+  steps = noted (IsStep ps k.lists) k.next (256 * from + byte) to (omega (arith, t.rows, f, b)) (λ v e.
+      let q : (256 * from + byte) / 256 ≡ from = omega (arith, b) in
+      let r : (256 * from + byte) % 256 ≡ byte = omega (arith, b) in
+      rw (q, r, ← e) (record { from_within = f; to_within = o; leads = leads })) t.steps;
+  answers = t.answers;
+}
+
+pub step_recalled : (ps : List Tree) (specs : List SpecValue) (k : Kept) (from byte known : ℕ) → IsTableOf ps specs k → from < length k.lists → byte < 256 → known ≡ get_or k.next (256 * from + byte) known → 0 < known → HasStep ps k.lists from byte known
+step_recalled ps specs k from byte known t f b e h =
+    let q : (256 * from + byte) / 256 ≡ from = omega (arith, b) in
+    let r : (256 * from + byte) % 256 ≡ byte = omega (arith, b) in
+    let s : suc (known - 1) ≡ known = omega (arith, h) in
+    let p = 256 * from + byte in
+    let had : HasStep ps k.lists (p / 256) (p % 256) (suc (known - 1)) = recalled (IsStep ps k.lists) k.next p known t.steps (omega (arith, t.rows, f, b)) e h in
+    subst (λ n. HasStep ps k.lists n byte known) q (subst (λ n. HasStep ps k.lists (p / 256) n known) r (subst (λ n. HasStep ps k.lists (p / 256) (p % 256) n) s had))
+
+asked_back : (asked : Asked) → asked_of (asked_number asked) ≡ asked
+asked_back Any = refl
+asked_back (Of Regular) = refl
+asked_back (Of Directory) = refl
+asked_back (Of Link) = refl
+asked_back (Of Pipe) = refl
+asked_back (Of Socket) = refl
+asked_back (Of Block) = refl
+asked_back (Of Char) = refl
+asked_back (Of Other) = refl
+
+pub answer_noted : (ps : List Tree) (specs : List SpecValue) (k : Kept) (list number : ℕ) (asked : Asked) (x : ℕ) (found : Option ℕ) → number ≡ asked_number asked → number < 9 → IsTableOf ps specs k → list < length k.lists → ((text : List ℕ) → AreAlive ps text (length ps) (list_of k.lists list) → IsAnswer asked text specs found) → ((v : ℕ) → x ≡ suc v → found ≡ decoded v) → IsTableOf ps specs (kept k.lists k.next (set k.answers (9 * list + number) x))
+answer_noted ps specs k list number asked x found n b t l told code = record {
+  own = t.own;
+  first = t.first;
+  none = t.none;
+  rows = t.rows;
+  answer_rows = length-set k.answers (9 * list + number) x ∙ t.answer_rows;
+  steps = t.steps;
+  answers = noted (IsNoted ps specs k.lists) k.answers (9 * list + number) x (omega (arith, t.answer_rows, l, b)) (λ v e.
+      let q : (9 * list + number) / 9 ≡ list = omega (arith, b) in
+      let r : (9 * list + number) % 9 ≡ number = omega (arith, b) in
+      let same : asked ≡ asked_of number = sym (asked_back asked) ∙ ap asked_of (sym n) in
+      rw (q, r) (record { within = l; told = λ text a. subst (λ w. IsAnswer (asked_of number) text specs w) (code v e) (subst (λ w. IsAnswer w text specs found) same (told text a)) })) t.answers;
+}
+
+pub answer_recalled : (ps : List Tree) (specs : List SpecValue) (k : Kept) (list number : ℕ) (asked : Asked) (known : ℕ) → number ≡ asked_number asked → number < 9 → IsTableOf ps specs k → list < length k.lists → known ≡ get_or k.answers (9 * list + number) known → 0 < known → (text : List ℕ) → AreAlive ps text (length ps) (list_of k.lists list) → IsAnswer asked text specs (decoded (known - 1))
+answer_recalled ps specs k list number asked known n b t l e h text a =
+    let q : (9 * list + number) / 9 ≡ list = omega (arith, b) in
+    let r : (9 * list + number) % 9 ≡ number = omega (arith, b) in
+    let p = 9 * list + number in
+    let there : HasAnswer ps specs k.lists (p / 9) (p % 9) (known - 1) = recalled (IsNoted ps specs k.lists) k.answers p known t.answers (omega (arith, t.answer_rows, l, b)) e h in
+    let had = subst (λ n. HasAnswer ps specs k.lists n number (known - 1)) q (subst (λ n. HasAnswer ps specs k.lists (p / 9) n (known - 1)) r there) in
+    subst (λ w. IsAnswer w text specs (decoded (known - 1))) (ap asked_of n ∙ asked_back asked) (had.told text a)
+
+pub grown_by : (old new : List (List Alive)) (i : ℕ) → IsGrown old new → i < length old → list_of new i ≡ list_of old i
+grown_by old new i g l = ap (λ ls. list_of ls i) g.1 ∙ list_kept old g.0 i l
+
+pub grown_longer : (old new : List (List Alive)) → IsGrown old new → length old ≤ length new
+grown_longer old new g = omega (arith, ap (λ (ls : List (List Alive)). length ls) g.1, length-append old g.0)
+
+pub none_own : (ps : List Tree) (list : List Alive) → list ≡ [] → All (IsOwn ps) list
+none_own ps list e = subst (All (IsOwn ps)) (sym e) (λ k d l. absurd (omega (arith, l)))

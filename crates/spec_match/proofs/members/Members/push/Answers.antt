@@ -1,0 +1,15 @@
+use Rattle.std.proofs.Common.{◌≡◌, ◌∙◌, ap, [], ◌++◌, ◌∷◌, arith, length, length-append, refl, sym}
+use Rattle.spec_match.specs.Alive.{alive}
+use Rattle.spec_match.proofs.MemberLemmas.{members_more, laid_more}
+use Rattle.spec_match.proofs.members.Members.push.Goals as goal
+
+pub invariant_of-self : goal.invariant_of-self
+invariant_of-self c =
+    rw (c.in-Ok.ensures.items, c.in-Ok-push.ensures.items)
+    (laid_more (length c.self.inside.words.items) 0 _ c.self.inside.members.items c.in-Some.member c.self.invariant (omega (arith, c.in-Some.ensures.start)) (omega (arith, c.in-Some.ensures.width, length-append c.self.inside.words.items c.marks-marks.result.now)))
+
+pub returns : goal.returns
+returns c =
+    rw (c.in-Ok.ensures.items, c.in-Ok-push.ensures.items)
+    (members_more c.self.inside.words.items c.marks-marks.result.now c.self.inside.members.items c.in-Some.member c.args.index c.args.states.now.seen c.self.invariant c.in-Some.ensures.index (c.in-Some.ensures.seen ∙ c.seen.ensures) (omega (arith, c.in-Some.ensures.start)) (omega (arith, c.in-Some.ensures.width))
+    ∙ rw (c.self.view_is, c.marks-marks.ensures) refl)

@@ -1,0 +1,123 @@
+ghost use Rattle.std.specs.Prelude.{◌≡◌, ◌<◌, ℕ, List, length, map};
+ghost use Rattle.label_base.specs.Kind.{kind_number};
+ghost use Rattle.pattern_match.specs.States.{AreStatesOf, StandsFor};
+ghost use Rattle.spec_match.specs.Alive.{AreAlive, alive_at, list_of};
+ghost use Rattle.spec_match.specs.LastMatch.{fits};
+ghost use Rattle.spec_match.specs.Remembering.{IsAnswer, asked_number};
+ghost use Rattle.spec_match.specs.StatesFor.{AreStatesFor, patterns_of, spec_in};
+ghost use Rattle.spec_match.specs.Stepping.{AreOwnLists};
+
+use crate::lists::Lists;
+use crate::rule::Rule;
+use label_base::{Asked, EntryKind};
+use pattern_match::States;
+
+fn kind_number(kind: EntryKind) -> usize
+    ensures { result ≡ kind_number kind }
+{
+    match kind {
+        EntryKind::Regular => 0,
+        EntryKind::Directory => 1,
+        EntryKind::Link => 2,
+        EntryKind::Pipe => 3,
+        EntryKind::Socket => 4,
+        EntryKind::Block => 5,
+        EntryKind::Char => 6,
+        EntryKind::Other => 7,
+    }
+}
+
+/// A number below nine for what is asked.
+pub fn asked_number(asked: Asked) -> usize
+    ensures value { result ≡ asked_number asked }
+    ensures below { result < 9 }
+{
+    match asked {
+        Asked::Any => 0,
+        Asked::Of(kind) => kind_number(kind) + 1,
+    }
+}
+
+// Whether the specification at a place of a list applies, and its language holds the text that was read.
+fn does_fit(
+    lists: &Lists,
+    rule: &Rule,
+    states: &mut States,
+    list: usize,
+    k: usize,
+    asked: Asked,
+) -> bool
+    requires list { list < length lists.now.lists }
+    requires within { k < length (list_of lists.now.lists list) }
+    requires made { AreStatesOf rule.now.spec.pattern states.old }
+    requires kept { AreStatesOf rule.now.spec.pattern (alive_at (list_of lists.now.lists list) k).states }
+    ensures made { AreStatesOf rule.now.spec.pattern states.new }
+    ensures value { (text : List ℕ)
+        → StandsFor rule.now.spec.pattern (alive_at (list_of lists.now.lists list) k).states text
+        → result ≡ fits asked text rule.now.spec }
+{
+    lists.load(list, k, states);
+    rule.fits_read(states, asked)
+}
+
+/// The first specification of a list that fits. The list goes from the last one back, so it is the last match.
+pub fn first_fit(
+    lists: &Lists,
+    rules: &[Rule],
+    states: &mut Vec<States>,
+    list: usize,
+    asked: Asked,
+) -> Option<usize>
+    requires states { AreStatesFor (patterns_of rules.now) states.old.items }
+    requires own { AreOwnLists (patterns_of rules.now) lists.now.lists }
+    requires list { list < length lists.now.lists }
+    ensures states { AreStatesFor (patterns_of rules.now) states.new.items }
+    ensures told { (text : List ℕ)
+        → AreAlive (patterns_of rules.now) text (length (patterns_of rules.now)) (list_of lists.now.lists list)
+        → IsAnswer asked text (map spec_in rules.now) result }
+{
+    'alive: for k in 0..lists.list_len(list) {
+        let i = lists.index(list, k);
+        if does_fit(lists, &rules[i], &mut states[i], list, k, asked) {
+            return Some(i);
+        }
+    }
+    None
+}
+
+// Whether a specification fits. It counts as tried where its states are looked at.
+fn is_fit(rule: &Rule, states: &mut States, text: &[u8], asked: Asked, tried: &mut u64) -> bool
+    requires { AreStatesOf rule.now.spec.pattern states.old }
+    ensures made { AreStatesOf rule.now.spec.pattern states.new }
+    ensures value { result ≡ fits asked text.now rule.now.spec }
+{
+    if !rule.may_hold(text) {
+        return false;
+    }
+    *tried = tried.saturating_add(1);
+    rule.does_fit(states, text, asked)
+}
+
+/// The last of all specifications that fits, each tried by itself.
+pub fn last_fit(
+    rules: &[Rule],
+    states: &mut Vec<States>,
+    text: &[u8],
+    asked: Asked,
+    tried: &mut u64,
+) -> Option<usize>
+    requires { AreStatesFor (patterns_of rules.now) states.old.items }
+    ensures states { AreStatesFor (patterns_of rules.now) states.new.items }
+    ensures told { IsAnswer asked text.now (map spec_in rules.now) result }
+{
+    let mut left = rules.len();
+    'rules: while left > 0 {
+        left -= 1;
+        let rule = &rules[left];
+        let own = &mut states[left];
+        if is_fit(rule, own, text, asked, tried) {
+            return Some(left);
+        }
+    }
+    None
+}

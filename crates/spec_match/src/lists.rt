@@ -1,0 +1,172 @@
+ghost use Rattle.std.specs.Prelude.{◌≡◌, ◌<◌, ◌++◌, ◌∷◌, [], true, IfOk, length, if◌then◌else◌};
+ghost use Rattle.spec_match.specs.Alive.{alive, alive_at, list_of};
+ghost use Rattle.spec_match.specs.Written.{written};
+
+use crate::members::{Members, have_same};
+use label_base::OutOfMemory;
+use pattern_match::States;
+use std::alloc::Global;
+use std::marker::Model;
+
+/// Where a list stands among the members.
+#[derive(Clone, Copy, Debug)]
+pub struct Span {
+    start: usize,
+    len: usize,
+}
+
+/// Lists of specifications that are alive, and one that is being written, in memory that was reserved for them.
+#[derive(Debug, Drop)]
+pub struct Lists {
+    members: Members,
+    spans: Vec<Span>,
+    // How many members are in lists that are complete.
+    done: usize,
+}
+
+impl Model for Lists {
+    ghost use Rattle.spec_match.specs.Written.{Written, written_in, AreWritten};
+
+    ghost Value = { Written };
+
+    ghost view = { written_in };
+
+    ghost invariant = { AreWritten };
+}
+
+fn mixed(hash: u64, number: u64) -> u64 {
+    (hash.rotate_left(23) ^ number).wrapping_mul(0x9e37_79b9_7f4a_7c15)
+}
+
+fn hash_of(hash: u64, members: &Members, k: usize) -> u64
+    requires { k < length members.now }
+{
+    let mut hash = mixed(hash, members.index(k) as u64);
+    hash = mixed(hash, members.seen(k) as u64);
+    'words: for word in members.marks(k) {
+        hash = mixed(hash, *word);
+    }
+    hash ^ hash >> 32
+}
+
+impl Lists {
+    /// No lists, with room for so many, for so many members of all of them, and so many words of marks.
+    pub fn new(
+        alloc: Global,
+        lists: usize,
+        members: usize,
+        words: usize,
+    ) -> Result<Lists, OutOfMemory>
+        ensures { IfOk result (λ lists. lists ≡ written [] []) }
+    {
+        Ok(Lists {
+            members: Members::new(alloc, members, words)?,
+            spans: Vec::with_capacity(alloc, lists)?,
+            done: 0,
+        })
+    }
+
+    /// How many lists are complete.
+    pub fn len(&self) -> usize
+        ensures { result ≡ length self.now.lists }
+    {
+        self.spans.len()
+    }
+
+    /// How many specifications a list has.
+    pub fn list_len(&self, i: usize) -> usize
+        requires { i < length self.now.lists }
+        ensures { result ≡ length (list_of self.now.lists i) }
+    {
+        self.spans[i].len
+    }
+
+    /// Which specification is at a place of a list.
+    pub fn index(&self, i: usize, k: usize) -> usize
+        requires list { i < length self.now.lists }
+        requires within { k < length (list_of self.now.lists i) }
+        ensures { result ≡ (alive_at (list_of self.now.lists i) k).index }
+    {
+        let _ = self.members.len();
+        self.members.index(self.spans[i].start + k)
+    }
+
+    /// Makes states those at a place of a list.
+    pub fn load(&self, i: usize, k: usize, states: &mut States)
+        requires list { i < length self.now.lists }
+        requires within { k < length (list_of self.now.lists i) }
+        requires width { length (alive_at (list_of self.now.lists i) k).states.marks
+            ≡ length states.old.marks }
+        ensures { states.new ≡ (alive_at (list_of self.now.lists i) k).states }
+    {
+        let _ = self.members.len();
+        self.members.load(self.spans[i].start + k, states);
+    }
+
+    /// Writes a specification to the end of the list that is being written, where there is room.
+    pub fn push(&mut self, index: usize, states: &States) -> bool
+        ensures { self.new ≡ (if result
+            then written self.old.lists (self.old.draft ++ alive index states.now ∷ [])
+            else self.old) }
+    {
+        self.members.push(index, states)
+    }
+
+    /// Completes the list that is being written, and begins the next. Where there is no room for it, it is lost.
+    pub fn close(&mut self) -> bool
+        ensures { self.new ≡ (if result
+            then written (self.old.lists ++ self.old.draft ∷ []) []
+            else written self.old.lists []) }
+    {
+        if self.spans.len() == self.spans.capacity() {
+            self.members.truncate(self.done);
+            return false;
+        }
+        let span = Span {
+            start: self.done,
+            len: self.members.len() - self.done,
+        };
+        let Ok(()) = self.spans.push(span) else {
+            unreachable!()
+        };
+        self.done = self.members.len();
+        true
+    }
+
+    /// Begins the list that is being written anew.
+    pub fn drop_draft(&mut self)
+        ensures { self.new ≡ written self.old.lists [] }
+    {
+        self.members.truncate(self.done);
+    }
+
+    /// Forgets all lists. The room for them stays.
+    pub fn clear(&mut self)
+        ensures { self.new ≡ written [] [] }
+    {
+        self.spans.clear();
+        self.members.truncate(0);
+        self.done = 0;
+    }
+
+    /// Whether a list is the one that is being written.
+    pub fn is_draft(&self, i: usize) -> bool
+        requires { i < length self.now.lists }
+        ensures { result ≡ true → list_of self.now.lists i ≡ self.now.draft }
+    {
+        let span = self.spans[i];
+        if span.len != self.members.len() - self.done {
+            return false;
+        }
+        have_same(&self.members, span.start, self.done, span.len)
+    }
+
+    /// A number by which a list that was written before is looked for.
+    pub fn hash(&self) -> u64 {
+        let mut hash = 0;
+        'members: for k in self.done..self.members.len() {
+            hash = hash_of(hash, &self.members, k);
+        }
+        hash
+    }
+}

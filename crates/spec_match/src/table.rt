@@ -1,0 +1,443 @@
+ghost use Rattle.std.specs.Prelude.{◌≡◌, ◌<◌, ◌≤◌, ◌+◌, ◌++◌, ◌∷◌, ℕ, List, [], true, IfErr, IfOk, IfSome, IfNone, length, map, replicate, suc};
+ghost use Rattle.std.specs.List.{All};
+ghost use Rattle.std.specs.Vec.{vec_capacity, vec_len};
+ghost use Rattle.pattern_syntax.specs.Tree.{Tree};
+ghost use Rattle.spec_reader.specs.SpecValue.{SpecValue};
+ghost use Rattle.spec_match.specs.Alive.{AreAlive, IsOwn, Leads, list_of};
+ghost use Rattle.spec_match.specs.Remembering.{CanBeAdded, IsAnswer, IsGrown, IsTableOf, decoded, kept, with_list};
+ghost use Rattle.spec_match.specs.StatesFor.{AreStatesFor, patterns_of, spec_in};
+ghost use Rattle.spec_match.specs.Tables.{kept_in};
+ghost use Rattle.spec_match.specs.Trail.{IsTrail};
+
+use crate::answering::{asked_number, first_fit};
+use crate::lists::Lists;
+use crate::rule::Rule;
+use crate::stepping::{start_all, step_all};
+use crate::trail::{Passed, common, list_behind, note_passed};
+use label_base::{Asked, OutOfMemory};
+use pattern_match::States;
+use std::alloc::Global;
+
+// In how many slots a list is looked for.
+const TRIES: usize = 8;
+
+// The list of no specification.
+const NONE_ALIVE: usize = 1;
+
+// After how many look-ups the lists are begun. Fewer are found sooner without them.
+const FIRST_LOOK_UPS: u64 = 32;
+
+// How many look-ups there are for each list at least, before all lists are forgotten.
+const LOOK_UPS_A_LIST: u64 = 16;
+
+// How many bytes of the last text are kept.
+const LONGEST_TRAIL: usize = 4096;
+
+/// Which list of specifications each byte leads to from which, and what is answered where, as far as earlier look-ups found
+/// out. All memory is reserved when it is made.
+#[derive(Debug, Drop)]
+pub struct Table {
+    pub(crate) lists: Lists,
+    // For each list and each byte the number of the list that the byte leads to, or 0 where it isn't known.
+    pub(crate) next: Vec<u16>,
+    // For each list and each kind that may be asked for one more than the code of the answer, or 0 where it isn't known.
+    pub(crate) answers: Vec<u32>,
+    // Guesses at which list may be one, by its hash.
+    slots: Vec<u32>,
+    // The text that was read last, and the list behind each of its bytes.
+    pub(crate) trail: Vec<Passed>,
+    // How many specifications of lists were looked at.
+    pub(crate) tried: u64,
+    // How many look-ups there were since all was forgotten.
+    look_ups: u64,
+    is_full: bool,
+    // At how many look-ups all may be forgotten, if it is full.
+    due: u64,
+}
+
+// Copies of a value behind the others, for which there is room.
+fn add_copies<T: Copy>(row: &mut Vec<T>, n: usize, value: T)
+    requires { vec_len row.old + n ≤ vec_capacity row.old }
+    ensures { row.new.items ≡ row.old.items ++ replicate n value }
+{
+    let Ok(()) = row.resize(row.len() + n, value) else {
+        unreachable!()
+    };
+}
+
+// The number of a list that equals the one that is being written, or a slot for its number. What the slots hold is but a guess.
+fn find(lists: &Lists, slots: &[u32]) -> Result<usize, usize>
+    ensures within { IfOk result (λ number. number < length lists.now.lists) }
+    ensures found { IfOk result (λ number. list_of lists.now.lists number ≡ lists.now.draft) }
+{
+    let n = slots.len();
+    if n == 0 {
+        return Err(0);
+    }
+    let first = (lists.hash() % n as u64) as usize;
+    let mut slot = first;
+    'tries: for _ in 0..TRIES {
+        let known = slots[slot] as usize;
+        if known == 0 {
+            return Err(slot);
+        }
+        if known <= lists.len() {
+            if lists.is_draft(known - 1) {
+                return Ok(known - 1);
+            }
+        }
+        slot = (slot + 1) % n;
+    }
+    Err(first)
+}
+
+// Notes where a list may be found.
+fn note_guess(slots: &mut Vec<u32>, slot: usize, number: usize) {
+    if slot < slots.len() {
+        if number < u32::MAX as usize {
+            slots[slot] = number as u32 + 1;
+        }
+    }
+}
+
+// Forgets where lists may be found.
+fn forget(slots: &mut Vec<u32>) {
+    'slots: for i in 0..slots.len() {
+        slots[i] = 0;
+    }
+}
+
+// The answer with a code.
+fn decoded(code: u32) -> Option<usize>
+    ensures { result ≡ decoded code }
+{
+    if code == 0 {
+        return None;
+    }
+    Some(code as usize - 1)
+}
+
+// One more than the code of an answer, or 0 for an index that is too great for it.
+fn coded(found: Option<usize>) -> u32
+    ensures { (v : ℕ) → result ≡ suc v → found ≡ decoded v }
+{
+    match found {
+        None => 1,
+        Some(i) => {
+            if i > u32::MAX as usize - 2 {
+                return 0;
+            }
+            i as u32 + 2
+        }
+    }
+}
+
+impl Table {
+    /// Room for so many lists, so many specifications in all of them, and so many words of marks.
+    pub fn new(
+        alloc: Global,
+        lists: usize,
+        members: usize,
+        words: usize,
+    ) -> Result<Table, OutOfMemory>
+        ensures kept { IfOk result (λ table. kept_in table ≡ kept [] [] []) }
+        ensures draft { IfOk result (λ table. table.lists.draft ≡ []) }
+        ensures trail { IfOk result (λ table. table.trail.items ≡ []) }
+    {
+        let Some(steps) = lists.checked_mul(256) else {
+            return Err(OutOfMemory);
+        };
+        let Some(answers) = lists.checked_mul(9) else {
+            return Err(OutOfMemory);
+        };
+        let Some(slots) = lists.checked_mul(2) else {
+            return Err(OutOfMemory);
+        };
+        Ok(Table {
+            lists: Lists::new(alloc, lists, members, words)?,
+            next: Vec::with_capacity(alloc, steps)?,
+            answers: Vec::with_capacity(alloc, answers)?,
+            slots: vec![in alloc; 0u32; slots]?,
+            trail: Vec::with_capacity(alloc, LONGEST_TRAIL)?,
+            tried: 0,
+            look_ups: 0,
+            is_full: true,
+            due: FIRST_LOOK_UPS,
+        })
+    }
+
+    // Completes the list that was written, of which nothing is known yet. Where there is no room, it is lost.
+    fn add(&mut self) -> Option<usize>
+        ensures none { IfNone result (kept_in self.new ≡ kept_in self.old) }
+        ensures some { IfSome result (λ number. kept_in self.new
+            ≡ with_list (kept_in self.old) self.old.lists.draft) }
+        ensures number { IfSome result (λ number. number ≡ length self.old.lists.lists) }
+        ensures draft { self.new.lists.draft ≡ [] }
+        ensures trail { self.new.trail.items ≡ self.old.trail.items }
+        ensures table { (patterns : List Tree) (specs : List SpecValue)
+            → IsTableOf patterns specs (kept_in self.old)
+            → CanBeAdded patterns self.old.lists
+            → IsTableOf patterns specs (kept_in self.new) }
+    {
+        let number = self.lists.len();
+        if self.next.capacity() - self.next.len() < 256 {
+            self.lists.drop_draft();
+            return None;
+        }
+        if self.answers.capacity() - self.answers.len() < 9 {
+            self.lists.drop_draft();
+            return None;
+        }
+        if !self.lists.close() {
+            return None;
+        }
+        add_copies(&mut self.next, 256, 0u16);
+        add_copies(&mut self.answers, 9, 0u32);
+        Some(number)
+    }
+
+    // The number of the list that was written, where it is there or there is room for it.
+    fn number_of(&mut self) -> Option<usize>
+        requires begun { 1 < length self.old.lists.lists }
+        ensures table { (patterns : List Tree) (specs : List SpecValue)
+            → IsTableOf patterns specs (kept_in self.old) → All (IsOwn patterns) self.old.lists.draft
+            → IsTableOf patterns specs (kept_in self.new) }
+        ensures draft { self.new.lists.draft ≡ [] }
+        ensures trail { self.new.trail.items ≡ self.old.trail.items }
+        ensures grown { IsGrown self.old.lists.lists self.new.lists.lists }
+        ensures within { IfSome result (λ number. number < length self.new.lists.lists) }
+        ensures found { IfSome result (λ number. list_of self.new.lists.lists number ≡ self.old.lists.draft) }
+    {
+        match find(&self.lists, self.slots.as_slice()) {
+            Ok(number) => {
+                self.lists.drop_draft();
+                Some(number)
+            }
+            Err(slot) => {
+                note_guess(&mut self.slots, slot, self.lists.len());
+                self.add()
+            }
+        }
+    }
+
+    // Learns no more until it was asked often enough.
+    fn fill(&mut self)
+        ensures kept { kept_in self.new ≡ kept_in self.old }
+        ensures draft { self.new.lists.draft ≡ self.old.lists.draft }
+        ensures trail { self.new.trail.items ≡ self.old.trail.items }
+    {
+        self.is_full = true;
+        self.due = (self.lists.len() as u64).saturating_mul(LOOK_UPS_A_LIST);
+    }
+
+    // The list that a byte leads to, where there is room for it.
+    fn learn(
+        &mut self,
+        rules: &[Rule],
+        states: &mut Vec<States>,
+        from: usize,
+        byte: u8,
+    ) -> Option<usize>
+        requires states { AreStatesFor (patterns_of rules.now) states.old.items }
+        requires table { IsTableOf (patterns_of rules.now) (map spec_in rules.now) (kept_in self.old) }
+        requires draft { self.old.lists.draft ≡ [] }
+        requires begun { 1 < length self.old.lists.lists }
+        requires from { from < length self.old.lists.lists }
+        ensures states { AreStatesFor (patterns_of rules.now) states.new.items }
+        ensures table { IsTableOf (patterns_of rules.now) (map spec_in rules.now) (kept_in self.new) }
+        ensures draft { self.new.lists.draft ≡ [] }
+        ensures begun { 1 < length self.new.lists.lists }
+        ensures grown { IsGrown self.old.lists.lists self.new.lists.lists }
+        ensures trail { self.new.trail.items ≡ self.old.trail.items }
+        ensures within { IfSome result (λ to. to < length self.new.lists.lists) }
+        ensures leads { IfSome result (λ to. Leads (patterns_of rules.now) byte
+            (list_of self.old.lists.lists from) (list_of self.new.lists.lists to)) }
+    {
+        if self.is_full {
+            return None;
+        }
+        let members = self.lists.list_len(from) as u64;
+        self.tried = self.tried.saturating_add(members);
+        if !step_all(&mut self.lists, rules, states, from, byte) {
+            self.lists.drop_draft();
+            self.fill();
+            return None;
+        }
+        match self.number_of() {
+            Some(to) => {
+                let Ok(noted) = u16::try_from(to) else {
+                    return Some(to);
+                };
+                self.next[256 * from + byte as usize] = noted;
+                Some(to)
+            }
+            None => {
+                self.fill();
+                None
+            }
+        }
+    }
+
+    // The list that a byte leads to, where it is known or there is room for it.
+    fn step(
+        &mut self,
+        rules: &[Rule],
+        states: &mut Vec<States>,
+        from: usize,
+        byte: u8,
+    ) -> Option<usize>
+        requires states { AreStatesFor (patterns_of rules.now) states.old.items }
+        requires table { IsTableOf (patterns_of rules.now) (map spec_in rules.now) (kept_in self.old) }
+        requires draft { self.old.lists.draft ≡ [] }
+        requires begun { 1 < length self.old.lists.lists }
+        requires from { from < length self.old.lists.lists }
+        ensures states { AreStatesFor (patterns_of rules.now) states.new.items }
+        ensures table { IsTableOf (patterns_of rules.now) (map spec_in rules.now) (kept_in self.new) }
+        ensures draft { self.new.lists.draft ≡ [] }
+        ensures begun { 1 < length self.new.lists.lists }
+        ensures grown { IsGrown self.old.lists.lists self.new.lists.lists }
+        ensures trail { self.new.trail.items ≡ self.old.trail.items }
+        ensures within { IfSome result (λ to. to < length self.new.lists.lists) }
+        ensures leads { IfSome result (λ to. Leads (patterns_of rules.now) byte
+            (list_of self.old.lists.lists from) (list_of self.new.lists.lists to)) }
+    {
+        let known = self.next[256 * from + byte as usize];
+        if known > 0 {
+            return Some(known as usize);
+        }
+        self.learn(rules, states, from, byte)
+    }
+
+    // What is answered at a list.
+    fn answer(
+        &mut self,
+        rules: &[Rule],
+        states: &mut Vec<States>,
+        list: usize,
+        asked: Asked,
+    ) -> Option<usize>
+        requires states { AreStatesFor (patterns_of rules.now) states.old.items }
+        requires table { IsTableOf (patterns_of rules.now) (map spec_in rules.now) (kept_in self.old) }
+        requires draft { self.old.lists.draft ≡ [] }
+        requires list { list < length self.old.lists.lists }
+        ensures states { AreStatesFor (patterns_of rules.now) states.new.items }
+        ensures table { IsTableOf (patterns_of rules.now) (map spec_in rules.now) (kept_in self.new) }
+        ensures draft { self.new.lists.draft ≡ [] }
+        ensures lists { self.new.lists.lists ≡ self.old.lists.lists }
+        ensures trail { self.new.trail.items ≡ self.old.trail.items }
+        ensures told { (text : List ℕ)
+            → AreAlive (patterns_of rules.now) text (length (patterns_of rules.now)) (list_of self.old.lists.lists list)
+            → IsAnswer asked text (map spec_in rules.now) result }
+    {
+        let place = 9 * list + asked_number(asked);
+        let known = self.answers[place];
+        if known > 0 {
+            return decoded(known - 1);
+        }
+        let members = self.lists.list_len(list) as u64;
+        self.tried = self.tried.saturating_add(members);
+        let found = first_fit(&self.lists, rules, states, list, asked);
+        self.answers[place] = coded(found);
+        found
+    }
+
+    // Forgets everything.
+    fn clear(&mut self)
+        ensures kept { kept_in self.new ≡ kept [] [] [] }
+        ensures draft { self.new.lists.draft ≡ [] }
+        ensures trail { self.new.trail.items ≡ [] }
+    {
+        self.trail.clear();
+        self.lists.clear();
+        self.next.clear();
+        self.answers.clear();
+        forget(&mut self.slots);
+        self.look_ups = 0;
+        self.is_full = false;
+    }
+
+    // Adds the list of all specifications and that of none, where there is room.
+    fn add_first(&mut self, rules: &[Rule], states: &mut Vec<States>) -> bool
+        requires states { AreStatesFor (patterns_of rules.now) states.old.items }
+        requires kept { kept_in self.old ≡ kept [] [] [] }
+        requires draft { self.old.lists.draft ≡ [] }
+        ensures states { AreStatesFor (patterns_of rules.now) states.new.items }
+        ensures table { IsTableOf (patterns_of rules.now) (map spec_in rules.now) (kept_in self.new) }
+        ensures draft { self.new.lists.draft ≡ [] }
+        ensures trail { self.new.trail.items ≡ self.old.trail.items }
+    {
+        if !start_all(&mut self.lists, rules, states) {
+            self.lists.drop_draft();
+            return false;
+        }
+        let Some(_) = self.add() else {
+            return false;
+        };
+        self.add().is_some()
+    }
+
+    // Begins anew where it is full and was asked often enough.
+    fn prepare(&mut self, rules: &[Rule], states: &mut Vec<States>)
+        requires states { AreStatesFor (patterns_of rules.now) states.old.items }
+        requires table { IsTableOf (patterns_of rules.now) (map spec_in rules.now) (kept_in self.old) }
+        requires draft { self.old.lists.draft ≡ [] }
+        requires trail { IsTrail (patterns_of rules.now) self.old.lists.lists self.old.trail.items }
+        ensures states { AreStatesFor (patterns_of rules.now) states.new.items }
+        ensures table { IsTableOf (patterns_of rules.now) (map spec_in rules.now) (kept_in self.new) }
+        ensures draft { self.new.lists.draft ≡ [] }
+        ensures trail { IsTrail (patterns_of rules.now) self.new.lists.lists self.new.trail.items }
+    {
+        self.look_ups = self.look_ups.saturating_add(1);
+        if !self.is_full {
+            return;
+        }
+        if self.look_ups < self.due {
+            return;
+        }
+        self.clear();
+        if !self.add_first(rules, states) {
+            self.is_full = true;
+            self.due = u64::MAX;
+        }
+    }
+
+    /// The last match of a text, or `None` where there is no room to find it out.
+    pub fn look_up(
+        &mut self,
+        rules: &[Rule],
+        states: &mut Vec<States>,
+        text: &[u8],
+        asked: Asked,
+    ) -> Option<Option<usize>>
+        requires states { AreStatesFor (patterns_of rules.now) states.old.items }
+        requires table { IsTableOf (patterns_of rules.now) (map spec_in rules.now) (kept_in self.old) }
+        requires draft { self.old.lists.draft ≡ [] }
+        requires trail { IsTrail (patterns_of rules.now) self.old.lists.lists self.old.trail.items }
+        ensures states { AreStatesFor (patterns_of rules.now) states.new.items }
+        ensures table { IsTableOf (patterns_of rules.now) (map spec_in rules.now) (kept_in self.new) }
+        ensures draft { self.new.lists.draft ≡ [] }
+        ensures trail { IsTrail (patterns_of rules.now) self.new.lists.lists self.new.trail.items }
+        ensures told { IfSome result (λ found. IsAnswer asked text.now (map spec_in rules.now) found) }
+    {
+        self.prepare(rules, states);
+        if self.lists.len() < 2 {
+            return None;
+        }
+        let start = common(self.trail.as_slice(), text);
+        let mut list = list_behind(self.trail.as_slice(), start);
+        self.trail.truncate(start);
+        'text: for i in start..text.len() {
+            if list == NONE_ALIVE {
+                return Some(None);
+            }
+            match self.step(rules, states, list, text[i]) {
+                Some(next) => {
+                    note_passed(&mut self.trail, i, text[i], next);
+                    list = next;
+                }
+                None => return None,
+            }
+        }
+        Some(self.answer(rules, states, list, asked))
+    }
+}
