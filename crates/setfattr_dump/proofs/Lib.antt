@@ -1,0 +1,10 @@
+pub mod DumpMeant
+pub mod LineLemmas
+pub mod LinesMeant
+pub mod QuotingLemmas
+pub mod SectionsMeant
+pub mod Standing
+pub mod ValueLemmas
+pub mod ValuesMeant
+pub mod Writable
+pub mod WrittenLines

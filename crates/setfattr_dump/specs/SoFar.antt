@@ -1,0 +1,25 @@
+-- What is read so far of the lines of a dump.
+use Rattle.std.specs.Prelude.{◌≡◌, ◌++◌, ◌∷◌, [], List, Option, Some, None, Result, Ok, Err}
+use Rattle.label_base.specs.Path.{Path}
+use Rattle.setfattr_dump.specs.declared.dump.Attr.{Attr}
+use Rattle.setfattr_dump.specs.declared.dump.Section.{Section}
+use Rattle.setfattr_dump.specs.declared.fault.DumpWhy.{DumpWhy}
+use Rattle.setfattr_dump.specs.declared.line.Said.{Said}
+use Rattle.setfattr_dump.specs.declared.line.Said.TheVariants.{Ends, Names, Gives}
+use Rattle.setfattr_dump.specs.declared.reading.SoFar.{SoFar}
+use Rattle.setfattr_dump.specs.Reading.{open_section}
+
+-- these sections are closed, and the one that is open, if one is, has this name and these attributes
+pub record IsState
+    (s : SoFar) (sections : List Section) (name : Option Path) (attrs : List Attr) : Type 0 where
+  pub sections_are : s.sections ≡ sections
+  pub name_is : s.name ≡ name
+  pub attrs_are : s.attrs ≡ attrs
+
+-- what a line that says this leaves
+abbrev pub Takes : Result Said DumpWhy → SoFar → SoFar → Type 0
+Takes (Err why) old new = ⊥
+Takes (Ok Ends) old new = IsState new (old.sections ++ open_section old.name old.attrs) None []
+Takes (Ok (Names name)) old new =
+    IsState new (old.sections ++ open_section old.name old.attrs) (Some name) []
+Takes (Ok (Gives attr)) old new = IsState new old.sections old.name (old.attrs ++ attr ∷ [])
