@@ -4,3 +4,8 @@ pub mod NotedLemmas
 pub mod ReportLemmas
 pub mod CountLemmas
 pub mod SelectedLemmas
+pub mod StoredLemmas
+pub mod CountsLemmas
+pub mod ChangeLemmas
+pub mod DumpLemmas
+pub mod FoundLemmas

@@ -5,4 +5,4 @@ use Rattle.relabel_core.specs.declared.walked.Walked.{Walked}
 
 -- the walk that is answered
 abbrev pub walk_in : Walked → Walk
-walk_in walked = walk_of walked.lent
+walk_in walked = walk_of walked.input

@@ -4,6 +4,12 @@ pub mod Verdicts
 pub mod Walk
 pub mod OnePass
 pub mod LabelAfter
+pub mod Stored
 pub mod Walked
 pub mod Answer
 pub mod Report
+pub mod Counts
+pub mod Digests
+pub mod Changes
+pub mod Found
+pub mod Verified

@@ -1,11 +1,13 @@
 -- What one walk over a tree means. There is no running state: each definition speaks of one entry or
 -- one group.
-use Rattle.std.specs.Prelude.{ℕ, ◌+◌, Bool, false, ◌&&◌, ◌==◌, List, [], ◌++◌, length, filter, map, get_or, slice_get, Option, Some, None, is_some, option_and_then, if◌then◌else◌}
+use Rattle.std.specs.Prelude.{ℕ, ◌+◌, Bool, false, not, ◌&&◌, ◌==◌, List, [], ◌++◌, length, filter, map, get_or, slice_get, Option, Some, None, is_some, option_and_then, if◌then◌else◌}
 use Rattle.std.specs.List.{filter_map}
 use Rattle.label_base.specs.Bounded.{all_numbers, any_below, least_below}
 use Rattle.label_base.specs.Path.{Path, path_text}
+use Rattle.label_base.specs.declared.kind.Asked.{Asked}
 use Rattle.label_base.specs.declared.kind.Asked.TheVariants.{Of}
 use Rattle.context_syntax.specs.Context.{ContextValue, same_context}
+use Rattle.context_syntax.specs.Label.{same_label}
 use Rattle.context_syntax.specs.declared.label.Label.{Label}
 use Rattle.context_syntax.specs.declared.label.Label.TheVariants as label_kinds
 use Rattle.spec_reader.specs.SpecValue.{SpecValue}
@@ -14,22 +16,29 @@ use Rattle.spec_reader.specs.declared.spec.Decision.TheVariants.{Leave, Give}
 use Rattle.spec_match.specs.LastMatch.{last_index}
 use Rattle.path_subs.specs.Subs.{substituted}
 use Rattle.find_records.specs.Record.{Record}
-use Rattle.tree_model.specs.Extents.{entry_at}
+use Rattle.tree_model.specs.Extents.{entry_at, in_extent}
 use Rattle.tree_model.specs.Groups.{group_of, label_in}
 use Rattle.report_text.specs.Message.{MessageValue, Relabel, Customized, Conflict, NoDefault, Absent, NoMatches}
 use Rattle.relabel_core.specs.Decide as verdicts
 use Rattle.relabel_core.specs.Decide.{VerdictValue, label_by, verdict_for}
+use Rattle.relabel_core.specs.declared.digests.TheConstants.{VOID_DIGEST}
 use Rattle.relabel_core.specs.declared.options.Options.{Options}
 use Rattle.relabel_core.specs.declared.rules.Rules.{Rules}
 
--- What is walked. entries: the entries of the tree, in the order of their paths. live: for each entry
--- whether the run is asked for it. absent: the operands without an entry, in their order.
+-- the digest that is stored for each directory that has one
+abbrev pub StoredDigests : Type 0
+StoredDigests = ℕ → Option (List ℕ)
+
+-- What is walked. entries: the entries of the tree, in the order of their paths. live: for each
+-- entry whether the run is asked for it. absent: the operands without an entry, in their order.
+-- stored: the digests before the walk.
 pub record Walk : Type 0 where
   pub entries : List Record
   pub live : List Bool
   pub absent : List Path
   pub rules : Rules
   pub options : Options
+  pub stored : StoredDigests
 
 abbrev pub count : Walk → ℕ
 count w = length w.entries
@@ -50,12 +59,16 @@ walked_below w n = length (filter (walked w) (all_numbers n))
 
 -- ---- what is decided
 
--- the index of the last specification for the entry's kind whose language holds its substituted
--- path (selabel_file(5))
-unfoldable pub index_for : Rules → Record → Option ℕ
-index_for rules entry =
-    last_index (Of entry.kind)
-    (path_text (substituted rules.subs.first rules.subs.second entry.path)) rules.rules
+-- the index of the last specification that applies to what is asked and whose language holds the
+-- substituted path (selabel_file(5))
+unfoldable pub index_asked : Rules → Path → Asked → Option ℕ
+index_asked rules path asked =
+    last_index asked
+    (path_text (substituted rules.subs.first rules.subs.second path)) rules.rules
+
+-- the same of an entry's path, where its kind is asked for
+abbrev pub index_for : Rules → Record → Option ℕ
+index_for rules entry = index_asked rules entry.path (Of entry.kind)
 
 -- the index of the specification that decides an entry
 unfoldable pub deciding : Walk → ℕ → Option ℕ
@@ -186,6 +199,34 @@ label_after w e = label_with w e (group_winner w e)
 -- the labels of the entries after the walk
 abbrev pub labels : Walk → List Label
 labels w = map (label_after w) (all_numbers (count w))
+
+-- the label of the group is another one after the walk
+abbrev pub is_changed : Walk → ℕ → Bool
+is_changed w g = not (same_label (new_label w g) (label_in w.entries g))
+
+-- the entry is a name of a group whose label changes
+abbrev pub is_changed_name : Walk → ℕ → Bool
+is_changed_name w e = is_changed w (group_of w.entries e)
+
+-- some entry at or below d is
+unfoldable pub has_changed_name : Walk → ℕ → Bool
+has_changed_name w d = any_below (count w) (λ e. in_extent w.entries d e && is_changed_name w e)
+
+-- a digest is stored, and no longer tells of the labels at or below d
+abbrev pub is_outdated : Walk → ℕ → Bool
+is_outdated w d = is_some (w.stored d) && has_changed_name w d
+
+-- the digest after the walk: with -n all digests stay, and else twenty zero bytes stand for one that
+-- is outdated
+unfoldable pub digest_after : Walk → ℕ → Option (List ℕ)
+digest_after w d =
+    if w.options.dry then w.stored d
+    else if is_outdated w d then Some VOID_DIGEST.now
+    else w.stored d
+
+-- the digests of the entries after the walk
+abbrev pub digests : Walk → List (Option (List ℕ))
+digests w = map (digest_after w) (all_numbers (count w))
 
 unfoldable pub line : Walk → ℕ → Option MessageValue
 line w e = line_with w e (group_winner w e)

@@ -7,8 +7,9 @@ use Rattle.tree_model.specs.Groups.{groups_in}
 use Rattle.tree_model.specs.Selection.{SelectedValue, selected_by}
 use Rattle.tree_model.specs.declared.selection.Choice.{Choice}
 use Rattle.relabel_core.specs.Numbers.{found_in}
-use Rattle.relabel_core.specs.Walk.{Walk, can_win, deciding}
-use Rattle.relabel_core.specs.declared.lent.Lent.{Lent}
+use Rattle.relabel_core.specs.Stored.{digests_of}
+use Rattle.relabel_core.specs.Walk.{StoredDigests, Walk, can_win, deciding}
+use Rattle.relabel_core.specs.declared.input.WalkInput.{WalkInput}
 use Rattle.relabel_core.specs.declared.options.Options.{Options}
 use Rattle.relabel_core.specs.declared.rules.Rules.{Rules}
 
@@ -17,23 +18,25 @@ abbrev pub operands_at : List Path → List ℕ → List Path
 operands_at operands indices = map (λ i. get_or operands i []) indices
 
 -- the walk that these mean
-abbrev pub walk_of : Lent → Walk
-walk_of lent = record {
-  entries = lent.tree.now;
-  live = lent.chosen.now.live;
-  absent = operands_at lent.operands.now lent.chosen.now.absent;
-  rules = lent.rules.now;
-  options = lent.options;
+abbrev pub walk_of : WalkInput → Walk
+walk_of input = record {
+  entries = input.tree.now;
+  live = input.chosen.now.live;
+  absent = operands_at input.operands.now input.chosen.now.absent;
+  rules = input.rules.now;
+  options = input.options;
+  stored = digests_of input.stored.now;
 }
 
 -- the walk over a tree of what a choice selects there
-abbrev pub walk_for : List Record → Choice → Rules → Options → Walk
-walk_for entries choice rules options = record {
+abbrev pub walk_for : List Record → Choice → Rules → Options → StoredDigests → Walk
+walk_for entries choice rules options stored = record {
   entries = entries;
   live = (selected_by choice entries).live;
   absent = operands_at choice.operands (selected_by choice entries).absent;
   rules = rules;
   options = options;
+  stored = stored;
 }
 
 -- what was selected tells of each entry, and of at most as many absent operands as there are
@@ -42,10 +45,10 @@ pub record IsFor (entries : List Record) (operands : List Path) (chosen : Select
   pub each_entry : length chosen.live ≡ length entries
   pub absent_few : length chosen.absent ≤ length operands
 
--- what is lent goes together, and is few enough to be numbered in 32 bits
-pub record IsFit (lent : Lent) : Type 0 where
-  pub selected : IsFor lent.tree.now lent.operands.now lent.chosen.now
-  pub few : length lent.tree.now + length lent.operands.now < 2 ^ 32
+-- what is walked over goes together, and is few enough to be numbered in 32 bits
+pub record IsFit (input : WalkInput) : Type 0 where
+  pub selected : IsFor input.tree.now input.operands.now input.chosen.now
+  pub few : length input.tree.now + length input.operands.now < 2 ^ 32
 
 -- what is noted when the entries below n were looked up: for each the specification that decides it,
 -- and for each group its winner among them

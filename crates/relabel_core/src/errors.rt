@@ -3,25 +3,25 @@ ghost use Rattle.relabel_core.specs.Answer.{walk_in};
 ghost use Rattle.relabel_core.specs.Walk.{absent_errors, conflict_errors, conflicts_below, count, errors};
 ghost use Rattle.relabel_core.specs.Walked.{IsFit, walk_of};
 
-use crate::lent::Lent;
+use crate::input::WalkInput;
 use crate::walked::Walked;
 
 // How many operands have no entry, where they count.
-fn absent_errors(lent: &Lent<'_>) -> u32
-    requires { IsFit lent.now }
-    ensures value { result ≡ absent_errors (walk_of lent.now) }
-    ensures few { result ≤ length lent.now.operands.now }
+fn absent_errors(input: &WalkInput<'_>) -> u32
+    requires { IsFit input.now }
+    ensures value { result ≡ absent_errors (walk_of input.now) }
+    ensures few { result ≤ length input.now.operands.now }
 {
-    if lent.options.ignore_absent {
+    if input.options.ignore_absent {
         return 0;
     }
-    lent.chosen.absent().len() as u32
+    input.chosen.absent().len() as u32
 }
 
 fn count_conflicts(walked: &Walked<'_>) -> u32
     ensures value { result
-        ≡ conflicts_below (walk_in walked.now) (length walked.now.lent.tree.now) }
-    ensures few { result ≤ length walked.now.lent.tree.now }
+        ≡ conflicts_below (walk_in walked.now) (length walked.now.input.tree.now) }
+    ensures few { result ≤ length walked.now.input.tree.now }
 {
     let mut conflicts = 0;
     'entries: for e in 0..walked.len() {
@@ -33,9 +33,9 @@ fn count_conflicts(walked: &Walked<'_>) -> u32
 // How many entries are in conflict with their group's winner, where they count.
 fn conflict_errors(walked: &Walked<'_>) -> u32
     ensures value { result ≡ conflict_errors (walk_in walked.now) }
-    ensures few { result ≤ length walked.now.lent.tree.now }
+    ensures few { result ≤ length walked.now.input.tree.now }
 {
-    if !walked.lent.options.strict_links {
+    if !walked.input.options.strict_links {
         return 0;
     }
     count_conflicts(walked)
@@ -47,7 +47,7 @@ impl<'a> Walked<'a> {
     pub fn errors(&self) -> u32
         ensures { result ≡ errors (walk_in self.now) }
     {
-        let _ = &self.lent;
-        absent_errors(&self.lent) + conflict_errors(self)
+        let _ = &self.input;
+        absent_errors(&self.input) + conflict_errors(self)
     }
 }

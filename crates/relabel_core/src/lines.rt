@@ -1,7 +1,9 @@
 ghost use Rattle.std.specs.Prelude.{◌≡◌, Some, option_map};
 ghost use Rattle.std.specs.Option.{option_copied};
 ghost use Rattle.label_base.specs.PathRef.{path_of};
+ghost use Rattle.context_syntax.specs.ContextRef.{context_lent};
 ghost use Rattle.report_text.specs.Message.{message_of};
+ghost use Rattle.relabel_core.specs.Changes.{given_in};
 ghost use Rattle.relabel_core.specs.Decide.{label_by};
 ghost use Rattle.relabel_core.specs.LabelAfter.{label_told};
 ghost use Rattle.relabel_core.specs.Verdicts.{verdict_of};
@@ -9,7 +11,7 @@ ghost use Rattle.relabel_core.specs.Walk.{conflict_line, customized_line, verdic
 
 use crate::label_after::LabelAfter;
 use crate::verdict::Verdict;
-use context_syntax::{Context, Label};
+use context_syntax::{Context, ContextRef, Label};
 use label_base::PathRef;
 use report_text::Message;
 
@@ -20,6 +22,16 @@ pub fn label_by<'a>(verdict: &Verdict<'a>, label: &'a Label) -> LabelAfter<'a>
     match verdict {
         Verdict::Keep | Verdict::Customized => LabelAfter::Kept(label),
         Verdict::Change(context) => LabelAfter::Given(*context),
+    }
+}
+
+/// The context that a verdict gives.
+pub fn given_in<'a>(verdict: &Verdict<'a>) -> Option<ContextRef<'a>>
+    ensures { option_map context_lent result ≡ given_in (verdict_of verdict.now) }
+{
+    match verdict {
+        Verdict::Keep | Verdict::Customized => None,
+        Verdict::Change(context) => Some(*context),
     }
 }
 

@@ -8,7 +8,7 @@ ghost use Rattle.relabel_core.specs.Walk.{absent_lines, entry_lines, line_of_spe
 ghost use Rattle.relabel_core.specs.Walked.{walk_of};
 
 use crate::given::{given_by, spec_at};
-use crate::lent::Lent;
+use crate::input::WalkInput;
 use crate::rules::Rules;
 use crate::walked::Walked;
 use label_base::{Bytes, NormPath, OutOfMemory, PathRef};
@@ -56,16 +56,16 @@ fn add_absent_of(
 }
 
 // The lines of the operands without an entry.
-fn add_absent(alloc: Global, lent: &Lent<'_>, to: &mut Bytes) -> Result<(), OutOfMemory>
-    ensures { OnOk result (to.new ≡ to.old ++ report_of (absent_lines (walk_of lent.now))) }
+fn add_absent(alloc: Global, input: &WalkInput<'_>, to: &mut Bytes) -> Result<(), OutOfMemory>
+    ensures { OnOk result (to.new ≡ to.old ++ report_of (absent_lines (walk_of input.now))) }
 {
-    if lent.options.ignore_absent {
+    if input.options.ignore_absent {
         return Ok(());
     }
     add_absent_of(
         alloc,
-        lent.operands.as_slice(),
-        lent.chosen.absent().as_slice(),
+        input.operands.as_slice(),
+        input.chosen.absent().as_slice(),
         to,
     )
 }
@@ -111,9 +111,9 @@ fn raise(flags: &mut Vec<bool>, found: Option<u32>)
 // Raises a flag for each specification that decides an entry.
 fn flags_of(alloc: Global, walked: &Walked<'_>) -> Result<Vec<bool>, OutOfMemory>
     ensures { IfOk result (λ flags.
-        AreRaised (walk_in walked.now) (length walked.now.lent.tree.now) flags.items) }
+        AreRaised (walk_in walked.now) (length walked.now.input.tree.now) flags.items) }
 {
-    let mut flags = no_flags(alloc, walked.lent.rules.rules.len())?;
+    let mut flags = no_flags(alloc, walked.input.rules.rules.len())?;
     'entries: for e in 0..walked.len() {
         raise(&mut flags, walked.deciding(e));
     }
@@ -173,11 +173,11 @@ fn add_unflagged(
 fn add_unmatched(alloc: Global, walked: &Walked<'_>, to: &mut Bytes) -> Result<(), OutOfMemory>
     ensures { OnOk result (to.new ≡ to.old ++ report_of (unmatched_lines (walk_in walked.now))) }
 {
-    if !walked.lent.options.warn_unmatched {
+    if !walked.input.options.warn_unmatched {
         return Ok(());
     }
     let flags = flags_of(alloc, walked)?;
-    add_unflagged(alloc, walked.lent.rules, flags.as_slice(), to)?;
+    add_unflagged(alloc, walked.input.rules, flags.as_slice(), to)?;
     Ok(())
 }
 
@@ -188,7 +188,7 @@ impl<'a> Walked<'a> {
     pub fn add_report(&self, alloc: Global, to: &mut Bytes) -> Result<(), OutOfMemory>
         ensures { OnOk result (to.new ≡ to.old ++ report_of (messages (walk_in self.now))) }
     {
-        add_absent(alloc, &self.lent, to)?;
+        add_absent(alloc, &self.input, to)?;
         add_entries(alloc, self, to)?;
         add_unmatched(alloc, self, to)?;
         Ok(())

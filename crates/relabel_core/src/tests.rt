@@ -2,13 +2,13 @@ ghost use Rattle.std.specs.Prelude.{◌≡◌, ◌<◌, ◌^◌, length};
 ghost use Rattle.relabel_core.specs.Walked.{IsFit};
 
 use crate::{
-    LabelAfter, Lent, Options, Rules, Verdict, Walked, decide, lend, look_up, one_pass_is_walk,
-    walk, walk_uncounted,
+    LabelAfter, Options, Rules, Stored, Verdict, WalkInput, Walked, decide, look_up,
+    one_pass_is_walk, walk, walk_input, walk_uncounted,
 };
 use context_syntax::{Context, Label, read_customizable};
 use find_records::{RecordLimits, read_records};
 use label_base::{Bytes, MemSource, NormPath, OutOfMemory, Part, Row, Steps};
-use path_subs::{Subs, read_subs};
+use path_subs::{SubList, Subs, read_subs};
 use spec_match::{RuleSet, Scratch};
 use spec_reader::read_specs;
 use std::alloc::Global;
@@ -36,7 +36,7 @@ const LINKED: &[u8] =
 // A type that may be an administrator's.
 const CHOSEN: &[u8] = b"f 1 20 w:r:public_content_t:s0 /srv/a\0";
 
-fn tree_of(alloc: Global, records: &[u8]) -> Result<Tree, Fail> {
+pub(crate) fn tree_of(alloc: Global, records: &[u8]) -> Result<Tree, Fail> {
     let mut source = MemSource::new(Bytes::copy_of(alloc, records)?, 100, Row::new(alloc));
     let limits = RecordLimits {
         records: 9,
@@ -45,20 +45,46 @@ fn tree_of(alloc: Global, records: &[u8]) -> Result<Tree, Fail> {
     Ok(Tree::new(alloc, read_records(alloc, &mut source, limits)?)?)
 }
 
-fn rules_of(alloc: Global, specs: &[u8]) -> Result<Rules, Fail>
+fn subs_of(alloc: Global, first: &[u8], second: &[u8]) -> Result<Subs, Fail>
+    requires first { length first.now < 2 ^ 32 }
+    requires second { length second.now < 2 ^ 32 }
+{
+    Ok(Subs {
+        first: SubList::new(alloc, read_subs(alloc, first)?)?,
+        second: SubList::new(alloc, read_subs(alloc, second)?)?,
+    })
+}
+
+fn rule_set_of(alloc: Global, specs: &[u8]) -> Result<RuleSet, Fail>
     requires { length specs.now < 2 ^ 32 }
 {
+    Ok(RuleSet::new(alloc, read_specs(alloc, specs, Part::Base, 9)?)?)
+}
+
+pub(crate) fn rules_with(
+    alloc: Global,
+    specs: &[u8],
+    first: &[u8],
+    second: &[u8],
+) -> Result<Rules, Fail>
+    requires specs { length specs.now < 2 ^ 32 }
+    requires first { length first.now < 2 ^ 32 }
+    requires second { length second.now < 2 ^ 32 }
+{
     Ok(Rules {
-        rules: RuleSet::new(alloc, read_specs(alloc, specs, Part::Base, 9)?)?,
-        subs: Subs {
-            first: read_subs(alloc, b"/data /srv\n")?,
-            second: Row::new(alloc),
-        },
+        rules: rule_set_of(alloc, specs)?,
+        subs: subs_of(alloc, first, second)?,
         types: read_customizable(alloc, TYPES)?,
     })
 }
 
-fn choice_of(alloc: Global, first: &[u8], second: &[u8]) -> Result<Choice, Fail> {
+pub(crate) fn rules_of(alloc: Global, specs: &[u8]) -> Result<Rules, Fail>
+    requires { length specs.now < 2 ^ 32 }
+{
+    rules_with(alloc, specs, b"/data /srv\n", b"")
+}
+
+pub(crate) fn choice_of(alloc: Global, first: &[u8], second: &[u8]) -> Result<Choice, Fail> {
     let mut operands = Row::new(alloc);
     operands.push(NormPath::read(alloc, first)?)?;
     operands.push(NormPath::read(alloc, second)?)?;
@@ -70,6 +96,14 @@ fn choice_of(alloc: Global, first: &[u8], second: &[u8]) -> Result<Choice, Fail>
     })
 }
 
+fn report_of_input(alloc: Global, input: &WalkInput<'_>) -> Result<Bytes, OutOfMemory>
+    requires { IsFit input.now }
+{
+    let mut report = Bytes::new(alloc);
+    walk_uncounted(alloc, input)?.add_report(alloc, &mut report)?;
+    Ok(report)
+}
+
 // The report of a walk, where entries and operands are few.
 fn walked_report(
     alloc: Global,
@@ -78,19 +112,46 @@ fn walked_report(
     choice: &Choice,
     options: Options,
 ) -> Result<Bytes, OutOfMemory> {
-    let mut report = Bytes::new(alloc);
     let entries = tree.len();
     let operands = choice.operands.len();
     if entries > 99 {
-        return Ok(report);
+        return Err(OutOfMemory);
     }
     if operands > 99 {
-        return Ok(report);
+        return Err(OutOfMemory);
     }
+    let stored = Stored::none(alloc);
     let chosen = tree.select(alloc, choice)?;
-    let walked = walk_uncounted(alloc, &lend(tree, choice, &chosen, rules, options))?;
-    walked.add_report(alloc, &mut report)?;
-    Ok(report)
+    report_of_input(
+        alloc,
+        &walk_input(tree, choice, &chosen, rules, options, &stored),
+    )
+}
+
+fn report_by(
+    alloc: Global,
+    tree: &Tree,
+    rules: &Rules,
+    first: &[u8],
+    second: &[u8],
+    options: Options,
+) -> Result<Bytes, Fail> {
+    let choice = choice_of(alloc, first, second)?;
+    Ok(walked_report(alloc, tree, rules, &choice, options)?)
+}
+
+fn report_over(
+    alloc: Global,
+    tree: &Tree,
+    specs: &[u8],
+    first: &[u8],
+    second: &[u8],
+    options: Options,
+) -> Result<Bytes, Fail>
+    requires { length specs.now < 2 ^ 32 }
+{
+    let rules = rules_of(alloc, specs)?;
+    report_by(alloc, tree, &rules, first, second, options)
 }
 
 // The report of a walk of two operands.
@@ -105,9 +166,7 @@ fn report_of(
     requires { length specs.now < 2 ^ 32 }
 {
     let tree = tree_of(alloc, records)?;
-    let rules = rules_of(alloc, specs)?;
-    let choice = choice_of(alloc, first, second)?;
-    Ok(walked_report(alloc, &tree, &rules, &choice, options)?)
+    report_over(alloc, &tree, specs, first, second, options)
 }
 
 #[test]
@@ -186,22 +245,22 @@ fn an_inode_has_the_label_of_its_first_record(rt: HostRuntime) -> Result<(), Fai
 
 fn counted<'a, L: Ledger>(
     alloc: Global,
-    lent: &Lent<'a>,
+    input: &WalkInput<'a>,
     blank: Blank,
 ) -> Result<Walked<'a>, OutOfMemory>
-    requires fit { IsFit lent.now }
+    requires fit { IsFit input.now }
     requires name { blank.name ≡ L.name }
     requires parts { blank.parts ≡ L.parts }
     requires some { 0 < blank.parts }
 {
     let mut steps = Steps::<L>::open(blank);
-    walk(alloc, lent, &mut steps)
+    walk(alloc, input, &mut steps)
 }
 
-fn counted_once<'a>(alloc: Global, lent: &Lent<'a>) -> Result<Walked<'a>, OutOfMemory>
-    requires { IsFit lent.now }
+fn counted_once<'a>(alloc: Global, input: &WalkInput<'a>) -> Result<Walked<'a>, OutOfMemory>
+    requires { IsFit input.now }
 {
-    counted::<Brand>(alloc, lent, Blank::new(1))
+    counted::<Brand>(alloc, input, Blank::new(1))
 }
 
 // What is told of an entry.
@@ -211,6 +270,8 @@ struct Told {
     deciding: Option<u32>,
     wants: bool,
     given: bool,
+    is_changed: bool,
+    does_change: bool,
     has_message: bool,
     has_conflict: bool,
 }
@@ -231,12 +292,25 @@ fn told_of(walked: &Walked<'_>, e: u32) -> Option<Told> {
         deciding: walked.deciding(e),
         wants: walked.wanted(e).is_some(),
         given: is_given(&walked.label_at(e)),
+        is_changed: walked.is_changed(e),
+        does_change: walked.change_at(e).is_some(),
         has_message: walked.message_at(e).is_some(),
         has_conflict: walked.has_conflict(e),
     })
 }
 
 // What is told of the entry with an index, and how many errors there were.
+fn told_by_input(
+    alloc: Global,
+    input: &WalkInput<'_>,
+    e: u32,
+) -> Result<Option<(Option<Told>, u32)>, OutOfMemory>
+    requires { IsFit input.now }
+{
+    let walked = counted_once(alloc, input)?;
+    Ok(Some((told_of(&walked, e), walked.errors())))
+}
+
 fn told_by_walk(
     alloc: Global,
     tree: &Tree,
@@ -257,30 +331,48 @@ fn told_by_walk(
     if operands > 99 {
         return Ok(None);
     }
+    let stored = Stored::none(alloc);
     let chosen = tree.select(alloc, choice)?;
-    let walked = counted_once(alloc, &lend(tree, choice, &chosen, rules, options))?;
-    Ok(Some((told_of(&walked, e), walked.errors())))
+    told_by_input(
+        alloc,
+        &walk_input(tree, choice, &chosen, rules, options, &stored),
+        e,
+    )
 }
 
-#[test]
-fn entries_are_told_one_by_one(rt: HostRuntime) -> Result<(), Fail> {
-    let alloc = rt.alloc();
-    one_pass_is_walk();
-    let tree = tree_of(alloc, LINKED)?;
+fn told_by(
+    alloc: Global,
+    tree: &Tree,
+    rules: &Rules,
+    e: u32,
+) -> Result<Option<(Option<Told>, u32)>, Fail> {
+    let choice = choice_of(alloc, b"/a", b"/b")?;
+    Ok(told_by_walk(alloc, tree, rules, &choice, e)?)
+}
+
+fn told_over(alloc: Global, tree: &Tree, e: u32) -> Result<Option<(Option<Told>, u32)>, Fail> {
     let rules = rules_of(
         alloc,
         b"/[ab] -d u:r:dir_t:s0\n/a/x u:r:a_t:s0\n/b/x u:r:b_t:s0\n",
     )?;
-    let choice = choice_of(alloc, b"/a", b"/b")?;
+    told_by(alloc, tree, &rules, e)
+}
+
+#[test]
+fn entries_are_told_one_by_one(rt: HostRuntime) -> Result<(), Fail> {
+    one_pass_is_walk();
+    let tree = tree_of(rt.alloc(), LINKED)?;
     let told = Told {
         winner: Some(1),
         deciding: Some(2),
         wants: true,
         given: false,
+        is_changed: true,
+        does_change: false,
         has_message: true,
         has_conflict: true,
     };
-    let found = told_by_walk(alloc, &tree, &rules, &choice, 3)?;
+    let found = told_over(rt.alloc(), &tree, 3)?;
     assert!(rt; found == Some((Some(told), 1)));
     Ok(())
 }

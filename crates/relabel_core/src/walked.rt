@@ -4,12 +4,12 @@ ghost use Rattle.relabel_core.specs.Walk.{is_at};
 ghost use Rattle.relabel_core.specs.Walked.{AreNoted, IsFit, walk_of};
 
 use crate::given::given_at;
+use crate::input::WalkInput;
 use crate::label_after::LabelAfter;
-use crate::lent::Lent;
-use crate::lines::{conflict_line, label_by, verdict_line};
+use crate::lines::{conflict_line, given_in, label_by, verdict_line};
 use crate::numbers::found_in;
 use crate::verdict::{Verdict, decide};
-use context_syntax::{Context, Label};
+use context_syntax::{Context, ContextRef, Label};
 use label_base::PathRef;
 use report_text::Message;
 
@@ -18,13 +18,13 @@ use report_text::Message;
 /// entry by entry.
 #[derive(Drop)]
 pub struct Walked<'a> {
-    pub(crate) lent: Lent<'a>,
+    pub(crate) input: WalkInput<'a>,
     // For each entry the index of its specification.
-    pub(crate) decided: Vec<u32>,
+    decided: Vec<u32>,
     // For each group the index of its winner.
-    pub(crate) winners: Vec<u32>,
-    ghost fit: { IsFit lent },
-    ghost noted: { AreNoted (walk_of lent) (length lent.tree.now) decided.items winners.items },
+    winners: Vec<u32>,
+    ghost fit: { IsFit input },
+    ghost noted: { AreNoted (walk_of input) (length input.tree.now) decided.items winners.items },
 }
 
 fn is_at(found: Option<u32>, e: u32) -> bool
@@ -40,31 +40,49 @@ impl<'a> Walked<'a> {
     ghost use Rattle.label_base.specs.PathRef.{path_of};
     ghost use Rattle.tree_model.specs.Groups.{group_of, groups_in, label_in};
     ghost use Rattle.report_text.specs.Message.{message_of};
+    ghost use Rattle.context_syntax.specs.ContextRef.{context_lent};
     ghost use Rattle.relabel_core.specs.Answer.{walk_in};
+    ghost use Rattle.relabel_core.specs.Changes.{change_at, change_with, group_change};
     ghost use Rattle.relabel_core.specs.LabelAfter.{label_told};
     ghost use Rattle.relabel_core.specs.Verdicts.{verdict_of};
-    ghost use Rattle.relabel_core.specs.Walk.{conflict_with, count, deciding, decided_line, group_winner, has_conflict, label_after, label_with, line, line_where, new_label_with, no_default_line, path_at, verdict_where, verdict_with, walked, wanted, winner_line};
+    ghost use Rattle.relabel_core.specs.Walk.{conflict_with, count, deciding, decided_line, group_winner, has_conflict, is_changed_name, label_after, label_with, line, line_where, new_label_with, no_default_line, path_at, verdict_where, verdict_with, walked, wanted, winner_line};
+
+    /// The answer of a walk of which this is noted: for each entry a word with the index of the specification that decides
+    /// it, and for each group of names of one inode a word with the index of its winner. The word of none is the greatest.
+    pub fn of_noted(input: &WalkInput<'a>, decided: Vec<u32>, winners: Vec<u32>) -> Walked<'a>
+        requires fit { IsFit input.now }
+        requires noted { AreNoted (walk_of input.now) (length input.now.tree.now)
+            decided.items winners.items }
+        ensures { walk_in result ≡ walk_of input.now }
+    {
+        Walked {
+            input: *input,
+            decided,
+            winners,
+        }
+    }
 
     /// How many entries were walked over.
     pub fn len(&self) -> u32
         ensures { result ≡ count (walk_in self.now) }
     {
-        self.lent.tree.len()
+        self.input.tree.len()
     }
 
-    fn path(&self, e: u32) -> PathRef<'a>
+    /// The path of an entry.
+    pub fn path(&self, e: u32) -> PathRef<'a>
         requires { e < count (walk_in self.now) }
         ensures { path_of result ≡ path_at (walk_in self.now) e }
     {
-        self.lent.tree.entry(e).path
+        self.input.tree.entry(e).path
     }
 
     fn group(&self, e: u32) -> u32
         requires { e < count (walk_in self.now) }
-        ensures value { result ≡ group_of self.now.lent.tree.now e }
-        ensures within { result < groups_in self.now.lent.tree.now }
+        ensures value { result ≡ group_of self.now.input.tree.now e }
+        ensures within { result < groups_in self.now.input.tree.now }
     {
-        self.lent.tree.group(e)
+        self.input.tree.group(e)
     }
 
     /// The index of the specification that decides an entry, if one does.
@@ -90,7 +108,7 @@ impl<'a> Walked<'a> {
         requires { e < count (walk_in self.now) }
         ensures { option_copied result ≡ wanted (walk_in self.now) e }
     {
-        given_at(self.lent.rules, self.deciding(e))
+        given_at(self.input.rules, self.deciding(e))
     }
 
     // The context that is decided for the winner of a group.
@@ -108,7 +126,7 @@ impl<'a> Walked<'a> {
     fn verdict_where(&self, e: u32, context: Option<&'a Context>) -> Verdict<'a>
         requires { e < count (walk_in self.now) }
         ensures { verdict_of result
-            ≡ verdict_where (walk_in self.now) (group_of self.now.lent.tree.now e)
+            ≡ verdict_where (walk_in self.now) (group_of self.now.input.tree.now e)
             (option_copied context.entry) }
     {
         match context {
@@ -116,8 +134,8 @@ impl<'a> Walked<'a> {
             Some(context) => decide(
                 self.old_label(e),
                 context,
-                self.lent.options.force,
-                &self.lent.rules.types,
+                self.input.options.force,
+                &self.input.rules.types,
             ),
         }
     }
@@ -125,9 +143,10 @@ impl<'a> Walked<'a> {
     // The label of an entry's group before the walk.
     fn old_label(&self, e: u32) -> &'a Label
         requires { e < count (walk_in self.now) }
-        ensures { result.now ≡ label_in self.now.lent.tree.now (group_of self.now.lent.tree.now e) }
+        ensures { result.now
+            ≡ label_in self.now.input.tree.now (group_of self.now.input.tree.now e) }
     {
-        self.lent.tree.label(self.group(e))
+        self.input.tree.label(self.group(e))
     }
 
     // The verdict on the label of an entry's group, by its winner.
@@ -135,7 +154,7 @@ impl<'a> Walked<'a> {
         requires entry { e < count (walk_in self.now) }
         requires winner { IfSome found (λ k. k < count (walk_in self.now)) }
         ensures { verdict_of result
-            ≡ verdict_with (walk_in self.now) (group_of self.now.lent.tree.now e) found }
+            ≡ verdict_with (walk_in self.now) (group_of self.now.input.tree.now e) found }
     {
         self.verdict_where(e, self.wanted_by(found))
     }
@@ -145,9 +164,9 @@ impl<'a> Walked<'a> {
         requires entry { e < count (walk_in self.now) }
         requires winner { IfSome found (λ k. k < count (walk_in self.now)) }
         ensures { label_told result
-            ≡ new_label_with (walk_in self.now) (group_of self.now.lent.tree.now e) found }
+            ≡ new_label_with (walk_in self.now) (group_of self.now.input.tree.now e) found }
     {
-        if self.lent.options.dry {
+        if self.input.options.dry {
             return LabelAfter::Kept(self.old_label(e));
         }
         label_by(&self.verdict_with(e, found), self.old_label(e))
@@ -165,6 +184,50 @@ impl<'a> Walked<'a> {
         LabelAfter::Kept(self.old_label(e))
     }
 
+    // The context that the label of an entry's group changes to, by its winner.
+    fn group_change(&self, e: u32, found: Option<u32>) -> Option<ContextRef<'a>>
+        requires entry { e < count (walk_in self.now) }
+        requires winner { IfSome found (λ k. k < count (walk_in self.now)) }
+        ensures { option_map context_lent result
+            ≡ group_change (walk_in self.now) (group_of self.now.input.tree.now e) found }
+    {
+        let options = &self.input.options;
+        if options.dry {
+            return None;
+        }
+        given_in(&self.verdict_with(e, found))
+    }
+
+    // The context that the label of an entry changes to, by the winner of its group.
+    fn change_with(&self, e: u32, found: Option<u32>) -> Option<ContextRef<'a>>
+        requires entry { e < count (walk_in self.now) }
+        requires winner { IfSome found (λ k. k < count (walk_in self.now)) }
+        ensures { option_map context_lent result ≡ change_with (walk_in self.now) e found }
+    {
+        if is_at(found, e) {
+            return self.group_change(e, found);
+        }
+        None
+    }
+
+    /// The context that the label of an entry changes to, if it changes.
+    #[tactic(auto, unfolding(crate::specs::Changes::change_at))]
+    pub fn change_at(&self, e: u32) -> Option<ContextRef<'a>>
+        requires { e < count (walk_in self.now) }
+        ensures { option_map context_lent result ≡ change_at (walk_in self.now) e }
+    {
+        self.change_with(e, self.winner(e))
+    }
+
+    /// Whether an entry is a name of a group whose label changes.
+    #[tactic(auto, using(crate::proofs::CountLemmas::some_told, crate::proofs::ChangeLemmas::changed_name_is))]
+    pub fn is_changed(&self, e: u32) -> bool
+        requires { e < count (walk_in self.now) }
+        ensures { result ≡ is_changed_name (walk_in self.now) e }
+    {
+        self.group_change(e, self.winner(e)).is_some()
+    }
+
     /// The label of an entry after the walk: that of its group, which changes at the group's winner.
     #[tactic(auto, unfolding(crate::specs::Walk::label_after))]
     pub fn label_at(&self, e: u32) -> LabelAfter<'a>
@@ -180,13 +243,13 @@ impl<'a> Walked<'a> {
         requires winner { IfSome found (λ k. k < count (walk_in self.now)) }
         ensures { option_map message_of result ≡ winner_line (walk_in self.now) e found }
     {
-        if !self.lent.options.verbose {
+        if !self.input.options.verbose {
             return None;
         }
         verdict_line(
             &self.path(e),
             self.old_label(e),
-            self.lent.options.dry,
+            self.input.options.dry,
             &self.verdict_with(e, found),
         )
     }
@@ -208,7 +271,7 @@ impl<'a> Walked<'a> {
         requires { e < count (walk_in self.now) }
         ensures { option_map message_of result ≡ no_default_line (walk_in self.now) e }
     {
-        if self.lent.options.verbose && self.lent.chosen.is_live(e) {
+        if self.input.options.verbose && self.input.chosen.is_live(e) {
             return Some(Message::NoDefault { path: self.path(e) });
         }
         None

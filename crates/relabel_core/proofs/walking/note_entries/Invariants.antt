@@ -4,6 +4,6 @@ use Rattle.relabel_core.proofs.walking.note_entries.Given as goal
 
 abbrev pub invariant-entries : goal.invariant-entries
 invariant-entries l = record {
-  own : IsScratchOf l.lent.rules.now.rules l.scratch;
-  noted : AreNoted (walk_of l.lent) l.e l.noted.decided.items l.noted.winners.items;
+  own : IsScratchOf l.input.rules.now.rules l.scratch;
+  noted : AreNoted (walk_of l.input) l.e l.noted.decided.items l.noted.winners.items;
 }

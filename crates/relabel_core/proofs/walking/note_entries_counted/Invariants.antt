@@ -6,7 +6,7 @@ use Rattle.relabel_core.proofs.walking.note_entries_counted.Given as goal
 
 abbrev pub invariant-entries : goal.invariant-entries
 invariant-entries g l = record {
-  own : IsScratchOf l.lent.rules.now.rules l.scratch;
-  noted : AreNoted (walk_of l.lent) l.e l.noted.decided.items l.noted.winners.items;
-  count : l.steps ≤ l.initial.steps + walked_below (walk_of l.lent) l.e;
+  own : IsScratchOf l.input.rules.now.rules l.scratch;
+  noted : AreNoted (walk_of l.input) l.e l.noted.decided.items l.noted.winners.items;
+  count : l.steps ≤ l.initial.steps + walked_below (walk_of l.input) l.e;
 }

@@ -6,14 +6,14 @@ use Rattle.relabel_core.proofs.walking.note_entry.Goals as goal
 
 pub returns : goal.returns
 returns c =
-    let lent = c.args.lent.now in
+    let input = c.args.input.now in
     let noted = c.args.noted.now in
     let fits : c.len.result < 2 ^ 32 = search rules in
-    noted_more (walk_of lent) c.args.e noted.decided.items noted.winners.items c.push.new.self.items c.enter_if.new.numbers.items
+    noted_more (walk_of input) c.args.e noted.decided.items noted.winners.items c.push.new.self.items c.enter_if.new.numbers.items
     c.args.found c.does_give.result c.requires.noted
     (omega (arith, c.requires.entry, c.requires.fit.few))
     c.requires.found
-    (few_indices c.args.found (length lent.rules.now.rules) c.requires.within (omega (arith, c.len.ensures, fits)))
+    (few_indices c.args.found (length input.rules.now.rules) c.requires.within (omega (arith, c.len.ensures, fits)))
     c.does_give.ensures
     (c.in_ok-push.ensures.items ∙ ap (λ n. noted.decided.items ++ n ∷ []) c.number_of.ensures)
     (c.enter_if.ensures ∙ ap (λ g. entered_if c.does_give.result noted.winners.items g c.args.e) c.group.ensures.value)

@@ -10,7 +10,7 @@ is_winner : (c : goal.After-found_in) → c.found_in.result ≡ group_winner (wa
 is_winner c =
     let walked = c.args.self.now in
     c.found_in.ensures ∙ ap₂ found_in c.as_slice.ensures.value c.group.ensures.value
-    ∙ winner_noted (walk_in walked) walked.decided.items walked.winners.items _ walked.noted (subst (λ k. k < groups_in walked.lent.tree.now) c.group.ensures.value c.group.ensures.within)
+    ∙ winner_noted (walk_in walked) walked.decided.items walked.winners.items _ walked.noted (subst (λ k. k < groups_in walked.input.tree.now) c.group.ensures.value c.group.ensures.within)
 
 pub returns-clause-value : goal.returns-clause-value
 returns-clause-value c = is_winner c

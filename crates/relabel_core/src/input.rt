@@ -1,42 +1,48 @@
 ghost use Rattle.std.specs.Prelude.{◌≡◌, ◌+◌, ◌<◌, ◌^◌, length};
 ghost use Rattle.tree_model.specs.Selection.{selected_by};
+ghost use Rattle.relabel_core.specs.Stored.{digests_of};
 ghost use Rattle.relabel_core.specs.Walked.{IsFit, walk_for, walk_of};
 
 use crate::options::Options;
 use crate::rules::Rules;
+use crate::stored::Stored;
 use label_base::{NormPath, Row};
 use tree_model::{Choice, Selected, Tree};
 
-/// What a walk is lent.
+/// What a walk goes over, and by what.
 #[derive(Clone, Copy)]
-pub struct Lent<'a> {
+pub struct WalkInput<'a> {
     pub tree: &'a Tree,
     /// What was selected there of the operands.
     pub chosen: &'a Selected,
     pub operands: &'a Row<NormPath>,
     pub rules: &'a Rules,
     pub options: Options,
+    /// The digests that the directories of the tree have.
+    pub stored: &'a Stored,
 }
 
-/// Lends a walk a tree, what a choice selected there, and what decides. Entries and operands together have to be fewer than
-/// 2^32.
-pub fn lend<'a>(
+/// A walk over a tree, of what a choice selected there. Entries and operands together have to be fewer than 2^32.
+pub fn walk_input<'a>(
     tree: &'a Tree,
     choice: &'a Choice,
     chosen: &'a Selected,
     rules: &'a Rules,
     options: Options,
-) -> Lent<'a>
+    stored: &'a Stored,
+) -> WalkInput<'a>
     requires chosen { chosen.now ≡ selected_by choice.now tree.now }
     requires few { length tree.now + length choice.now.operands < 2 ^ 32 }
     ensures fit { IsFit result }
-    ensures walk { walk_of result ≡ walk_for tree.now choice.now rules.now options }
+    ensures walk { walk_of result
+        ≡ walk_for tree.now choice.now rules.now options (digests_of stored.now) }
 {
-    Lent {
+    WalkInput {
         tree,
         chosen,
         operands: &choice.operands,
         rules,
         options,
+        stored,
     }
 }

@@ -1,7 +1,7 @@
 use Rattle.std.proofs.Common.{subst, sym}
 use Rattle.relabel_core.specs.Walked.{IsFor}
 use Rattle.relabel_core.proofs.SelectedLemmas.{selected_is_for}
-use Rattle.relabel_core.proofs.lent.lend.Goals as goal
+use Rattle.relabel_core.proofs.input.walk_input.Goals as goal
 
 pub returns-clause-fit : goal.returns-clause-fit
 returns-clause-fit c =

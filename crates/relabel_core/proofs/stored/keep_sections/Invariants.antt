@@ -1,0 +1,7 @@
+use Rattle.std.proofs.Common.{take}
+use Rattle.relabel_core.specs.Stored.{KeepsFrom}
+use Rattle.relabel_core.proofs.stored.keep_sections.Given as goal
+
+-- the digests of the sections so far are kept
+abbrev pub invariant-sections : goal.invariant-sections
+invariant-sections l = KeepsFrom l.initial.kept l.kept l.tree (take l.section-index l.sections)

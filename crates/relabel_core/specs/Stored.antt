@@ -1,0 +1,71 @@
+-- The digests that are stored for the directories of a tree.
+use Rattle.std.specs.Prelude.{◌≡◌, ◌==◌, ℕ, Bool, List, filter, map, Option, Some, None, if◌then◌else◌}
+use Rattle.std.specs.List.{flat_map, last_or}
+use Rattle.std.specs.BTreeMap.{BTreeMap, get}
+use Rattle.std.specs.Ordering.{nat_cmp}
+use Rattle.label_base.specs.Path.{Path, same_bytes}
+use Rattle.find_records.specs.Record.{Record}
+use Rattle.setfattr_dump.specs.declared.dump.Attr.{Attr}
+use Rattle.setfattr_dump.specs.declared.dump.Section.{Section}
+use Rattle.setfattr_dump.specs.declared.marks.TheConstants.{DIGEST_KEY}
+use Rattle.spec_match.specs.LastMatch.{last_of}
+use Rattle.tree_model.specs.Extents.{is_directory}
+use Rattle.tree_model.specs.Tree.{find_in}
+use Rattle.relabel_core.specs.Walk.{StoredDigests, is_at}
+use Rattle.relabel_core.specs.declared.stored.Stored.{Stored}
+
+-- ---- what a dump stores for the directories of a tree
+
+abbrev pub if_directory : List Record → Option ℕ → Option ℕ
+if_directory entries None = None
+if_directory entries (Some d) = if is_directory entries d then Some d else None
+
+-- the index of the directory with this path
+abbrev pub directory_at : List Record → Path → Option ℕ
+directory_at entries path = if_directory entries (find_in path entries)
+
+abbrev pub is_digest : Attr → Bool
+is_digest attr = same_bytes attr.key DIGEST_KEY.now
+
+-- the digests among attributes
+abbrev pub digests_among : List Attr → List (List ℕ)
+digests_among attrs = map (λ attr. attr.value) (filter is_digest attrs)
+
+-- all digests of the directory, in the order in which they stand
+abbrev pub digests_at : List Section → List Record → ℕ → List (List ℕ)
+digests_at sections entries d =
+    flat_map (λ section. digests_among section.attrs)
+    (filter (λ section. is_at (directory_at entries section.name) d) sections)
+
+-- the last of them is stored
+abbrev pub digests_by : List Section → List Record → StoredDigests
+digests_by sections entries = λ d. last_of (digests_at sections entries d)
+
+-- no directory has one
+abbrev pub no_digests : StoredDigests
+no_digests = λ d. None
+
+-- ---- how they are kept
+
+-- what a map keeps
+abbrev pub digests_in : BTreeMap ℕ (List ℕ) → StoredDigests
+digests_in kept = λ d. get nat_cmp kept d
+
+-- what is stored
+abbrev pub digests_of : Stored → StoredDigests
+digests_of stored = digests_in stored.kept
+
+-- one more is kept, for the directory d
+abbrev pub Keeps : (old new : BTreeMap ℕ (List ℕ)) → ℕ → List ℕ → Type 0
+Keeps old new d value = (e : ℕ)
+    → digests_in new e ≡ (if d == e then Some value else digests_in old e)
+
+-- the digests among these attributes are kept, for the directory d
+abbrev pub KeepsAmong : (old new : BTreeMap ℕ (List ℕ)) → ℕ → List Attr → Type 0
+KeepsAmong old new d attrs = (e : ℕ) → digests_in new e
+    ≡ (if d == e then last_or (digests_in old e) (digests_among attrs) else digests_in old e)
+
+-- those of these sections are kept
+abbrev pub KeepsFrom : (old new : BTreeMap ℕ (List ℕ)) → List Record → List Section → Type 0
+KeepsFrom old new entries sections = (e : ℕ)
+    → digests_in new e ≡ last_or (digests_in old e) (digests_at sections entries e)

@@ -1,0 +1,157 @@
+ghost use Rattle.std.specs.Prelude.{◌≡◌, ◌<◌, ◌∷◌, [], IfOk, OnOk, Some, length, true};
+ghost use Rattle.std.specs.Option.{option_copied};
+ghost use Rattle.label_base.specs.PathRef.{path_of};
+ghost use Rattle.relabel_core.specs.Stored.{Keeps, KeepsAmong, KeepsFrom, digests_by, digests_of, directory_at, if_directory, is_digest, no_digests};
+
+use label_base::{Bytes, EntryKind, OutOfMemory, PathRef};
+use setfattr_dump::{Attr, DIGEST_KEY, Dump, Section};
+use std::alloc::Global;
+use std::collections::BTreeMap;
+use tree_model::Tree;
+
+/// The digests that are stored for the directories of a tree, by the indices of their entries. It takes memory for these
+/// alone.
+#[derive(Debug, Drop)]
+pub struct Stored {
+    kept: BTreeMap<u32, Bytes>,
+}
+
+// Keeps a digest of a directory, in the place of the one that is kept of it.
+fn keep(
+    alloc: Global,
+    kept: &mut BTreeMap<u32, Bytes>,
+    d: u32,
+    value: &[u8],
+) -> Result<(), OutOfMemory>
+    ensures { OnOk result (Keeps kept.old kept.new d value.now) }
+{
+    let _ = kept.insert(d, Bytes::copy_of(alloc, value)?)?;
+    Ok(())
+}
+
+fn is_digest(attr: &Attr) -> bool
+    ensures { result ≡ is_digest attr.now }
+{
+    attr.key.as_slice() == DIGEST_KEY
+}
+
+// Keeps what an attribute of a directory has, if it is a digest.
+fn keep_attr(
+    alloc: Global,
+    kept: &mut BTreeMap<u32, Bytes>,
+    d: u32,
+    attr: &Attr,
+) -> Result<(), OutOfMemory>
+    ensures { OnOk result (KeepsAmong kept.old kept.new d (attr.now ∷ [])) }
+{
+    if !is_digest(attr) {
+        return Ok(());
+    }
+    keep(alloc, kept, d, attr.value.as_slice())
+}
+
+// Keeps the last digest among the attributes of a directory.
+#[tactic(auto, using(crate::proofs::StoredLemmas::none_among))]
+fn keep_attrs(
+    alloc: Global,
+    kept: &mut BTreeMap<u32, Bytes>,
+    d: u32,
+    attrs: &[Attr],
+) -> Result<(), OutOfMemory>
+    ensures { OnOk result (KeepsAmong kept.old kept.new d attrs.now) }
+{
+    'attrs: for attr in attrs {
+        keep_attr(alloc, kept, d, attr)?;
+    }
+    Ok(())
+}
+
+fn if_directory(tree: &Tree, e: u32) -> Option<u32>
+    requires { e < length tree.now }
+    ensures { result ≡ if_directory tree.now (Some e) }
+{
+    if tree.entry(e).kind == EntryKind::Directory {
+        return Some(e);
+    }
+    None
+}
+
+// The index of the directory with a path.
+fn directory_at(tree: &Tree, path: &PathRef<'_>) -> Option<u32>
+    ensures { result ≡ directory_at tree.now (path_of path.now) }
+{
+    match tree.find(path) {
+        None => None,
+        Some(e) => if_directory(tree, e),
+    }
+}
+
+// Keeps the last digest of a section, where a directory of the tree has its name.
+#[tactic(auto, using(crate::proofs::StoredLemmas::section_of_directory, crate::proofs::StoredLemmas::section_of_none))]
+fn keep_section(
+    alloc: Global,
+    kept: &mut BTreeMap<u32, Bytes>,
+    tree: &Tree,
+    section: &Section,
+) -> Result<(), OutOfMemory>
+    ensures { OnOk result (KeepsFrom kept.old kept.new tree.now (section.now ∷ [])) }
+{
+    match directory_at(tree, &section.name.path()) {
+        None => Ok(()),
+        Some(d) => keep_attrs(alloc, kept, d, section.attrs.as_slice()),
+    }
+}
+
+#[tactic(auto, using(crate::proofs::StoredLemmas::none_from))]
+fn keep_sections(
+    alloc: Global,
+    kept: &mut BTreeMap<u32, Bytes>,
+    tree: &Tree,
+    sections: &[Section],
+) -> Result<(), OutOfMemory>
+    ensures { OnOk result (KeepsFrom kept.old kept.new tree.now sections.now) }
+{
+    'sections: for section in sections {
+        keep_section(alloc, kept, tree, section)?;
+    }
+    Ok(())
+}
+
+impl Stored {
+    /// No digest of any directory.
+    pub fn none(alloc: Global) -> Stored
+        ensures { digests_of result ≡ no_digests }
+    {
+        Stored {
+            kept: BTreeMap::new(alloc),
+        }
+    }
+
+    /// The digests that a dump has for the directories of a tree: for each the last value of `security.sehash` under its
+    /// path. Other names and other attributes are passed over.
+    pub fn new(alloc: Global, tree: &Tree, dump: &Dump) -> Result<Stored, OutOfMemory>
+        ensures { IfOk result (λ stored.
+            digests_of stored ≡ digests_by dump.now.sections tree.now) }
+    {
+        let mut kept = BTreeMap::new(alloc);
+        keep_sections(alloc, &mut kept, tree, dump.sections.as_slice())?;
+        Ok(Stored { kept })
+    }
+
+    /// The digest that is stored for an entry, if one is. Only directories have one.
+    pub fn get(&self, e: u32) -> Option<&[u8]>
+        ensures { option_copied result ≡ digests_of self.now e }
+    {
+        match self.kept.get(&e) {
+            None => None,
+            Some(value) => Some(value.as_slice()),
+        }
+    }
+
+    /// Whether no digest is stored.
+    pub fn is_empty(&self) -> bool
+        ensures { result ≡ true → digests_of self.now ≡ no_digests }
+    {
+        self.kept.is_empty()
+    }
+}
