@@ -1,0 +1,47 @@
+use label_base::{EntryKind, Name, NormPath, Row};
+use relabel_core::Options;
+use tree_model::Choice;
+
+/// What setfiles(8) or restorecon(8) is asked for.
+#[derive(Debug, Drop)]
+pub struct RelabelWords {
+    /// The name of the file of specifications.
+    pub base: Name,
+    /// The entries that are meant.
+    pub choice: Choice,
+    /// How they are walked.
+    pub options: Options,
+    /// How many workers walk, at most [`MOST_WORKERS`](crate::MOST_WORKERS); 0 is the number of
+    /// cores.
+    pub workers: u32,
+    /// Errors of the walk end the run with status 1.
+    pub soft_errors: bool,
+    /// The name of the file of stored digests.
+    pub kept: Option<Name>,
+    /// The name of the file that gets the dump.
+    pub output: Option<Name>,
+}
+
+/// What matchpathcon(8) is asked for.
+#[derive(Debug, Drop)]
+pub struct LookupWords {
+    /// The name of the file of specifications.
+    pub base: Name,
+    /// The type of files that the paths are looked up for; any where there is none.
+    pub asked: Option<EntryKind>,
+    /// The paths are told without themselves.
+    pub bare: bool,
+    /// What the paths should have is compared to what they have.
+    pub verify: bool,
+    /// The paths, in the order of the words.
+    pub paths: Row<NormPath>,
+}
+
+/// What the words ask for.
+#[derive(Debug, Drop)]
+pub enum Command {
+    /// To relabel: setfiles or restorecon.
+    Relabel(RelabelWords),
+    /// To look up: matchpathcon.
+    Lookup(LookupWords),
+}

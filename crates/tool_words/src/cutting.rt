@@ -1,0 +1,270 @@
+ghost use Rattle.std.specs.Prelude.{◌≡◌, ◌∷◌, ◌++◌, ◌<◌, ◌≤◌, ◌^◌, [], drop, get_or, length, IfOk, OnOk};
+ghost use Rattle.tool_words.specs.Items.{any_taken, ahead, is_cluster, item, items_of, letters_say, names_base, operand_taken, taken, unended, valued_says, wrong};
+ghost use Rattle.tool_words.specs.declared.cutting.Expects.TheVariants.{Any};
+ghost use Rattle.tool_words.specs.declared.item.Says.TheVariants.{Given};
+ghost use Rattle.tool_words.specs.Words.{word_texts};
+
+use crate::item::{Item, Says};
+use crate::letters::BASE;
+use crate::tool::{Letter, Tool, letter_of};
+use crate::usage::UsageWhy;
+use label_base::{OutOfMemory, Row};
+use std::alloc::Global;
+
+/// What begins a word of option letters.
+pub const DASH: u8 = b'-';
+
+/// The word that ends the options.
+pub const END: &str = "--";
+
+/// What the next word may be.
+#[derive(Clone, Copy, Debug)]
+pub enum Expects {
+    /// Options, the end of the options, or an operand.
+    Any,
+    /// The value of this letter, whatever the word begins with.
+    ValueOf(u8),
+    /// An operand, since the options have ended.
+    Operands,
+}
+
+/// What is ahead while words are read.
+#[derive(Clone, Copy, Debug)]
+pub struct Ahead {
+    pub expects: Expects,
+    /// Whether the next operand names the file of specifications.
+    pub base: bool,
+}
+
+// Adds something that the words say.
+fn add<'a>(
+    says: Says,
+    index: u32,
+    text: &'a str,
+    items: &mut Row<Item<'a>>,
+) -> Result<(), OutOfMemory>
+    ensures { OnOk result (items.new ≡ items.old ++ item says index text.now ∷ []) }
+{
+    items.push(Item { says, index, text })
+}
+
+fn add_wrong<'a>(why: UsageWhy, index: u32, items: &mut Row<Item<'a>>) -> Result<(), OutOfMemory>
+    ensures { OnOk result (items.new ≡ items.old ++ wrong why index ∷ []) }
+{
+    add(Says::Wrong(why), index, "", items)
+}
+
+fn first_byte(text: &str) -> u8
+    requires { 0 < length text.now }
+    ensures { get_or text.now 0 0 ≡ result }
+{
+    text.as_bytes()[0]
+}
+
+// What stands behind a byte of ASCII.
+fn behind_first(text: &str) -> &str
+    requires some { 0 < length text.now }
+    requires ascii { get_or text.now 0 0 < 128 }
+    ensures { result.now ≡ drop 1 text.now }
+{
+    &text[1..]
+}
+
+// Adds the value of a letter where it stands behind the letter, or expects it of the next word.
+fn add_valued<'a>(
+    letter: u8,
+    index: u32,
+    rest: &'a str,
+    items: &mut Row<Item<'a>>,
+) -> Result<Expects, OutOfMemory>
+    ensures expects { IfOk result (λ expects. expects ≡ (valued_says index letter rest.now).1) }
+    ensures items { OnOk result (items.new ≡ items.old ++ (valued_says index letter rest.now).0) }
+{
+    if rest.len() == 0 {
+        return Ok(Expects::ValueOf(letter));
+    }
+    add(Says::Given(letter), index, rest, items)?;
+    Ok(Expects::Any)
+}
+
+// Adds what the letters of a word say, and tells what they expect of the next word.
+fn add_letters<'a>(
+    tool: Tool,
+    index: u32,
+    letters: &'a str,
+    items: &mut Row<Item<'a>>,
+) -> Result<Expects, OutOfMemory>
+    ensures expects { IfOk result (λ expects. expects ≡ (letters_say tool index letters.now).1) }
+    ensures items { OnOk result
+        (items.new ≡ items.old ++ (letters_say tool index letters.now).0) }
+{
+    let mut left = letters;
+    'letters: while left.len() > 0 {
+        let letter = first_byte(left);
+        match letter_of(tool, letter) {
+            Letter::Alone => add(Says::Flag(letter), index, "", items)?,
+            Letter::WithValue => return add_valued(letter, index, behind_first(left), items),
+            Letter::Later => return add_refused(UsageWhy::NotYet, index, items),
+            Letter::Unknown => return add_refused(UsageWhy::UnknownOption, index, items),
+        }
+        left = behind_first(left);
+    }
+    Ok(Expects::Any)
+}
+
+// Adds that a letter is refused; what stands behind it in its word isn't looked at.
+fn add_refused<'a>(
+    why: UsageWhy,
+    index: u32,
+    items: &mut Row<Item<'a>>,
+) -> Result<Expects, OutOfMemory>
+    ensures expects { IfOk result (λ expects. expects ≡ Any) }
+    ensures items { OnOk result (items.new ≡ items.old ++ wrong why index ∷ []) }
+{
+    add_wrong(why, index, items)?;
+    Ok(Expects::Any)
+}
+
+fn is_cluster(word: &str) -> bool
+    ensures { result ≡ is_cluster word.now }
+{
+    match word.as_bytes() {
+        [first, _, ..] => *first == DASH,
+        _ => false,
+    }
+}
+
+fn add_operand<'a>(
+    ahead: Ahead,
+    index: u32,
+    word: &'a str,
+    items: &mut Row<Item<'a>>,
+) -> Result<Ahead, OutOfMemory>
+    ensures ahead { IfOk result (λ next.
+        next ≡ (operand_taken ahead.expects ahead.base index word.now).1) }
+    ensures items { OnOk result
+        (items.new ≡ items.old ++ (operand_taken ahead.expects ahead.base index word.now).0) }
+{
+    let says = if ahead.base {
+        Says::Given(BASE)
+    } else {
+        Says::Operand
+    };
+    add(says, index, word, items)?;
+    Ok(Ahead {
+        expects: ahead.expects,
+        base: false,
+    })
+}
+
+// Adds what a word says that may be one of options.
+#[tactic(auto, unfolding(crate::specs::Items::any_taken))]
+fn add_any<'a>(
+    tool: Tool,
+    base: bool,
+    index: u32,
+    word: &'a str,
+    items: &mut Row<Item<'a>>,
+) -> Result<Ahead, OutOfMemory>
+    ensures ahead { IfOk result (λ next. next ≡ (any_taken tool base index word.now).1) }
+    ensures items { OnOk result
+        (items.new ≡ items.old ++ (any_taken tool base index word.now).0) }
+{
+    if word == END {
+        return Ok(Ahead {
+            expects: Expects::Operands,
+            base,
+        });
+    }
+    if is_cluster(word) {
+        let expects = add_letters(tool, index, behind_first(word), items)?;
+        return Ok(Ahead { expects, base });
+    }
+    let ahead = Ahead {
+        expects: Expects::Any,
+        base,
+    };
+    add_operand(ahead, index, word, items)
+}
+
+// Adds what a word says, and tells what is ahead of the next one.
+fn add_word<'a>(
+    tool: Tool,
+    ahead: Ahead,
+    index: u32,
+    word: &'a str,
+    items: &mut Row<Item<'a>>,
+) -> Result<Ahead, OutOfMemory>
+    ensures ahead { IfOk result (λ next. next ≡ (taken tool ahead index word.now).1) }
+    ensures items { OnOk result (items.new ≡ items.old ++ (taken tool ahead index word.now).0) }
+{
+    match ahead.expects {
+        Expects::Any => add_any(tool, ahead.base, index, word, items),
+        Expects::ValueOf(letter) => add_value(letter, ahead.base, index, word, items),
+        Expects::Operands => add_operand(ahead, index, word, items),
+    }
+}
+
+fn add_value<'a>(
+    letter: u8,
+    base: bool,
+    index: u32,
+    word: &'a str,
+    items: &mut Row<Item<'a>>,
+) -> Result<Ahead, OutOfMemory>
+    ensures ahead { IfOk result (λ next. next ≡ ahead Any base) }
+    ensures items { OnOk result (items.new ≡ items.old ++ item (Given letter) index word.now ∷ []) }
+{
+    add(Says::Given(letter), index, word, items)?;
+    Ok(Ahead {
+        expects: Expects::Any,
+        base,
+    })
+}
+
+// Adds that a value is missing, where one is expected at the end of so many words.
+fn add_unended<'a>(
+    expects: Expects,
+    count: u32,
+    items: &mut Row<Item<'a>>,
+) -> Result<(), OutOfMemory>
+    ensures { OnOk result (items.new ≡ items.old ++ unended expects count) }
+{
+    match expects {
+        Expects::ValueOf(_) => add_wrong(UsageWhy::MissingValue, count.saturating_sub(1), items),
+        Expects::Any | Expects::Operands => Ok(()),
+    }
+}
+
+fn names_base(tool: Tool) -> bool
+    ensures { result ≡ names_base tool }
+{
+    match tool {
+        Tool::Setfiles => true,
+        Tool::Restorecon | Tool::Matchpathcon => false,
+    }
+}
+
+/// What the words behind the tool's name say, one thing at a time.
+#[tactic(auto, unfolding(crate::specs::Items::items_from))]
+pub fn items_of<'a>(
+    alloc: Global,
+    tool: Tool,
+    words: &'a [String],
+) -> Result<Row<Item<'a>>, OutOfMemory>
+    requires { length words.now < 2 ^ 31 }
+    ensures { IfOk result (λ items. items ≡ items_of tool (word_texts words.now)) }
+{
+    let mut items = Row::new(alloc);
+    let mut ahead = Ahead {
+        expects: Expects::Any,
+        base: names_base(tool),
+    };
+    let mut index = 1;
+    'words: for word in words {
+        ahead = add_word(tool, ahead, index, word.as_str(), &mut items)?;
+        index += 1;
+    }
+    add_unended(ahead.expects, index, &mut items)?;
+    Ok(items)
+}
