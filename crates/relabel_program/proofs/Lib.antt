@@ -1,3 +1,4 @@
 pub mod EntryCounts
+pub mod PolicyLemmas
 pub mod RunLemmas
 pub mod WordLemmas

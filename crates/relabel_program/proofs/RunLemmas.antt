@@ -1,25 +1,47 @@
 -- What the end of a run says, from what its parts say.
-use Rattle.std.proofs.Common.{◌≡◌, ◌∙◌, ap, sym, subst, refl, ℕ, ◌≤◌, arith, ◌⊎◌, inl, inr, List, []}
-use Rattle.std.specs.Prelude.{Bool, true, false, ◌==◌, if◌then◌else◌, Option, Some, None, Result, Ok, Err, is_ok, IfSome, IfErr}
+use Rattle.std.proofs.Common.{◌≡◌, ◌∙◌, ap, sym, subst, refl, cond, ℕ, ◌≤◌, arith, ◌⊎◌, inl, inr, List, []}
+use Rattle.std.specs.Prelude.{Bool, true, false, Option, Some, None, Result, Ok, Err, is_ok, is_some, IsOk, IfSome, IfErr, OnOk, option_map}
+use Rattle.std.specs.FinMap as map
+use Rattle.std.specs.FinMap.{get-insert, get-remove, same_map, nat_cmp-IsAntisymmetric, slice_cmp-IsAntisymmetric}
+use Rattle.std.specs.Ordering.{eq_by_cmp, nat_cmp}
+use Rattle.std.specs.Cmp.Lexicographic.{slice_cmp, nat_list_cmp_total}
 use Rattle.std.specs.Io.KnownBytes.{Appends}
+use Rattle.label_base.specs.Answers.{Explains}
+use Rattle.label_base.specs.Answers as answers
 use Rattle.label_base.specs.Sink.{AppendsFront}
 use Rattle.label_base.specs.Source.{Rose}
-use Rattle.label_base.specs.Store.{Files}
+use Rattle.label_base.specs.Store.{Files, SaveCounts, SaveTold}
+use Rattle.label_base.specs.declared.fault.Fault.{Fault}
+use Rattle.label_base.specs.declared.fault.Fault.TheVariants as faults
+use Rattle.label_base.specs.declared.store.SaveFault.{SaveFault}
+use Rattle.label_base.specs.declared.store.SaveFault.TheVariants as save
 use Rattle.find_records.specs.Record.{Record}
-use Rattle.relabel_core.specs.declared.rules.Rules.{Rules}
-use Rattle.relabel_program.specs.Answer.{answer, names_in, policy, reported_by}
-use Rattle.relabel_program.specs.Causes.{and_then, CauseCounts, Explained, IsInputCause, IsPolicyCause, IsReported, end_cause}
+use Rattle.tool_words.specs.declared.command.Command.{Command}
+use Rattle.tool_words.specs.declared.command.Command.TheVariants.{Relabel, Lookup}
+use Rattle.tool_words.specs.declared.command.LookupWords.{LookupWords}
+use Rattle.tool_words.specs.declared.command.RelabelWords.{RelabelWords}
+use Rattle.tool_words.specs.declared.usage.Usage.{Usage}
+use Rattle.tool_words.specs.declared.usage.UsageWhy.{UsageWhy}
+use Rattle.relabel_program.specs.Answer.{answer, answer_for, cause_of, saved_as, told_by, told_by_lookup, told_by_walk}
+use Rattle.relabel_program.specs.Asked.{input_for, input_in, output_in, output_of, takes_records}
+use Rattle.relabel_program.specs.Causes.{and_then, CauseCounts, Counts, Explained, Gives, IsFileCause, IsInputCause, IsReadingCause, IsReported, IsWritten, words_cause}
 use Rattle.relabel_program.specs.Faults.{fault_line}
-use Rattle.relabel_program.specs.Input.{entries_of}
-use Rattle.relabel_program.specs.Run.{Ends, FileFailed, InputFailed, IsLaterCause, LineOrFront, PolicyDecides, ReadCounts, Reports, Run, TellsFault, WritesReport}
-use Rattle.relabel_program.specs.Words.{usage}
+use Rattle.relabel_program.specs.Files.{policy}
+use Rattle.relabel_program.specs.Input.{entries_for}
+use Rattle.relabel_program.specs.Names.{names_for, names_in, no_names}
+use Rattle.relabel_program.specs.Run.{Ends, FileFailed, FilesDecide, InputFailed, LineOrFront, LosesDump, LosesReport, OthersStay, Reports, ReportsFront, Run, Saves, WritesReport, files_with}
 use Rattle.relabel_program.specs.declared.cause.Cause.{Cause}
-use Rattle.relabel_program.specs.declared.cause.Cause.TheVariants.{Done, Usage, WalkErrors, ReadFault, WriteFault, OutOfMemory}
-use Rattle.relabel_program.specs.declared.cause.UsageWhy.{UsageWhy}
+use Rattle.relabel_program.specs.declared.cause.Cause.TheVariants as causes
+use Rattle.relabel_program.specs.declared.cause.Cause.TheVariants.{Done, RecordRefused, Unended, Doubled, Limit, WalkErrors, Differs, ReadFault, WriteFault, OutOfMemory}
+use Rattle.relabel_program.specs.declared.cause.LimitKind.TheVariants.{File, Specs, Records, RecordBytes}
 use Rattle.relabel_program.specs.declared.names.FileNames.{FileNames}
-use Rattle.relabel_program.specs.declared.reported.Reported.{Reported}
+use Rattle.relabel_program.specs.declared.policy.Policy.{Policy}
+use Rattle.relabel_program.specs.declared.told.End.{End}
+use Rattle.relabel_program.specs.declared.told.End.TheVariants as ends
+use Rattle.relabel_program.specs.declared.told.Saved.{Saved}
+use Rattle.relabel_program.specs.declared.told.Told.{Told}
 
--- ---- options and results
+-- ---- options
 
 if_some : {A : Type 0} {P Q : A → Type 0} (found : Option A) → ((x : A) → P x → Q x) → IfSome found P → IfSome found Q
 if_some None next held = held
@@ -29,42 +51,62 @@ all_some : {A : Type 0} {Q : A → Type 0} (found : Option A) → ((x : A) → Q
 all_some None each = tt
 all_some (Some x) each = each x
 
--- ---- causes
+if_both : {A : Type 0} {P Q R : A → Type 0} (found : Option A) → ((x : A) → P x → Q x → R x) → IfSome found P → IfSome found Q → IfSome found R
+if_both None next first second = first
+if_both (Some x) next first second = next x first second
 
--- a refusal of the policy, or of none of it
-decides_refusal : (meant : Result Rules Cause) (cause : Cause) (untouched : Type 0) → Explained meant cause → IsPolicyCause cause → untouched
-    → PolicyDecides meant cause untouched
-decides_refusal (Err refusal) ReadFault untouched told kind still = record { told = inr tt; of_policy = tt; no_input_read = still }
-decides_refusal (Err refusal) OutOfMemory untouched told kind still = record { told = inr tt; of_policy = tt; no_input_read = still }
-decides_refusal (Err refusal) cause untouched told kind still = record { told = inl (cc); of_policy = kind; no_input_read = still }
-decides_refusal (Ok rules) ReadFault untouched told kind still = tt
-decides_refusal (Ok rules) OutOfMemory untouched told kind still = tt
-decides_refusal (Ok rules) cause untouched told kind still = absurd (cc)
+-- ---- what the files decide
 
-decides_memory : (meant : Result Rules Cause) (untouched : Type 0) → untouched → PolicyDecides meant OutOfMemory untouched
-decides_memory (Err refusal) untouched still = record { told = inr tt; of_policy = tt; no_input_read = still }
-decides_memory (Ok rules) untouched still = tt
+files_refused : (meant : Result Policy Cause) (cause : Cause) (untouched : Type 0) → Explained meant cause → IsFileCause cause → untouched
+    → FilesDecide meant cause untouched
+files_refused (Err refusal) ReadFault untouched told kind still = record { told = inr tt; of_files = tt; no_input_read = still }
+files_refused (Err refusal) OutOfMemory untouched told kind still = record { told = inr tt; of_files = tt; no_input_read = still }
+files_refused (Err refusal) cause untouched told kind still = record { told = inl (cc); of_files = kind; no_input_read = still }
+files_refused (Ok policy) ReadFault untouched told kind still = λ _. tt
+files_refused (Ok policy) OutOfMemory untouched told kind still = λ _. tt
+files_refused (Ok policy) cause untouched told kind still = absurd (cc)
 
-decides_later : (meant : Result Rules Cause) (rules : Rules) (cause : Cause) (untouched : Type 0) → meant ≡ Ok rules → IsLaterCause cause
-    → PolicyDecides meant cause untouched
-decides_later (Err refusal) rules cause untouched accepted kind = absurd (cc)
-decides_later (Ok found) rules cause untouched accepted kind = kind
+files_memory : (meant : Result Policy Cause) (untouched : Type 0) → untouched → FilesDecide meant OutOfMemory untouched
+files_memory (Err refusal) untouched still = record { told = inr tt; of_files = tt; no_input_read = still }
+files_memory (Ok policy) untouched still = λ _. tt
 
-is_later : (cause : Cause) → IsInputCause cause → IsLaterCause cause
-is_later Done kind = absurd kind
-is_later (WalkErrors count) kind = absurd kind
-is_later WriteFault kind = absurd kind
-is_later cause kind = kind
+files_accepted : (meant : Result Policy Cause) (found : Policy) (cause : Cause) (untouched : Type 0) → meant ≡ Ok found
+    → (IsFileCause cause → IsReadingCause cause) → FilesDecide meant cause untouched
+files_accepted (Err refusal) found cause untouched accepted later = absurd (cc)
+files_accepted (Ok policy) found cause untouched accepted later = later
 
-not_of_policy : (cause : Cause) → IsPolicyCause cause → IsReported cause → ⊥
-not_of_policy Done kind reported = kind
-not_of_policy (WalkErrors count) kind reported = kind
-not_of_policy cause kind reported = reported
+input_later : (cause : Cause) → IsInputCause cause → IsFileCause cause → IsReadingCause cause
+input_later (RecordRefused number why) kind file = file
+input_later (Unended number) kind file = file
+input_later (Doubled first second) kind file = file
+input_later (Limit (File part)) kind file = absurd kind
+input_later (Limit Specs) kind file = absurd kind
+input_later (Limit Records) kind file = file
+input_later (Limit RecordBytes) kind file = file
+input_later cause kind file = kind
 
-not_of_input : (cause : Cause) → IsInputCause cause → IsReported cause → ⊥
-not_of_input Done kind reported = kind
-not_of_input (WalkErrors count) kind reported = kind
-not_of_input cause kind reported = reported
+written_later : (cause : Cause) → IsWritten cause → IsFileCause cause → IsReadingCause cause
+written_later Done kind file = file
+written_later (WalkErrors count) kind file = file
+written_later (Differs count) kind file = file
+written_later WriteFault kind file = file
+written_later cause kind file = absurd kind
+
+unwritten_file : (cause : Cause) → IsFileCause cause → IsWritten cause → ⊥
+unwritten_file Done kind written = kind
+unwritten_file (WalkErrors count) kind written = kind
+unwritten_file (Differs count) kind written = kind
+unwritten_file WriteFault kind written = kind
+unwritten_file cause kind written = written
+
+unwritten_input : (cause : Cause) → IsInputCause cause → IsWritten cause → ⊥
+unwritten_input Done kind written = kind
+unwritten_input (WalkErrors count) kind written = kind
+unwritten_input (Differs count) kind written = kind
+unwritten_input WriteFault kind written = kind
+unwritten_input cause kind written = written
+
+-- ---- what is meant
 
 -- an explained cause goes through what follows
 explained_next : {A B : Type 0} (meant : Result A Cause) (next : A → Result B Cause) (cause : Cause) → Explained meant cause → Explained (and_then meant next) cause
@@ -72,359 +114,631 @@ explained_next meant next ReadFault told = tt
 explained_next meant next OutOfMemory told = tt
 explained_next meant next cause told = ap (λ r. and_then r next) told
 
-ends_explained : {O : Type 0} (written : O → Option (List ℕ)) (old new : O) (meant : Result Reported Cause) (cause : Cause)
-    → (IsReported cause → ⊥) → (cause ≡ WriteFault → ⊥) → Explained meant cause → Ends written old new meant cause
-ends_explained written old new meant Done done failed told = absurd (done tt)
-ends_explained written old new meant (WalkErrors count) done failed told = absurd (done tt)
-ends_explained written old new meant WriteFault done failed told = absurd (failed refl)
-ends_explained written old new meant cause done failed told = told
+ends_explained : {S O : Type 0} (files : S → Option Files) (written : O → Option (List ℕ)) (store : S) (out out_now : O) (told : Files) (meant : Result Told Cause) (cause : Cause)
+    → (IsWritten cause → ⊥) → Explained meant cause → Ends files written store out out_now told meant cause
+ends_explained files written store out out_now told meant Done unwritten explained = absurd (unwritten tt)
+ends_explained files written store out out_now told meant (WalkErrors count) unwritten explained = absurd (unwritten tt)
+ends_explained files written store out out_now told meant (Differs count) unwritten explained = absurd (unwritten tt)
+ends_explained files written store out out_now told meant WriteFault unwritten explained = absurd (unwritten tt)
+ends_explained files written store out out_now told meant cause unwritten explained = explained
 
-pub tells_line : {O : Type 0} (written : O → Option (List ℕ)) (faults : O → ℕ) (old new : O) (names : FileNames) (cause : Cause)
-    → LineOrFront written faults old new (fault_line names cause) → TellsFault written faults old new names cause
-tells_line written faults old new names Done line = tt
-tells_line written faults old new names (WalkErrors count) line = tt
-tells_line written faults old new names WriteFault line = tt
-tells_line written faults old new names cause line = line
+after_policy : Command → List ℕ → Policy → Result Told Cause
+after_policy command bytes policy = and_then (entries_for command bytes) (λ entries. Ok (told_by command policy entries))
 
-counts_of_store : (before now input : ℕ) (cause : Cause) → CauseCounts before now cause → ReadCounts before now input input cause
-counts_of_store before now input ReadFault counts = (counts.0, omega arith)
-counts_of_store before now input OutOfMemory counts = (omega (arith, counts), omega arith)
-counts_of_store before now input cause counts = (counts, refl)
+file_explains : (command : Command) (told : Files) (bytes : List ℕ) (cause : Cause) → Explained (policy command told) cause → Explained (answer_for command told bytes) cause
+unfolding answer_for
+file_explains command told bytes cause explained =
+    explained_next (policy command told) (λ policy. and_then (entries_for command bytes) (λ entries. Ok (told_by command policy entries))) cause explained
 
-counts_of_input : (store store_now before now : ℕ) (cause : Cause) → store_now ≡ store → CauseCounts before now cause → ReadCounts store store_now before now cause
-counts_of_input store store_now before now ReadFault same counts = (omega (arith, same), counts.0)
-counts_of_input store store_now before now OutOfMemory same counts = (omega (arith, same), omega (arith, counts))
-counts_of_input store store_now before now cause same counts = (same, counts)
+answer_next : (command : Command) (told : Files) (bytes : List ℕ) (found : Policy) → policy command told ≡ Ok found
+    → answer_for command told bytes ≡ and_then (entries_for command bytes) (λ entries. Ok (told_by command found entries))
+unfolding answer_for
+answer_next command told bytes found is =
+    ap (λ r. and_then r (λ policy. and_then (entries_for command bytes) (λ entries. Ok (told_by command policy entries)))) is
+
+input_explains : (command : Command) (told : Files) (bytes : List ℕ) (found : Policy) (cause : Cause) → policy command told ≡ Ok found
+    → Explained (entries_for command bytes) cause → Explained (answer_for command told bytes) cause
+input_explains command told bytes found cause is explained =
+    subst (λ meant. Explained meant cause) (sym (answer_next command told bytes found is))
+    (explained_next (entries_for command bytes) (λ entries. Ok (told_by command found entries)) cause explained)
+
+answer_told : (command : Command) (told : Files) (bytes : List ℕ) (found : Policy) (entries : List Record) (made : Told)
+    → policy command told ≡ Ok found → entries_for command bytes ≡ Ok entries → made ≡ told_by command found entries → answer_for command told bytes ≡ Ok made
+answer_told command told bytes found entries made is read so =
+    answer_next command told bytes found is ∙ ap (λ r. and_then r (λ entries. Ok (told_by command found entries))) read ∙ ap Ok (sym so)
+
+-- ---- counts
+
+counts_calm : (before now : ℕ) (cause : Cause) → CauseCounts before now cause → (IsReadingCause cause → ⊥) → now ≡ before
+counts_calm before now ReadFault counts calm = absurd (calm tt)
+counts_calm before now cause counts calm = counts
+
+counts_later : (before now : ℕ) (cause : Cause) → CauseCounts before now cause → before ≤ now
+counts_later before now ReadFault counts = counts.0
+counts_later before now cause counts = omega (arith, counts)
+
+-- ---- what is saved
+
+abbrev name_in : Saved → List ℕ
+name_in saved = saved.name
+
+saved_under : (output : Option (List ℕ)) (text : List ℕ) → option_map name_in (saved_as output text) ≡ output
+saved_under None text = refl
+saved_under (Some name) text = refl
+
+walk_saves : (words : RelabelWords) (found : Policy) (entries : List Record) → option_map name_in (told_by_walk words found entries).saved ≡ words.output
+unfolding told_by_walk
+walk_saves words found entries = saved_under words.output _
+
+saves_none : (b : Bool) (x y : Told) → x.saved ≡ None → y.saved ≡ None → option_map name_in (cond b x y).saved ≡ None
+saves_none true x y is other = ap (option_map name_in) is
+saves_none false x y is other = ap (option_map name_in) other
+
+lookup_saves : (words : LookupWords) (found : Policy) (entries : List Record) → option_map name_in (told_by_lookup words found entries).saved ≡ None
+unfolding told_by_lookup
+lookup_saves words found entries = saves_none words.verify _ _ refl refl
+
+-- the dump goes to the file that is asked for
+output_saved : (command : Command) (found : Policy) (entries : List Record) → option_map name_in (told_by command found entries).saved ≡ output_of command
+output_saved (Relabel words) found entries = walk_saves words found entries
+output_saved (Lookup words) found entries = lookup_saves words found entries
+
+stay_same : (old new : Option Files) (output : Option (List ℕ)) → new ≡ old → OthersStay old new output
+stay_same old new None is = is
+stay_same None new (Some name) is = tt
+stay_same (Some old) None (Some name) is = absurd (cc)
+stay_same (Some old) (Some new) (Some name) is = let same : new ≡ old = cc in ap (λ files. map.remove files name) same
+
+dropped_twice : (b : Bool) (x y : Option (List ℕ)) → cond b None (cond b x y) ≡ cond b None y
+dropped_twice true x y = refl
+dropped_twice false x y = refl
+
+removed_saved : (files : Files) (name text : List ℕ) → map.remove (map.insert files name text) name ≡ map.remove files name
+removed_saved files name text =
+    same_map nat_list_cmp_total (slice_cmp-IsAntisymmetric nat_cmp-IsAntisymmetric) _ _ (λ q.
+    get-remove nat_list_cmp_total (map.insert files name text) name q
+    ∙ ap (cond (eq_by_cmp (slice_cmp nat_cmp) q name) None) (get-insert nat_list_cmp_total files name text q)
+    ∙ dropped_twice (eq_by_cmp (slice_cmp nat_cmp) q name) (Some text) (map.get files q)
+    ∙ sym (get-remove nat_list_cmp_total files name q))
+
+-- whatever the write of the dump answers, all other files stay
+others_stay : (old new : Option Files) (saved : Option Saved) (result : Result (Unit {0}) SaveFault) → Saves old new saved result
+    → OthersStay old new (option_map name_in saved)
+others_stay old new None (Ok done) saves = saves
+others_stay old new None (Err fault) saves = absurd saves
+others_stay None new (Some saved) result saves = tt
+others_stay (Some old) None (Some saved) result saves = saves
+others_stay (Some old) (Some new) (Some saved) (Ok done) saves = ap (λ files. map.remove files saved.name) saves ∙ removed_saved old saved.name saved.text
+others_stay (Some old) (Some new) (Some saved) (Err save.Failed) saves = saves
+others_stay (Some old) (Some new) (Some saved) (Err save.OutOfMemory) saves = ap (λ files. map.remove files saved.name) saves
+
+-- a dump that was saved is among the files
+all_saved : (old new : Option Files) (saved : Option Saved) → Saves old new saved (Ok tt) → IfSome old (λ told. new ≡ Some (files_with told saved))
+all_saved None new saved saves = tt
+all_saved (Some old) new None saves = saves
+all_saved (Some old) None (Some saved) saves = absurd saves
+all_saved (Some old) (Some new) (Some saved) saves = ap Some saves
+
+-- a dump for which there was no memory leaves all files
+none_saved : (old new : Option Files) (saved : Option Saved) → Saves old new saved (Err save.OutOfMemory) → IfSome old (λ told. new ≡ Some told)
+none_saved None new saved saves = tt
+none_saved (Some old) new None saves = absurd saves
+none_saved (Some old) None (Some saved) saves = absurd saves
+none_saved (Some old) (Some new) (Some saved) saves = ap Some saves
+
+-- only where a dump is asked for can its write fail
+failing_named : (old new : Option Files) (saved : Option Saved) → Saves old new saved (Err save.Failed) → is_some (option_map name_in saved) ≡ true
+failing_named old new None saves = absurd saves
+failing_named old new (Some saved) saves = refl
 
 -- ---- causes of a report
 
-reported_cond : (b : Bool) (errors : ℕ) → IsReported (if b then Done else WalkErrors errors)
-reported_cond true errors = tt
-reported_cond false errors = tt
+end_written : (end : End) → IsWritten (cause_of end)
+end_written ends.Done = tt
+end_written (ends.WalkErrors count) = tt
+end_written (ends.Differs count) = tt
 
-is_reported : (errors : ℕ) → IsReported (end_cause errors)
-is_reported errors = reported_cond (errors == 0) errors
+end_calm : (end : End) → IsReadingCause (cause_of end) → ⊥
+end_calm ends.Done kind = kind
+end_calm (ends.WalkErrors count) kind = kind
+end_calm (ends.Differs count) kind = kind
 
-reported_later : (cause : Cause) → IsReported cause → IsLaterCause cause
-reported_later Done kind = tt
-reported_later (WalkErrors count) kind = tt
-reported_later cause kind = absurd kind
+end_kept : (end : End) → cause_of end ≡ WriteFault → ⊥
+end_kept ends.Done is = absurd (cc)
+end_kept (ends.WalkErrors count) is = absurd (cc)
+end_kept (ends.Differs count) is = absurd (cc)
 
-ends_reported : {O : Type 0} (written : O → Option (List ℕ)) (old new : O) (meant : Result Reported Cause) (cause : Cause)
-    → IsReported cause → Reports written old new meant cause → Ends written old new meant cause
-ends_reported written old new meant Done kind reports = reports
-ends_reported written old new meant (WalkErrors count) kind reports = reports
-ends_reported written old new meant cause kind reports = absurd kind
+ends_reported : {S O : Type 0} (files : S → Option Files) (written : O → Option (List ℕ)) (store : S) (out out_now : O) (told : Files) (meant : Result Told Cause) (end : End)
+    → Reports files written store out out_now told meant (cause_of end) → Ends files written store out out_now told meant (cause_of end)
+ends_reported files written store out out_now told meant ends.Done reports = reports
+ends_reported files written store out out_now told meant (ends.WalkErrors count) reports = reports
+ends_reported files written store out out_now told meant (ends.Differs count) reports = reports
 
-tells_nothing : {O : Type 0} (written : O → Option (List ℕ)) (faults : O → ℕ) (old new : O) (names : FileNames) (cause : Cause)
-    → IsReported cause → TellsFault written faults old new names cause
-tells_nothing written faults old new names Done kind = tt
-tells_nothing written faults old new names (WalkErrors count) kind = tt
-tells_nothing written faults old new names cause kind = absurd kind
+not_usage : (cause : Cause) (wrong : Usage) → (IsReadingCause cause → ⊥) → IsWritten cause → cause ≡ causes.Usage wrong.index wrong.why → ⊥
+not_usage cause wrong calm written is = subst IsWritten is written
 
-reported_counts : (store store_now input input_now : ℕ) (cause : Cause) → IsReported cause → store_now ≡ store → input_now ≡ input
-    → ReadCounts store store_now input input_now cause
-reported_counts store store_now input input_now Done kind same input_same = (same, input_same)
-reported_counts store store_now input input_now (WalkErrors count) kind same input_same = (same, input_same)
-reported_counts store store_now input input_now cause kind same input_same = absurd kind
+-- ---- runs
 
--- ---- answers
+-- what reading the files leaves
+pub record FilesRead {S : Type 0} (files : S → Option Files) (read_faults write_faults : S → ℕ) (command : Command) (store mid : S) (result : Result Policy Cause) : Type 0 where
+  pub same : files mid ≡ files store
+  pub unwritten : write_faults mid ≡ write_faults store
+  pub gives : IfSome (files store) (λ told. Gives (policy command told) result)
+  pub counts : Counts (read_faults store) (read_faults mid) result
 
-policy_ends : {O : Type 0} (written : O → Option (List ℕ)) (old new : O) (words : List (List ℕ)) (told : Files) (bytes : List ℕ) (cause : Cause)
-    → IsPolicyCause cause → Explained (policy words told) cause → Ends written old new (answer words told bytes) cause
-unfolding answer
-policy_ends written old new words told bytes cause kind explained =
-    ends_explained written old new (answer words told bytes) cause (not_of_policy cause kind) (λ is. subst IsPolicyCause is kind)
-    (explained_next (policy words told) (λ rules. and_then (entries_of bytes) (λ entries. Ok (reported_by rules entries))) cause explained)
+-- what reading the input leaves
+pub record InputRead {I : Type 0} (left : I → Option (List ℕ)) (faults : I → ℕ) (command : Command) (input input_now : I) (result : Result (List Record) Cause) : Type 0 where
+  pub gives : IfSome (input_for command (left input)) (λ bytes. Gives (entries_for command bytes) result)
+  pub untouched : takes_records command ≡ false → input_now ≡ input
+  pub counts : Counts (faults input) (faults input_now) result
 
-answer_next : (words : List (List ℕ)) (told : Files) (bytes : List ℕ) (rules : Rules) → policy words told ≡ Ok rules
-    → answer words told bytes ≡ and_then (entries_of bytes) (λ entries. Ok (reported_by rules entries))
-unfolding answer
-answer_next words told bytes rules is =
-    ap (λ found. and_then found (λ rules. and_then (entries_of bytes) (λ entries. Ok (reported_by rules entries)))) is
+module _ {S I O : Type 0} (files : S → Option Files) (read_faults write_faults : S → ℕ)
+    (left : I → Option (List ℕ)) (input_faults : I → ℕ) (written : O → Option (List ℕ)) (out_faults : O → ℕ)
+    (command : Command) (store store_now : S) (input input_now : I) (out out_now : O) where
+  abbrev Ran : Cause → Type 0
+  Ran = Run files read_faults write_faults left input_faults written out_faults (Ok command) store store_now input input_now out out_now
 
-input_ends : {O : Type 0} (written : O → Option (List ℕ)) (old new : O) (words : List (List ℕ)) (told : Files) (bytes : List ℕ) (rules : Rules) (cause : Cause)
-    → IsInputCause cause → policy words told ≡ Ok rules → Explained (entries_of bytes) cause → Ends written old new (answer words told bytes) cause
-input_ends written old new words told bytes rules cause kind is explained =
-    ends_explained written old new (answer words told bytes) cause (not_of_input cause kind) (λ is. subst IsInputCause is kind)
-    (subst (λ meant. Explained meant cause) (sym (answer_next words told bytes rules is))
-    (explained_next (entries_of bytes) (λ entries. Ok (reported_by rules entries)) cause explained))
+  abbrev Told_line : Cause → Type 0
+  Told_line cause = LineOrFront written out_faults out out_now (fault_line (names_for command) cause)
 
-answer_report : (words : List (List ℕ)) (told : Files) (bytes : List ℕ) (rules : Rules) (entries : List Record) (reported : Reported)
-    → policy words told ≡ Ok rules → entries_of bytes ≡ Ok entries → reported ≡ reported_by rules entries → answer words told bytes ≡ Ok reported
-answer_report words told bytes rules entries reported is read made =
-    answer_next words told bytes rules is ∙ ap (λ found. and_then found (λ entries. Ok (reported_by rules entries))) read ∙ ap Ok (sym made)
+  -- want of memory, before anything was written
+  gave_up : IfSome (files store) (λ told. FilesDecide (policy command told) OutOfMemory (input_now ≡ input))
+      → (takes_records command ≡ false → input_now ≡ input)
+      → OthersStay (files store) (files store_now) (output_of command)
+      → IfSome (files store) (λ told. files store_now ≡ Some told)
+      → Told_line OutOfMemory
+      → read_faults store ≤ read_faults store_now → input_faults input ≤ input_faults input_now → write_faults store_now ≡ write_faults store
+      → Ran OutOfMemory
+  gave_up decides unread others same line later input_later unwritten =
+      record {
+        wrong_words = tt;
+        only_wrong_words = λ wrong is. absurd (cc);
+        no_records = unread;
+        files_decide = decides;
+        is_meant = all_some (files store) (λ told. all_some (input_for command (left input)) (λ bytes. tt));
+        others_stay = others;
+        same_files = λ _. same;
+        fault_told = λ _. line;
+        all_read = λ written. absurd written;
+        read_failed = λ is. absurd (cc);
+        write_failed = λ is. absurd (cc);
+        read_counts = later;
+        input_counts = input_later;
+        write_counts = omega (arith, unwritten);
+        no_read_failed = λ calm. absurd (calm tt);
+        no_write_failed = λ _. unwritten;
+      }
+
+  same_told : files store_now ≡ files store → IfSome (files store) (λ told. files store_now ≡ Some told)
+  same_told same = told_same (files store) (files store_now) same
+    where
+      told_same : (old new : Option Files) → new ≡ old → IfSome old (λ told. new ≡ Some told)
+      told_same None new is = tt
+      told_same (Some old) new is = is
+
+  -- a refused file
+  refused_file : (cause : Cause) → FilesRead files read_faults write_faults command store store_now (Err cause) → IsFileCause cause → input_now ≡ input → Told_line cause → Ran cause
+  refused_file cause read kind still line =
+      record {
+        wrong_words = tt;
+        only_wrong_words = λ wrong is. absurd (subst IsFileCause is kind);
+        no_records = λ _. still;
+        files_decide = if_some (files store) (λ told explained. files_refused (policy command told) cause (input_now ≡ input) explained kind still) read.gives;
+        is_meant = if_some (files store) (λ told explained. all_some (input_for command (left input)) (λ bytes.
+            ends_explained files written store_now out out_now told (answer_for command told bytes) cause (unwritten_file cause kind) (file_explains command told bytes cause explained))) read.gives;
+        others_stay = stay_same (files store) (files store_now) (output_of command) read.same;
+        same_files = λ _. same_told read.same;
+        fault_told = λ _. line;
+        all_read = λ written. absurd (unwritten_file cause kind written);
+        read_failed = λ is. inl ((subst (CauseCounts (read_faults store) (read_faults store_now)) is read.counts).1, still);
+        write_failed = λ is. absurd (subst IsFileCause is kind);
+        read_counts = counts_later (read_faults store) (read_faults store_now) cause read.counts;
+        input_counts = omega (arith, ap input_faults still);
+        write_counts = omega (arith, read.unwritten);
+        no_read_failed = λ calm. (counts_calm (read_faults store) (read_faults store_now) cause read.counts calm, ap input_faults still);
+        no_write_failed = λ _. read.unwritten;
+      }
+
+  -- a refusal of the input
+  refused_input : (cause : Cause) (found : Policy) → FilesRead files read_faults write_faults command store store_now (Ok found)
+      → InputRead left input_faults command input input_now (Err cause) → IsInputCause cause → Told_line cause → Ran cause
+  refused_input cause found read entries kind line =
+      record {
+        wrong_words = tt;
+        only_wrong_words = λ wrong is. absurd (subst IsInputCause is kind);
+        no_records = entries.untouched;
+        files_decide = if_some (files store) (λ told is. files_accepted (policy command told) found cause (input_now ≡ input) is (input_later cause kind)) read.gives;
+        is_meant = if_some (files store) (λ told is. if_some (input_for command (left input)) (λ bytes explained.
+            ends_explained files written store_now out out_now told (answer_for command told bytes) cause (unwritten_input cause kind) (input_explains command told bytes found cause is explained)) entries.gives) read.gives;
+        others_stay = stay_same (files store) (files store_now) (output_of command) read.same;
+        same_files = λ _. same_told read.same;
+        fault_told = λ _. line;
+        all_read = λ written. absurd (unwritten_input cause kind written);
+        read_failed = λ is. inr (record {
+          rose = (subst (CauseCounts (input_faults input) (input_faults input_now)) is entries.counts).1;
+          no_file_failed = read.counts;
+          accepted = if_some (files store) (λ told is. ap is_ok is) read.gives;
+        });
+        write_failed = λ is. absurd (subst IsInputCause is kind);
+        read_counts = omega (arith, read.counts);
+        input_counts = counts_later (input_faults input) (input_faults input_now) cause entries.counts;
+        write_counts = omega (arith, read.unwritten);
+        no_read_failed = λ calm. (read.counts, counts_calm (input_faults input) (input_faults input_now) cause entries.counts calm);
+        no_write_failed = λ _. read.unwritten;
+      }
+
+  -- no memory for the names of the files
+  pub told_early : (told : Cause) → told ≡ OutOfMemory → store_now ≡ store → input_now ≡ input → Told_line OutOfMemory → Ran told
+  told_early told is still unread line =
+      subst Ran (sym is) (gave_up
+      (all_some (files store) (λ told. files_memory (policy command told) (input_now ≡ input) unread)) (λ _. unread)
+      (stay_same (files store) (files store_now) (output_of command) (ap files still)) (same_told (ap files still)) line
+      (omega (arith, ap read_faults still)) (omega (arith, ap input_faults unread)) (ap write_faults still))
+
+  line_for : (names : FileNames) (a b : Cause) → names ≡ names_for command → a ≡ b → LineOrFront written out_faults out out_now (fault_line names a) → Told_line b
+  line_for names a b named same line =
+      subst Told_line same (subst (λ (n : FileNames). LineOrFront written out_faults out out_now (fault_line n a)) named line)
+
+  -- a refusal of a file was told, or want of memory in its place
+  pub told_file : (cause told : Cause) (names : FileNames) → (told ≡ cause) ⊎ (told ≡ OutOfMemory) → names ≡ names_for command
+      → FilesRead files read_faults write_faults command store store_now (Err cause) → IsFileCause cause → input_now ≡ input
+      → LineOrFront written out_faults out out_now (fault_line names told) → Ran told
+  told_file cause told names (inl is) named read kind still line =
+      subst Ran (sym is) (refused_file cause read kind still (line_for names told cause named is line))
+  told_file cause told names (inr is) named read kind still line =
+      subst Ran (sym is) (gave_up
+      (all_some (files store) (λ told. files_memory (policy command told) (input_now ≡ input) still)) (λ _. still)
+      (stay_same (files store) (files store_now) (output_of command) read.same) (same_told read.same)
+      (line_for names told OutOfMemory named is line)
+      (counts_later _ _ cause read.counts) (omega (arith, ap input_faults still)) read.unwritten)
+
+  accepted_memory : (mid : S) (found : Policy) → FilesRead files read_faults write_faults command store mid (Ok found)
+      → IfSome (files store) (λ told. FilesDecide (policy command told) OutOfMemory (input_now ≡ input))
+  accepted_memory mid found read =
+      if_some (files store) (λ told is. files_accepted (policy command told) found OutOfMemory (input_now ≡ input) is (λ _. tt)) read.gives
+
+  -- a refusal of the input was told, or want of memory in its place
+  pub told_input : (cause told : Cause) (names : FileNames) (found : Policy) → (told ≡ cause) ⊎ (told ≡ OutOfMemory) → names ≡ names_for command
+      → FilesRead files read_faults write_faults command store store_now (Ok found)
+      → InputRead left input_faults command input input_now (Err cause) → IsInputCause cause
+      → LineOrFront written out_faults out out_now (fault_line names told) → Ran told
+  told_input cause told names found (inl is) named read entries kind line =
+      subst Ran (sym is) (refused_input cause found read entries kind (line_for names told cause named is line))
+  told_input cause told names found (inr is) named read entries kind line =
+      subst Ran (sym is) (gave_up (accepted_memory store_now found read) entries.untouched
+      (stay_same (files store) (files store_now) (output_of command) read.same) (same_told read.same)
+      (line_for names told OutOfMemory named is line)
+      (omega (arith, read.counts)) (counts_later _ _ cause entries.counts) read.unwritten)
+
+  -- no memory for the texts
+  pub told_late : (told : Cause) (found : Policy) (entries : List Record) → told ≡ OutOfMemory
+      → FilesRead files read_faults write_faults command store store_now (Ok found)
+      → InputRead left input_faults command input input_now (Ok entries)
+      → Told_line OutOfMemory → Ran told
+  told_late told found entries is read given line =
+      subst Ran (sym is) (gave_up (accepted_memory store_now found read) given.untouched
+      (stay_same (files store) (files store_now) (output_of command) read.same) (same_told read.same)
+      line (omega (arith, read.counts)) (omega (arith, given.counts)) read.unwritten)
+
+  -- ---- writing
+
+  saved_now : (mid : S) (made : Told) → files mid ≡ files store → Saves (files mid) (files store_now) made.saved (Ok tt)
+      → IfSome (files store) (λ told. files store_now ≡ Some (files_with told made.saved))
+  saved_now mid made same saves =
+      all_saved (files store) (files store_now) made.saved (subst (λ (old : Option Files). Saves old (files store_now) made.saved (Ok tt)) same saves)
+
+  stays : (mid : S) (found : Policy) (entries : List Record) (made : Told) (result : Result (Unit {0}) SaveFault) → files mid ≡ files store
+      → made ≡ told_by command found entries → Saves (files mid) (files store_now) made.saved result → OthersStay (files store) (files store_now) (output_of command)
+  stays mid found entries made result same is saves =
+      subst (λ (output : Option (List ℕ)). OthersStay (files store) (files store_now) output)
+      (ap (λ (told : Told). option_map name_in told.saved) is ∙ output_saved command found entries)
+      (others_stay (files store) (files store_now) made.saved result (subst (λ (old : Option Files). Saves old (files store_now) made.saved result) same saves))
+
+  accepted_later : (cause : Cause) (mid : S) (found : Policy) → IsWritten cause → FilesRead files read_faults write_faults command store mid (Ok found)
+      → IfSome (files store) (λ told. FilesDecide (policy command told) cause (input_now ≡ input))
+  accepted_later cause mid found kind read =
+      if_some (files store) (λ told is. files_accepted (policy command told) found cause (input_now ≡ input) is (written_later cause kind)) read.gives
+
+  -- the report was written
+  wrote_report : (mid : S) (found : Policy) (entries : List Record) (made : Told)
+      → FilesRead files read_faults write_faults command store mid (Ok found)
+      → InputRead left input_faults command input input_now (Ok entries)
+      → (takes_records command ≡ true → IfSome (left input) (λ bytes. left input_now ≡ Some []))
+      → made ≡ told_by command found entries
+      → Saves (files mid) (files store_now) made.saved (Ok tt) → write_faults store_now ≡ write_faults mid → read_faults store_now ≡ read_faults mid
+      → Appends (written out) (written out_now) made.report
+      → Ran (cause_of made.end)
+  wrote_report mid found entries made read given ended is saves writes reads whole =
+      record {
+        wrong_words = tt;
+        only_wrong_words = λ wrong told. absurd (subst IsWritten told (end_written made.end));
+        no_records = given.untouched;
+        files_decide = accepted_later (cause_of made.end) mid found (end_written made.end) read;
+        is_meant = if_both (files store) (λ told accepted saved. if_some (input_for command (left input)) (λ bytes entered.
+            ends_reported files written store_now out out_now told (answer_for command told bytes) made.end (record {
+              reported = made;
+              is_meant = answer_told command told bytes found entries made accepted entered is;
+              cause_is = refl;
+              whole = whole;
+              saved = saved;
+            })) given.gives) read.gives (saved_now mid made read.same saves);
+        others_stay = stays mid found entries made (Ok tt) read.same is saves;
+        same_files = λ unwritten. absurd (unwritten (end_written made.end));
+        fault_told = λ unwritten. absurd (unwritten (end_written made.end));
+        all_read = λ _. ended;
+        read_failed = λ told. absurd (end_calm made.end (subst IsReadingCause (sym told) tt));
+        write_failed = λ told. absurd (end_kept made.end told);
+        read_counts = omega (arith, reads, read.counts);
+        input_counts = omega (arith, given.counts);
+        write_counts = omega (arith, writes, read.unwritten);
+        no_read_failed = λ _. (reads ∙ read.counts, given.counts);
+        no_write_failed = λ _. writes ∙ read.unwritten;
+      }
+
+  -- a front of the report was written
+  lost_report : (mid : S) (found : Policy) (entries : List Record) (made : Told)
+      → FilesRead files read_faults write_faults command store mid (Ok found)
+      → InputRead left input_faults command input input_now (Ok entries)
+      → (takes_records command ≡ true → IfSome (left input) (λ bytes. left input_now ≡ Some []))
+      → made ≡ told_by command found entries
+      → Saves (files mid) (files store_now) made.saved (Ok tt) → write_faults store_now ≡ write_faults mid → read_faults store_now ≡ read_faults mid
+      → AppendsFront (written out) (written out_now) made.report → Rose (out_faults out) (out_faults out_now)
+      → Ran WriteFault
+  lost_report mid found entries made read given ended is saves writes reads front rose =
+      record {
+        wrong_words = tt;
+        only_wrong_words = λ wrong told. absurd (cc);
+        no_records = given.untouched;
+        files_decide = accepted_later WriteFault mid found tt read;
+        is_meant = if_some (files store) (λ told accepted. if_some (input_for command (left input)) (λ bytes entered.
+            ap is_ok (answer_told command told bytes found entries made accepted entered is)) given.gives) read.gives;
+        others_stay = stays mid found entries made (Ok tt) read.same is saves;
+        same_files = λ unwritten. absurd (unwritten tt);
+        fault_told = λ unwritten. absurd (unwritten tt);
+        all_read = λ _. ended;
+        read_failed = λ told. absurd (cc);
+        write_failed = λ _. inr (record {
+          rose = rose;
+          no_file_failed = writes ∙ read.unwritten;
+          front = if_both (files store) (λ told accepted saved. if_some (input_for command (left input)) (λ bytes entered. record {
+            reported = made;
+            is_meant = answer_told command told bytes found entries made accepted entered is;
+            front = front;
+            saved = saved;
+          }) given.gives) read.gives (saved_now mid made read.same saves);
+        });
+        read_counts = omega (arith, reads, read.counts);
+        input_counts = omega (arith, given.counts);
+        write_counts = omega (arith, writes, read.unwritten);
+        no_read_failed = λ _. (reads ∙ read.counts, given.counts);
+        no_write_failed = λ kept. absurd (kept refl);
+      }
+
+  -- the dump was saved, and the report written whole or not
+  pub finished : (cause : Cause) (mid : S) (found : Policy) (entries : List Record) (made : Told)
+      → FilesRead files read_faults write_faults command store mid (Ok found)
+      → InputRead left input_faults command input input_now (Ok entries)
+      → (takes_records command ≡ true → IfSome (left input) (λ bytes. left input_now ≡ Some []))
+      → made ≡ told_by command found entries
+      → Saves (files mid) (files store_now) made.saved (Ok tt) → write_faults store_now ≡ write_faults mid → read_faults store_now ≡ read_faults mid
+      → WritesReport written out_faults out out_now made cause
+      → Ran cause
+  finished cause mid found entries made read given ended is saves writes reads (inl done) =
+      subst Ran (sym done.0) (wrote_report mid found entries made read given ended is saves writes reads done.1)
+  finished cause mid found entries made read given ended is saves writes reads (inr failed) =
+      subst Ran (sym failed.0) (lost_report mid found entries made read given ended is saves writes reads failed.1 failed.2)
+
+  -- the dump could not be written
+  pub lost_dump : (cause : Cause) (mid : S) (found : Policy) (entries : List Record) (made : Told) → cause ≡ WriteFault
+      → FilesRead files read_faults write_faults command store mid (Ok found)
+      → InputRead left input_faults command input input_now (Ok entries)
+      → (takes_records command ≡ true → IfSome (left input) (λ bytes. left input_now ≡ Some []))
+      → made ≡ told_by command found entries
+      → Saves (files mid) (files store_now) made.saved (Err save.Failed)
+      → (write_faults mid ≤ write_faults store_now) × Rose (write_faults mid) (write_faults store_now) → read_faults store_now ≡ read_faults mid
+      → Told_line WriteFault → Ran cause
+  lost_dump cause mid found entries made told read given ended is saves writes reads line =
+      subst Ran (sym told) (record {
+        wrong_words = tt;
+        only_wrong_words = λ wrong told. absurd (cc);
+        no_records = given.untouched;
+        files_decide = accepted_later WriteFault mid found tt read;
+        is_meant = if_some (files store) (λ told accepted. if_some (input_for command (left input)) (λ bytes entered.
+            ap is_ok (answer_told command told bytes found entries made accepted entered is)) given.gives) read.gives;
+        others_stay = stays mid found entries made (Err save.Failed) read.same is saves;
+        same_files = λ unwritten. absurd (unwritten tt);
+        fault_told = λ unwritten. absurd (unwritten tt);
+        all_read = λ _. ended;
+        read_failed = λ told. absurd (cc);
+        write_failed = λ _. inl (record {
+          to_file = subst (λ (output : Option (List ℕ)). is_some output ≡ true)
+              (ap (λ (told : Told). option_map name_in told.saved) is ∙ output_saved command found entries)
+              (failing_named (files mid) (files store_now) made.saved saves);
+          rose = subst (λ (n : ℕ). Rose n (write_faults store_now)) read.unwritten writes.1;
+          line = line;
+        });
+        read_counts = omega (arith, reads, read.counts);
+        input_counts = omega (arith, given.counts);
+        write_counts = omega (arith, writes.0, read.unwritten);
+        no_read_failed = λ _. (reads ∙ read.counts, given.counts);
+        no_write_failed = λ kept. absurd (kept refl);
+      })
+
+  -- no memory to write the dump
+  pub unsaved : (cause : Cause) (mid : S) (found : Policy) (entries : List Record) (made : Told) → cause ≡ OutOfMemory
+      → FilesRead files read_faults write_faults command store mid (Ok found)
+      → InputRead left input_faults command input input_now (Ok entries)
+      → made ≡ told_by command found entries
+      → Saves (files mid) (files store_now) made.saved (Err save.OutOfMemory)
+      → write_faults store_now ≡ write_faults mid → read_faults store_now ≡ read_faults mid
+      → Told_line OutOfMemory → Ran cause
+  unsaved cause mid found entries made told read given is saves writes reads line =
+      subst Ran (sym told) (gave_up (accepted_memory mid found read) given.untouched
+      (stays mid found entries made (Err save.OutOfMemory) read.same is saves)
+      (none_saved (files store) (files store_now) made.saved (subst (λ (old : Option Files). Saves old (files store_now) made.saved (Err save.OutOfMemory)) read.same saves))
+      line (omega (arith, reads, read.counts)) (omega (arith, given.counts)) (writes ∙ read.unwritten))
+
+-- ---- the words
+
+same_usage : (a b : Usage) → a.index ≡ b.index → a.why ≡ b.why → a ≡ b
+same_usage a b index why = ap (λ (i : ℕ). record { index = i; why = a.why }) index ∙ ap (λ (w : UsageWhy). record { index = b.index; why = w }) why
+
+module _ {S I O : Type 0} (files : S → Option Files) (read_faults write_faults : S → ℕ)
+    (left : I → Option (List ℕ)) (input_faults : I → ℕ) (written : O → Option (List ℕ)) (out_faults : O → ℕ)
+    (store : S) (input : I) (out out_now : O) where
+  abbrev Ended : Result Command Usage → Cause → Type 0
+  Ended asked = Run files read_faults write_faults left input_faults written out_faults asked store store input input out out_now
+
+  refused_words : (wrong : Usage) (cause : Cause) → (cause ≡ causes.Usage wrong.index wrong.why) ⊎ (cause ≡ OutOfMemory)
+      → (IsWritten cause → ⊥) → (cause ≡ ReadFault → ⊥)
+      → Explained {V = Told} (Err (causes.Usage wrong.index wrong.why)) cause
+      → ((other : Usage) → cause ≡ causes.Usage other.index other.why → wrong ≡ other)
+      → LineOrFront written out_faults out out_now (fault_line no_names cause) → Ended (Err wrong) cause
+  refused_words wrong cause told unwritten unread explained only line =
+      record {
+        wrong_words = record { told = told; no_file_read = refl; no_input_read = refl };
+        only_wrong_words = λ other is. ap Err (only other is);
+        no_records = tt;
+        files_decide = tt;
+        is_meant = all_some (files store) (λ told. ends_explained files written store out out_now told (Err (causes.Usage wrong.index wrong.why)) cause unwritten explained);
+        others_stay = refl;
+        same_files = λ _. all_told (files store);
+        fault_told = λ _. line;
+        all_read = λ written. absurd (unwritten written);
+        read_failed = λ is. absurd (unread is);
+        write_failed = λ is. absurd (unwritten (subst IsWritten (sym is) tt));
+        read_counts = omega arith;
+        input_counts = omega arith;
+        write_counts = omega arith;
+        no_read_failed = λ _. (refl, refl);
+        no_write_failed = λ _. refl;
+      }
+    where
+      all_told : (found : Option Files) → IfSome found (λ told. found ≡ Some told)
+      all_told None = tt
+      all_told (Some told) = refl
+
+  wrong_word : (wrong : Usage) → LineOrFront written out_faults out out_now (fault_line no_names (causes.Usage wrong.index wrong.why)) → Ended (Err wrong) (causes.Usage wrong.index wrong.why)
+  wrong_word wrong line =
+      refused_words wrong (causes.Usage wrong.index wrong.why) (inl refl) (λ written. written) (λ is. absurd (cc)) refl (λ other is. same_usage wrong other (cc) (cc)) line
+
+  no_memory : (asked : Result Command Usage) → LineOrFront written out_faults out out_now (fault_line no_names OutOfMemory) → Ended asked OutOfMemory
+  no_memory (Err wrong) line = refused_words wrong OutOfMemory (inr refl) (λ written. written) (λ is. absurd (cc)) tt (λ other is. absurd (cc)) line
+  no_memory (Ok command) line =
+      told_early files read_faults write_faults left input_faults written out_faults command store store input input out out_now OutOfMemory refl refl refl line
+
+  -- wrong words were told, or want of memory
+  pub told_words : (asked : Result Command Usage) (fault : Fault Usage) (told : Cause) → Explains (answers.cause_of fault) asked
+      → (told ≡ words_cause fault) ⊎ (told ≡ OutOfMemory)
+      → LineOrFront written out_faults out out_now (fault_line no_names told) → Ended asked told
+  told_words asked fault told explains (inr is) line =
+      subst (Ended asked) (sym is) (no_memory asked (subst (λ (cause : Cause). LineOrFront written out_faults out out_now (fault_line no_names cause)) is line))
+  told_words asked (faults.Why wrong) told explains (inl is) line =
+      subst (Ended asked) (sym is) (subst (λ (found : Result Command Usage). Ended found (causes.Usage wrong.index wrong.why)) (sym explains)
+      (wrong_word wrong (subst (λ (cause : Cause). LineOrFront written out_faults out out_now (fault_line no_names cause)) is line)))
+  told_words asked faults.OutOfMemory told explains (inl is) line =
+      subst (Ended asked) (sym is) (no_memory asked (subst (λ (cause : Cause). LineOrFront written out_faults out out_now (fault_line no_names cause)) is line))
+
+  -- the same of a cause that is handed on
+  pub ended_words : (asked : Result Command Usage) (fault : Fault Usage) (told cause : Cause) → cause ≡ told → Explains (answers.cause_of fault) asked
+      → (told ≡ words_cause fault) ⊎ (told ≡ OutOfMemory)
+      → LineOrFront written out_faults out out_now (fault_line no_names told) → Ended asked cause
+  ended_words asked fault told cause same explains is line = subst (Ended asked) (sym same) (told_words asked fault told explains is line)
+
+module _ {S I O : Type 0} (files : S → Option Files) (read_faults write_faults : S → ℕ)
+    (left : I → Option (List ℕ)) (input_faults : I → ℕ) (written : O → Option (List ℕ)) (out_faults : O → ℕ)
+    (asked : Result Command Usage) (store store_now : S) (input input_now : I) (out out_now : O) where
+  -- a command was run, and its cause handed on
+  pub ended_run : (command : Command) (told cause : Cause) → cause ≡ told → asked ≡ Ok command
+      → Run files read_faults write_faults left input_faults written out_faults (Ok command) store store_now input input_now out out_now told
+      → Run files read_faults write_faults left input_faults written out_faults asked store store_now input input_now out out_now cause
+  ended_run command told cause same is ran =
+      subst (λ (k : Cause). Run files read_faults write_faults left input_faults written out_faults asked store store_now input input_now out out_now k) (sym same)
+      (subst (λ (a : Result Command Usage). Run files read_faults write_faults left input_faults written out_faults a store store_now input input_now out out_now told) (sym is) ran)
 
 -- ---- completeness
 
--- the cause of an answer, and its text
-abbrev pub cause_of : Result Reported Cause → Cause
-cause_of (Ok reported) = end_cause reported.errors
-cause_of (Err cause) = cause
+-- the cause of an answer, its text, and the files that it leaves
+abbrev pub cause_in : Result Told Cause → Cause
+cause_in (Ok told) = cause_of told.end
+cause_in (Err cause) = cause
 
-abbrev pub text_of : FileNames → Result Reported Cause → List ℕ
-text_of names (Ok reported) = reported.report
-text_of names (Err cause) = fault_line names cause
+abbrev pub text_in : FileNames → Result Told Cause → List ℕ
+text_in names (Ok told) = told.report
+text_in names (Err cause) = fault_line names cause
 
--- the answer's cause came with the answer's text
-pub record Completes {O : Type 0} (written : O → Option (List ℕ)) (old new : O) (names : FileNames) (meant : Result Reported Cause) (cause : Cause) : Type 0 where
-  pub cause_is : cause ≡ cause_of meant
-  pub text_is : Appends (written old) (written new) (text_of names meant)
+abbrev pub files_in : Files → Result Told Cause → Files
+files_in files (Ok told) = files_with files told.saved
+files_in files (Err cause) = files
+
+-- the answer's cause came with the answer's text and its files
+pub record Completes {S O : Type 0} (files : S → Option Files) (written : O → Option (List ℕ)) (store_now : S) (out out_now : O)
+    (told : Files) (names : FileNames) (meant : Result Told Cause) (cause : Cause) : Type 0 where
+  pub cause_is : cause ≡ cause_in meant
+  pub text_is : Appends (written out) (written out_now) (text_in names meant)
+  pub files_are : files store_now ≡ Some (files_in told meant)
 
 whole_line : {O : Type 0} (written : O → Option (List ℕ)) (faults : O → ℕ) (old new : O) (line : List ℕ) → (Rose (faults old) (faults new) → ⊥)
     → LineOrFront written faults old new line → Appends (written old) (written new) line
 whole_line written faults old new line calm (inl whole) = whole
 whole_line written faults old new line calm (inr front) = absurd (calm front.1)
 
-refused : {O : Type 0} (written : O → Option (List ℕ)) (old new : O) (names : FileNames) (meant : Result Reported Cause) (cause : Cause)
-    → meant ≡ Err cause → Appends (written old) (written new) (fault_line names cause) → Completes written old new names meant cause
-refused written old new names meant cause is line =
-    record { cause_is = sym (ap cause_of is); text_is = subst (λ (text : List ℕ). Appends (written old) (written new) text) (sym (ap (text_of names) is)) line }
+module _ {S O : Type 0} (files : S → Option Files) (written : O → Option (List ℕ)) (store_now : S) (out out_now : O)
+    (told : Files) (names : FileNames) (meant : Result Told Cause) where
+  whole_report : (cause : Cause) → Reports files written store_now out out_now told meant cause → Completes files written store_now out out_now told names meant cause
+  whole_report cause reports = record {
+    cause_is = reports.cause_is ∙ sym (ap cause_in reports.is_meant);
+    text_is = subst (λ (text : List ℕ). Appends (written out) (written out_now) text) (sym (ap (text_in names) reports.is_meant)) reports.whole;
+    files_are = reports.saved ∙ sym (ap (λ meant. Some (files_in told meant)) reports.is_meant);
+  }
 
-whole_report : {O : Type 0} (written : O → Option (List ℕ)) (old new : O) (names : FileNames) (meant : Result Reported Cause) (cause : Cause)
-    → Reports written old new meant cause → Completes written old new names meant cause
-whole_report written old new names meant cause ends = record {
-  cause_is = ends.cause_is ∙ sym (ap cause_of ends.is_meant);
-  text_is = subst (λ (text : List ℕ). Appends (written old) (written new) text) (sym (ap (text_of names) ends.is_meant)) ends.whole;
-}
+  refused : (cause : Cause) → meant ≡ Err cause → Appends (written out) (written out_now) (fault_line names cause) → files store_now ≡ Some told
+      → Completes files written store_now out out_now told names meant cause
+  refused cause is line same = record {
+    cause_is = sym (ap cause_in is);
+    text_is = subst (λ (text : List ℕ). Appends (written out) (written out_now) text) (sym (ap (text_in names) is)) line;
+    files_are = same ∙ sym (ap (λ meant. Some (files_in told meant)) is);
+  }
 
-completes : {O : Type 0} (written : O → Option (List ℕ)) (faults : O → ℕ) (old new : O) (names : FileNames) (meant : Result Reported Cause) (cause : Cause)
-    → (Rose (faults old) (faults new) → ⊥) → Ends written old new meant cause → TellsFault written faults old new names cause
-    → (cause ≡ ReadFault → ⊥) → (cause ≡ WriteFault → ⊥) → Completes written old new names meant cause ⊎ (cause ≡ OutOfMemory)
-completes written faults old new names meant Done calm ends told no_read no_write = inl (whole_report written old new names meant Done ends)
-completes written faults old new names meant (WalkErrors count) calm ends told no_read no_write =
-    inl (whole_report written old new names meant (WalkErrors count) ends)
-completes written faults old new names meant WriteFault calm ends told no_read no_write = absurd (no_write refl)
-completes written faults old new names meant ReadFault calm ends told no_read no_write = absurd (no_read refl)
-completes written faults old new names meant OutOfMemory calm ends told no_read no_write = inr refl
-completes written faults old new names meant cause calm ends told no_read no_write =
-    inl (refused written old new names meant _ ends (whole_line written faults old new _ calm told))
-
--- ---- runs
-
--- the first part of a run left the sink alone, and this is what it says of the words
-pub record WordsRead {S : Type 0} (words : List (List ℕ)) (store store_now : S) (result : Result Rules Cause) : Type 0 where
-  pub wrong : IfSome (usage words) (λ wrong. (result ≡ Err (Usage wrong.0 wrong.1)) × (store_now ≡ store))
-  pub only_wrong : IfErr result (λ cause. (index : ℕ) (why : UsageWhy) → cause ≡ Usage index why → usage words ≡ Some (index, why))
+  completes : (cause : Cause) → Ends files written store_now out out_now told meant cause
+      → ((IsWritten cause → ⊥) → Appends (written out) (written out_now) (fault_line names cause))
+      → ((IsWritten cause → ⊥) → files store_now ≡ Some told)
+      → (cause ≡ ReadFault → ⊥) → (cause ≡ WriteFault → ⊥)
+      → Completes files written store_now out out_now told names meant cause ⊎ (cause ≡ OutOfMemory)
+  completes Done ends line same no_read no_write = inl (whole_report Done ends)
+  completes (WalkErrors count) ends line same no_read no_write = inl (whole_report (WalkErrors count) ends)
+  completes (Differs count) ends line same no_read no_write = inl (whole_report (Differs count) ends)
+  completes WriteFault ends line same no_read no_write = absurd (no_write refl)
+  completes ReadFault ends line same no_read no_write = absurd (no_read refl)
+  completes OutOfMemory ends line same no_read no_write = inr refl
+  completes cause ends line same no_read no_write = inl (refused cause ends (line (λ written. written)) (same (λ written. written)))
 
 module _ {S I O : Type 0} (files : S → Option Files) (read_faults write_faults : S → ℕ)
     (left : I → Option (List ℕ)) (input_faults : I → ℕ) (written : O → Option (List ℕ)) (out_faults : O → ℕ)
-    (words : List (List ℕ)) (store store_now : S) (input input_now : I) (out out_now : O) where
-  abbrev Ran : Cause → Type 0
-  Ran = Run files read_faults write_faults left input_faults written out_faults words store store_now input input_now out out_now
-
-  -- want of memory
-  pub gave_up : files store_now ≡ files store → write_faults store_now ≡ write_faults store
-      → IfSome (usage words) (λ _. (store_now ≡ store) × (input_now ≡ input))
-      → IfSome (files store) (λ told. PolicyDecides (policy words told) OutOfMemory (input_now ≡ input))
-      → LineOrFront written out_faults out out_now (fault_line (names_in words) OutOfMemory)
-      → read_faults store ≤ read_faults store_now → input_faults input ≤ input_faults input_now → Ran OutOfMemory
-  gave_up same none wrong decides line later input_later =
-      record {
-        same_files = same;
-        none_written = none;
-        wrong_words = if_some (usage words) (λ _ still. record { told = inr refl; no_file_read = still.0; no_input_read = still.1 }) wrong;
-        only_wrong_words = λ index why is. absurd (cc);
-        files_decide = decides;
-        is_meant = all_some (files store) (λ told. all_some (left input) (λ bytes. tt));
-        fault_told = line;
-        all_read = λ reported. absurd reported;
-        read_failed = λ is. absurd (cc);
-        write_failed = λ is. absurd (cc);
-        counts = (later, input_later);
-      }
-
-  -- a refusal of the words or of a file
-  refused_policy : (cause : Cause) → (input_now ≡ input) → files store_now ≡ files store → write_faults store_now ≡ write_faults store
-      → WordsRead words store store_now (Err cause)
-      → IfSome (files store) (λ told. Explained (policy words told) cause) → IsPolicyCause cause
-      → CauseCounts (read_faults store) (read_faults store_now) cause
-      → LineOrFront written out_faults out out_now (fault_line (names_in words) cause) → Ran cause
-  refused_policy cause still same none read explains kind counts line =
-      record {
-        same_files = same;
-        none_written = none;
-        wrong_words = if_some (usage words) (λ wrong both. record { told = inl (cc); no_file_read = both.1; no_input_read = still }) read.wrong;
-        only_wrong_words = read.only_wrong;
-        files_decide = if_some (files store) (λ told explained. decides_refusal (policy words told) cause (input_now ≡ input) explained kind still) explains;
-        is_meant = if_some (files store) (λ told explained. all_some (left input) (λ bytes. policy_ends written out out_now words told bytes cause kind explained)) explains;
-        fault_told = tells_line written out_faults out out_now (names_in words) cause line;
-        all_read = λ reported. absurd (not_of_policy cause kind reported);
-        read_failed = λ is. inl ((subst (CauseCounts (read_faults store) (read_faults store_now)) is counts).1, still);
-        write_failed = λ is. absurd (subst IsPolicyCause is kind);
-        counts = subst (λ now. ReadCounts (read_faults store) (read_faults store_now) (input_faults input) now cause) (sym (ap input_faults still)) (counts_of_store (read_faults store) (read_faults store_now) (input_faults input) cause counts);
-      }
-
-  -- a refusal of the input
-  refused_input : (cause : Cause) (rules : Rules) → files store_now ≡ files store → write_faults store_now ≡ write_faults store
-      → WordsRead words store store_now (Ok rules)
-      → IfSome (files store) (λ told. policy words told ≡ Ok rules) → read_faults store_now ≡ read_faults store
-      → IfSome (left input) (λ bytes. Explained (entries_of bytes) cause) → IsInputCause cause
-      → CauseCounts (input_faults input) (input_faults input_now) cause
-      → LineOrFront written out_faults out out_now (fault_line (names_in words) cause) → Ran cause
-  refused_input cause rules same none read accepted no_file_failed explains kind counts line =
-      record {
-        same_files = same;
-        none_written = none;
-        wrong_words = if_some (usage words) (λ wrong is. absurd (cc)) read.wrong;
-        only_wrong_words = λ index why is. absurd (subst IsInputCause is kind);
-        files_decide = if_some (files store) (λ told is. decides_later (policy words told) rules cause (input_now ≡ input) is (is_later cause kind)) accepted;
-        is_meant = if_some (files store) (λ told is. if_some (left input) (λ bytes explained. input_ends written out out_now words told bytes rules cause kind is explained) explains) accepted;
-        fault_told = tells_line written out_faults out out_now (names_in words) cause line;
-        all_read = λ reported. absurd (not_of_input cause kind reported);
-        read_failed = λ is. inr (record {
-          rose = (subst (CauseCounts (input_faults input) (input_faults input_now)) is counts).1;
-          no_file_failed = no_file_failed;
-          accepted = if_some (files store) (λ told is. ap is_ok is) accepted;
-        });
-        write_failed = λ is. absurd (subst IsInputCause is kind);
-        counts = counts_of_input (read_faults store) (read_faults store_now) (input_faults input) (input_faults input_now) cause no_file_failed counts;
-      }
-
-  -- the report was written
-  wrote_report : (cause : Cause) (rules : Rules) (entries : List Record) (reported : Reported) → IsReported cause
-      → files store_now ≡ files store → write_faults store_now ≡ write_faults store
-      → WordsRead words store store_now (Ok rules)
-      → IfSome (files store) (λ told. policy words told ≡ Ok rules) → read_faults store_now ≡ read_faults store
-      → IfSome (left input) (λ bytes. entries_of bytes ≡ Ok entries) → input_faults input_now ≡ input_faults input
-      → IfSome (left input) (λ bytes. left input_now ≡ Some [])
-      → reported ≡ reported_by rules entries
-      → (cause ≡ end_cause reported.errors) → Appends (written out) (written out_now) reported.report
-      → Ran cause
-  wrote_report cause rules entries reported kind same none read accepted no_file_failed entered no_input_failed ended made is whole =
-      record {
-        same_files = same;
-        none_written = none;
-        wrong_words = if_some (usage words) (λ wrong is. absurd (cc)) read.wrong;
-        only_wrong_words = λ index why is. absurd (subst IsReported is kind);
-        files_decide = if_some (files store) (λ told is. decides_later (policy words told) rules cause (input_now ≡ input) is (reported_later cause kind)) accepted;
-        is_meant = if_some (files store) (λ told accepted. if_some (left input) (λ bytes entered. ends_reported written out out_now (answer words told bytes) cause kind
-            (record { reported = reported; is_meant = answer_report words told bytes rules entries reported accepted entered made; cause_is = is; whole = whole })) entered) accepted;
-        fault_told = tells_nothing written out_faults out out_now (names_in words) cause kind;
-        all_read = λ _. ended;
-        read_failed = λ is. absurd (subst IsReported is kind);
-        write_failed = λ is. absurd (subst IsReported is kind);
-        counts = reported_counts (read_faults store) (read_faults store_now) (input_faults input) (input_faults input_now) cause kind no_file_failed no_input_failed;
-      }
-
-  -- a front of the report was written
-  lost_report : (rules : Rules) (entries : List Record) (reported : Reported)
-      → files store_now ≡ files store → write_faults store_now ≡ write_faults store
-      → WordsRead words store store_now (Ok rules)
-      → IfSome (files store) (λ told. policy words told ≡ Ok rules) → read_faults store_now ≡ read_faults store
-      → IfSome (left input) (λ bytes. entries_of bytes ≡ Ok entries) → input_faults input_now ≡ input_faults input
-      → reported ≡ reported_by rules entries
-      → AppendsFront (written out) (written out_now) reported.report → Rose (out_faults out) (out_faults out_now)
-      → Ran WriteFault
-  lost_report rules entries reported same none read accepted no_file_failed entered no_input_failed made front rose =
-      record {
-        same_files = same;
-        none_written = none;
-        wrong_words = if_some (usage words) (λ wrong is. absurd (cc)) read.wrong;
-        only_wrong_words = λ index why is. absurd (cc);
-        files_decide = if_some (files store) (λ told is. decides_later (policy words told) rules WriteFault (input_now ≡ input) is tt) accepted;
-        is_meant = if_some (files store) (λ told is. if_some (left input) (λ bytes entered. (reported, answer_report words told bytes rules entries reported is entered made, front)) entered) accepted;
-        fault_told = tt;
-        all_read = λ reported. absurd reported;
-        read_failed = λ is. absurd (cc);
-        write_failed = λ _. rose;
-        counts = (no_file_failed, no_input_failed);
-      }
-
-  -- the report, written whole or not
-  pub finished : (cause : Cause) (rules : Rules) (entries : List Record) (reported : Reported)
-      → files store_now ≡ files store → write_faults store_now ≡ write_faults store
-      → WordsRead words store store_now (Ok rules)
-      → IfSome (files store) (λ told. policy words told ≡ Ok rules) → read_faults store_now ≡ read_faults store
-      → IfSome (left input) (λ bytes. entries_of bytes ≡ Ok entries) → input_faults input_now ≡ input_faults input
-      → IfSome (left input) (λ bytes. left input_now ≡ Some [])
-      → reported ≡ reported_by rules entries
-      → WritesReport written out_faults out out_now reported cause
-      → Ran cause
-  finished cause rules entries reported same none read accepted no_file_failed entered no_input_failed ended made (inl done) =
-      wrote_report cause rules entries reported (subst IsReported (sym done.0) (is_reported reported.errors)) same none read accepted no_file_failed entered no_input_failed ended made done.0 done.1
-  finished cause rules entries reported same none read accepted no_file_failed entered no_input_failed ended made (inr failed) =
-      subst Ran (sym failed.0) (lost_report rules entries reported same none read accepted no_file_failed entered no_input_failed made failed.1 failed.2)
-
-  line_for : (names : FileNames) (a b : Cause) → names ≡ names_in words → a ≡ b → LineOrFront written out_faults out out_now (fault_line names a)
-      → LineOrFront written out_faults out out_now (fault_line (names_in words) b)
-  line_for names a b named same line =
-      subst (λ (k : Cause). LineOrFront written out_faults out out_now (fault_line (names_in words) k)) same (subst (λ (n : FileNames). LineOrFront written out_faults out out_now (fault_line n a)) named line)
-
-  store_later : (before now : ℕ) (cause : Cause) → CauseCounts before now cause → before ≤ now
-  store_later before now ReadFault counts = counts.0
-  store_later before now cause counts = omega (arith, counts)
-
-  -- a refusal of the words or of a file was told, or want of memory in its place
-  pub told_policy : (cause told : Cause) (names : FileNames) → (told ≡ cause) ⊎ (told ≡ OutOfMemory) → names ≡ names_in words
-      → input_now ≡ input → files store_now ≡ files store → write_faults store_now ≡ write_faults store
-      → WordsRead words store store_now (Err cause)
-      → IfSome (files store) (λ told. Explained (policy words told) cause) → IsPolicyCause cause
-      → CauseCounts (read_faults store) (read_faults store_now) cause
-      → LineOrFront written out_faults out out_now (fault_line names told) → Ran told
-  told_policy cause told names (inl is) named still same none read explains kind counts line =
-      subst Ran (sym is) (refused_policy cause still same none read explains kind counts (line_for names told cause named is line))
-  told_policy cause told names (inr is) named still same none read explains kind counts line =
-      subst Ran (sym is) (gave_up same none
-      (if_some (usage words) (λ wrong both. (both.1, still)) read.wrong)
-      (if_some (files store) (λ told explained. decides_memory (policy words told) (input_now ≡ input) still) explains)
-      (line_for names told OutOfMemory named is line)
-      (store_later _ _ cause counts) (omega (arith, ap input_faults still)))
-
-  -- a refusal of the input was told, or want of memory in its place
-  pub told_input : (cause told : Cause) (names : FileNames) (rules : Rules) → (told ≡ cause) ⊎ (told ≡ OutOfMemory) → names ≡ names_in words
-      → files store_now ≡ files store → write_faults store_now ≡ write_faults store
-      → WordsRead words store store_now (Ok rules)
-      → IfSome (files store) (λ told. policy words told ≡ Ok rules) → read_faults store_now ≡ read_faults store
-      → IfSome (left input) (λ bytes. Explained (entries_of bytes) cause) → IsInputCause cause
-      → CauseCounts (input_faults input) (input_faults input_now) cause
-      → LineOrFront written out_faults out out_now (fault_line names told) → Ran told
-  told_input cause told names rules (inl is) named same none read accepted no_file_failed explains kind counts line =
-      subst Ran (sym is) (refused_input cause rules same none read accepted no_file_failed explains kind counts (line_for names told cause named is line))
-  told_input cause told names rules (inr is) named same none read accepted no_file_failed explains kind counts line =
-      subst Ran (sym is) (gave_up same none
-      (if_some (usage words) (λ wrong is. absurd (cc)) read.wrong)
-      (if_some (files store) (λ told accepted. decides_later (policy words told) rules OutOfMemory (input_now ≡ input) accepted tt) accepted)
-      (line_for names told OutOfMemory named is line)
-      (omega (arith, no_file_failed)) (store_later _ _ cause counts))
-
-  -- no memory for the report
-  pub told_late : (told : Cause) (rules : Rules) → told ≡ OutOfMemory
-      → files store_now ≡ files store → write_faults store_now ≡ write_faults store
-      → WordsRead words store store_now (Ok rules)
-      → IfSome (files store) (λ told. policy words told ≡ Ok rules) → read_faults store_now ≡ read_faults store
-      → input_faults input_now ≡ input_faults input
-      → LineOrFront written out_faults out out_now (fault_line (names_in words) OutOfMemory) → Ran told
-  told_late told rules is same none read accepted no_file_failed no_input_failed line =
-      subst Ran (sym is) (gave_up same none
-      (if_some (usage words) (λ wrong is. absurd (cc)) read.wrong)
-      (if_some (files store) (λ told accepted. decides_later (policy words told) rules OutOfMemory (input_now ≡ input) accepted tt) accepted)
-      line (omega (arith, no_file_failed)) (omega (arith, no_input_failed)))
-
-  -- no memory for the names of the files
-  pub told_early : (told : Cause) → told ≡ OutOfMemory → store_now ≡ store → input_now ≡ input
-      → LineOrFront written out_faults out out_now (fault_line (names_in words) OutOfMemory) → Ran told
-  told_early told is still unread line =
-      subst Ran (sym is) (gave_up (ap files still) (ap write_faults still)
-      (all_some (usage words) (λ _. (still, unread)))
-      (all_some (files store) (λ told. decides_memory (policy words told) (input_now ≡ input) unread))
-      line (omega (arith, ap read_faults still)) (omega (arith, ap input_faults unread)))
-
-  -- no count rose: the cause and the text are the answer's, or memory was wanting
-  pub complete : (cause : Cause) (told : Files) (bytes : List ℕ) → Ran cause → files store ≡ Some told → left input ≡ Some bytes
-      → (Rose (read_faults store) (read_faults store_now) → ⊥) → (Rose (input_faults input) (input_faults input_now) → ⊥) → (Rose (out_faults out) (out_faults out_now) → ⊥)
-      → Completes written out out_now (names_in words) (answer words told bytes) cause ⊎ (cause ≡ OutOfMemory)
-  complete cause told bytes ran tells_files tells_input no_file no_input no_write =
-      completes written out_faults out out_now (names_in words) (answer words told bytes) cause no_write ends ran.fault_told no_read (λ is. no_write (ran.write_failed is))
+    (asked : Result Command Usage) (store store_now : S) (input input_now : I) (out out_now : O) where
+  -- no count rose: the cause, the text and the files are the answer's, or memory was wanting
+  pub complete : (cause : Cause) (told : Files) (bytes : List ℕ)
+      → Run files read_faults write_faults left input_faults written out_faults asked store store_now input input_now out out_now cause
+      → files store ≡ Some told → input_in asked (left input) ≡ Some bytes
+      → (Rose (read_faults store) (read_faults store_now) → ⊥) → (Rose (write_faults store) (write_faults store_now) → ⊥)
+      → (Rose (input_faults input) (input_faults input_now) → ⊥) → (Rose (out_faults out) (out_faults out_now) → ⊥)
+      → Completes files written store_now out out_now told (names_in asked) (answer asked told bytes) cause ⊎ (cause ≡ OutOfMemory)
+  complete cause told bytes ran tells_files tells_input no_read no_save no_input no_write =
+      completes files written store_now out out_now told (names_in asked) (answer asked told bytes) cause ends
+      (λ unwritten. whole_line written out_faults out out_now _ no_write (ran.fault_told unwritten))
+      (λ unwritten. subst (λ (found : Option Files). IfSome found (λ told. files store_now ≡ Some told)) tells_files (ran.same_files unwritten))
+      (λ is. unread (ran.read_failed is)) (λ is. written_all (ran.write_failed is))
     where
-      ends : Ends written out out_now (answer words told bytes) cause
-      ends = subst (λ (found : Option (List ℕ)). IfSome found (λ bytes. Ends written out out_now (answer words told bytes) cause)) tells_input
-          (subst (λ (found : Option Files). IfSome found (λ told. IfSome (left input) (λ bytes. Ends written out out_now (answer words told bytes) cause))) tells_files ran.is_meant)
+      ends : Ends files written store_now out out_now told (answer asked told bytes) cause
+      ends = subst (λ (found : Option (List ℕ)). IfSome found (λ bytes. Ends files written store_now out out_now told (answer asked told bytes) cause)) tells_input
+          (subst (λ (found : Option Files). IfSome found (λ told. IfSome (input_in asked (left input)) (λ bytes. Ends files written store_now out out_now told (answer asked told bytes) cause))) tells_files ran.is_meant)
 
-      failed : FileFailed (read_faults store) (read_faults store_now) (input_now ≡ input)
-          ⊎ InputFailed words (files store) (read_faults store) (read_faults store_now) (input_faults input) (input_faults input_now) → ⊥
-      failed (inl file) = no_file file.0
-      failed (inr input) = no_input input.rose
+      unread : FileFailed (read_faults store) (read_faults store_now) (input_now ≡ input)
+          ⊎ InputFailed asked (files store) (read_faults store) (read_faults store_now) (input_faults input) (input_faults input_now) → ⊥
+      unread (inl file) = no_read file.0
+      unread (inr given) = no_input given.rose
 
-      no_read : cause ≡ ReadFault → ⊥
-      no_read is = failed (ran.read_failed is)
+      written_all : LosesDump written out_faults (write_faults store) (write_faults store_now) out out_now asked
+          ⊎ LosesReport files written out_faults (write_faults store) (write_faults store_now) store store_now out out_now asked (input_in asked (left input)) → ⊥
+      written_all (inl dump) = no_save dump.rose
+      written_all (inr report) = no_write report.rose

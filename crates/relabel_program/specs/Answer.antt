@@ -1,62 +1,101 @@
--- What the whole run is to answer, as a function of the words, the files and the input.
-use Rattle.std.specs.Prelude.{ℕ, true, false, List, [], ◌∷◌, Option, Some, None, Result, Ok, Err}
+-- What the whole run is to answer, as a function of what the words ask for, the files and the input.
+use Rattle.std.specs.Prelude.{ℕ, ◌==◌, List, [], Option, Some, None, Result, Ok, Err, if◌then◌else◌}
 use Rattle.label_base.specs.Store.{Files}
 use Rattle.find_records.specs.Record.{Record}
-use Rattle.tree_model.specs.declared.selection.Choice.{Choice}
+use Rattle.setfattr_dump.specs.Texts.{dump_text}
 use Rattle.report_text.specs.Texts.{report_of}
+use Rattle.relabel_core.specs.Changes.{changes}
+use Rattle.relabel_core.specs.Found.{found_messages}
+use Rattle.relabel_core.specs.Stored.{digests_by}
+use Rattle.relabel_core.specs.Verified.{count_unverified, verified_messages}
 use Rattle.relabel_core.specs.Walk.{Walk, errors, messages}
 use Rattle.relabel_core.specs.Walked.{walk_for}
-use Rattle.relabel_core.specs.declared.options.Options.{Options}
-use Rattle.relabel_core.specs.declared.rules.Rules.{Rules}
+use Rattle.tool_words.specs.declared.command.Command.{Command}
+use Rattle.tool_words.specs.declared.command.Command.TheVariants.{Relabel, Lookup}
+use Rattle.tool_words.specs.declared.command.LookupWords.{LookupWords}
+use Rattle.tool_words.specs.declared.command.RelabelWords.{RelabelWords}
+use Rattle.tool_words.specs.declared.usage.Usage.{Usage}
 use Rattle.relabel_program.specs.Causes.{and_then}
-use Rattle.relabel_program.specs.Files.{rules_of}
-use Rattle.relabel_program.specs.Input.{entries_of}
-use Rattle.relabel_program.specs.Names.{names_beside}
-use Rattle.relabel_program.specs.Words.{base_of, usage}
+use Rattle.relabel_program.specs.Files.{policy}
+use Rattle.relabel_program.specs.Input.{entries_for}
 use Rattle.relabel_program.specs.declared.cause.Cause.{Cause}
-use Rattle.relabel_program.specs.declared.cause.Cause.TheVariants.{Usage}
-use Rattle.relabel_program.specs.declared.cause.UsageWhy.{UsageWhy}
-use Rattle.relabel_program.specs.declared.names.FileNames.{FileNames}
-use Rattle.relabel_program.specs.declared.reported.Reported.{Reported}
+use Rattle.relabel_program.specs.declared.cause.Cause.TheVariants as causes
+use Rattle.relabel_program.specs.declared.policy.Policy.{Policy}
+use Rattle.relabel_program.specs.declared.told.End.{End}
+use Rattle.relabel_program.specs.declared.told.End.TheVariants.{Done, WalkErrors, Differs}
+use Rattle.relabel_program.specs.declared.told.Saved.{Saved}
+use Rattle.relabel_program.specs.declared.told.Told.{Told}
 
--- the names of the files that the words ask for
-abbrev pub names_in : List (List ℕ) → FileNames
-names_in words = names_beside (base_of words)
+-- the cause of a run that ends so
+abbrev pub cause_of : End → Cause
+cause_of Done = causes.Done
+cause_of (WalkErrors count) = causes.WalkErrors count
+cause_of (Differs count) = causes.Differs count
 
-abbrev pub rules_after : List (List ℕ) → Files → Option (ℕ × UsageWhy) → Result Rules Cause
-rules_after words files None = rules_of (names_in words) files
-rules_after words files (Some wrong) = Err (Usage wrong.0 wrong.1)
+-- ---- setfiles and restorecon
 
--- the rules of the words and the files, or the first refusal of either
-unfoldable pub policy : List (List ℕ) → Files → Result Rules Cause
-policy words files = rules_after words files (usage words)
+abbrev pub walk_end : ℕ → End
+walk_end errors = if errors == 0 then Done else WalkErrors errors
 
--- all from the path / on
-abbrev pub whole_tree : Choice
-whole_tree = record { operands = [] ∷ []; excluded = []; recurse = true; one_device = false }
+-- a text goes to the file of this name, where there is a name
+abbrev pub saved_as : Option (List ℕ) → List ℕ → Option Saved
+saved_as None text = None
+saved_as (Some name) text = Some (record { name = name; text = text })
 
--- what -n, -v and -F ask for
-abbrev pub asked_options : Options
-asked_options = record {
-  force = true;
-  dry = true;
-  verbose = true;
-  warn_unmatched = false;
-  strict_links = false;
-  ignore_absent = false;
+-- the lines of a walk, how it ends, and its dump, which goes to the file of -o
+abbrev pub told_of : Option (List ℕ) → Walk → Told
+told_of output walk = record {
+  report = report_of (messages walk);
+  end = walk_end (errors walk);
+  saved = saved_as output (dump_text (changes walk));
 }
 
--- the lines of a walk, and how many errors it met
-abbrev pub told_of : Walk → Reported
-told_of walk = record { report = report_of (messages walk); errors = errors walk }
+unfoldable pub told_by_walk : RelabelWords → Policy → List Record → Told
+told_by_walk words policy entries =
+    told_of words.output (walk_for entries words.choice policy.rules words.options
+    (digests_by policy.kept.sections entries))
 
--- what the walk over the entries of a tree tells
-unfoldable pub reported_by : Rules → List Record → Reported
-reported_by rules entries = told_of (walk_for entries whole_tree rules asked_options)
+-- ---- matchpathcon
 
--- what the walk tells, or the first refusal: the words, then the files, then the input
-unfoldable pub answer : List (List ℕ) → Files → List ℕ → Result Reported Cause
-answer words files input =
-    and_then (policy words files) (λ rules.
-    and_then (entries_of input) (λ entries.
-    Ok (reported_by rules entries)))
+abbrev pub lookup_end : ℕ → End
+lookup_end count = if count == 0 then Done else Differs count
+
+-- a line for each path, which tells what decides it
+abbrev pub told_by_looking_up : LookupWords → Policy → Told
+told_by_looking_up words policy = record {
+  report = report_of (found_messages policy.rules words.asked words.bare words.paths);
+  end = Done;
+  saved = None;
+}
+
+-- a line for each path, which tells whether its entry has the label that it should have
+abbrev pub told_by_verifying : LookupWords → Policy → List Record → Told
+told_by_verifying words policy entries = record {
+  report = report_of (verified_messages policy.rules entries words.asked words.paths);
+  end = lookup_end
+      (count_unverified (verified_messages policy.rules entries words.asked words.paths));
+  saved = None;
+}
+
+unfoldable pub told_by_lookup : LookupWords → Policy → List Record → Told
+told_by_lookup words policy entries =
+    if words.verify then told_by_verifying words policy entries
+    else told_by_looking_up words policy
+
+-- ---- the answer
+
+abbrev pub told_by : Command → Policy → List Record → Told
+told_by (Relabel words) policy entries = told_by_walk words policy entries
+told_by (Lookup words) policy entries = told_by_lookup words policy entries
+
+-- what a command tells, or the first refusal: the files, then the input
+unfoldable pub answer_for : Command → Files → List ℕ → Result Told Cause
+answer_for command files input =
+    and_then (policy command files) (λ policy.
+    and_then (entries_for command input) (λ entries.
+    Ok (told_by command policy entries)))
+
+-- the same, where the words may be wrong
+abbrev pub answer : Result Command Usage → Files → List ℕ → Result Told Cause
+answer (Err wrong) files input = Err (causes.Usage wrong.index wrong.why)
+answer (Ok command) files input = answer_for command files input

@@ -1,8 +1,11 @@
 -- What a part of a run may answer in place of a value. A cause that no row names is refused.
-use Rattle.std.specs.Prelude.{◌≡◌, ℕ, ◌≤◌, ◌==◌, Result, Ok, Err, if◌then◌else◌}
+use Rattle.std.specs.Prelude.{◌≡◌, ℕ, ◌≤◌, Result, Ok, Err}
 use Rattle.label_base.specs.Source.{Rose}
+use Rattle.label_base.specs.declared.fault.Fault.{Fault}
+use Rattle.label_base.specs.declared.fault.Fault.TheVariants as faults
+use Rattle.tool_words.specs.declared.usage.Usage as wrong_word
 use Rattle.relabel_program.specs.declared.cause.Cause.{Cause}
-use Rattle.relabel_program.specs.declared.cause.Cause.TheVariants.{Done, Usage, Missing, SpecRefused, SubRefused, CustomRefused, RecordRefused, Unended, Doubled, Limit, WalkErrors, ReadFault, OutOfMemory}
+use Rattle.relabel_program.specs.declared.cause.Cause.TheVariants.{Done, Usage, Missing, SpecRefused, SubRefused, CustomRefused, DumpRefused, RecordRefused, Unended, Doubled, Limit, WalkErrors, Differs, ReadFault, WriteFault, OutOfMemory}
 use Rattle.relabel_program.specs.declared.cause.LimitKind.{LimitKind}
 use Rattle.relabel_program.specs.declared.cause.LimitKind.TheVariants.{File, Specs, Records, RecordBytes}
 
@@ -11,15 +14,22 @@ abbrev pub and_then : {A B : Type 0} → Result A Cause → (A → Result B Caus
 and_then (Ok a) next = next a
 and_then (Err cause) next = Err cause
 
--- how a run ends that wrote its report, which tells so many errors
-abbrev pub end_cause : ℕ → Cause
-end_cause errors = if errors == 0 then Done else WalkErrors errors
+-- how a run ends whose words are wrong, or found no memory
+abbrev pub words_cause : Fault wrong_word.Usage → Cause
+words_cause (faults.Why wrong) = Usage wrong.index wrong.why
+words_cause faults.OutOfMemory = OutOfMemory
 
 -- the causes of a run that wrote its report
 abbrev pub IsReported : Cause → Type 0
 IsReported Done = Unit {0}
 IsReported (WalkErrors count) = Unit {0}
+IsReported (Differs count) = Unit {0}
 IsReported cause = ⊥
+
+-- the causes of a run that came to writing the dump or the report, and found memory for it
+abbrev pub IsWritten : Cause → Type 0
+IsWritten WriteFault = Unit {0}
+IsWritten cause = IsReported cause
 
 -- the causes of a failed read and of want of memory, which say nothing of the bytes
 abbrev pub IsReadingCause : Cause → Type 0
@@ -45,13 +55,9 @@ IsFileCause (Missing name) = Unit {0}
 IsFileCause (SpecRefused part line why) = Unit {0}
 IsFileCause (SubRefused part line) = Unit {0}
 IsFileCause (CustomRefused line) = Unit {0}
+IsFileCause (DumpRefused line why) = Unit {0}
 IsFileCause (Limit which) = IsFileLimit which
 IsFileCause cause = IsReadingCause cause
-
--- the causes that the words and a look at the files can have
-abbrev pub IsPolicyCause : Cause → Type 0
-IsPolicyCause (Usage index why) = Unit {0}
-IsPolicyCause cause = IsFileCause cause
 
 -- the causes that reading the input can have
 abbrev pub IsInputCause : Cause → Type 0

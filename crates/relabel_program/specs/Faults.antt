@@ -1,36 +1,48 @@
 -- The exit status of a cause, and the line that tells a refusal.
-use Rattle.std.specs.Prelude.{ℕ, List, [], ◌++◌}
+use Rattle.std.specs.Prelude.{ℕ, Bool, List, [], ◌++◌, if◌then◌else◌}
 use Rattle.std.specs.Fmt.{decimal}
 use Rattle.label_base.specs.Escape.{escaped}
 use Rattle.label_base.specs.declared.path_fault.PathWhy.{PathWhy}
 use Rattle.label_base.specs.declared.path_fault.PathWhy.TheVariants.{Empty, PathTooLong, HasNul, NotAbsolute, DotPart}
 use Rattle.find_records.specs.declared.fault.RecordWhy.{RecordWhy}
 use Rattle.find_records.specs.declared.fault.RecordWhy.TheVariants as records
-use Rattle.label_base.specs.declared.kind.Part.TheVariants.{Customizable}
+use Rattle.label_base.specs.declared.kind.Part.TheVariants.{Customizable, Kept}
 use Rattle.pattern_syntax.specs.declared.pattern_fault.PatternWhy.{PatternWhy}
 use Rattle.pattern_syntax.specs.declared.pattern_fault.PatternWhy.TheVariants as pattern
 use Rattle.spec_reader.specs.declared.spec_fault.SpecWhy.{SpecWhy}
 use Rattle.spec_reader.specs.declared.spec_fault.SpecWhy.TheVariants.{MissingContext, BadKind, BadContext, BadPattern}
+use Rattle.setfattr_dump.specs.declared.fault.DumpWhy.{DumpWhy}
+use Rattle.setfattr_dump.specs.declared.fault.DumpWhy.TheVariants.{NoSection, BadName, NoValue, BadValue}
+use Rattle.tool_words.specs.declared.usage.UsageWhy.{UsageWhy}
+use Rattle.tool_words.specs.declared.usage.UsageWhy.TheVariants as usage
 use Rattle.relabel_program.specs.Names.{name_of}
 use Rattle.relabel_program.specs.declared.cause.Cause.{Cause}
-use Rattle.relabel_program.specs.declared.cause.Cause.TheVariants.{Done, Usage, Missing, SpecRefused, SubRefused, CustomRefused, RecordRefused, Unended, Doubled, Limit, WalkErrors, ReadFault, WriteFault, OutOfMemory}
+use Rattle.relabel_program.specs.declared.cause.Cause.TheVariants.{Done, Usage, Missing, SpecRefused, SubRefused, CustomRefused, DumpRefused, RecordRefused, Unended, Doubled, Limit, WalkErrors, Differs, ReadFault, WriteFault, OutOfMemory}
 use Rattle.relabel_program.specs.declared.cause.LimitKind.{LimitKind}
 use Rattle.relabel_program.specs.declared.cause.LimitKind.TheVariants.{File, Specs, Records, RecordBytes}
-use Rattle.relabel_program.specs.declared.cause.UsageWhy.{UsageWhy}
-use Rattle.relabel_program.specs.declared.cause.UsageWhy.TheVariants.{UnknownTool, NotYet}
 use Rattle.relabel_program.specs.declared.names.FileNames.{FileNames}
 use Rattle.relabel_program.specs.declared.fault.TheConstants as texts
 
-abbrev pub status_of : Cause → ℕ
-status_of Done = 0
-status_of ReadFault = 253
-status_of WriteFault = 252
-status_of OutOfMemory = 254
-status_of cause = 255
+-- the exit status, where errors of the walk are soft or not
+abbrev pub status_of : (soft : Bool) → Cause → ℕ
+status_of soft Done = 0
+status_of soft (WalkErrors count) = if soft then 1 else 255
+status_of soft (Differs count) = 1
+status_of soft ReadFault = 253
+status_of soft WriteFault = 252
+status_of soft OutOfMemory = 254
+status_of soft cause = 255
 
 abbrev pub usage_text : UsageWhy → List ℕ
-usage_text UnknownTool = texts.UNKNOWN_TOOL.now
-usage_text NotYet = texts.NOT_YET.now
+usage_text usage.UnknownTool = texts.UNKNOWN_TOOL.now
+usage_text usage.UnknownOption = texts.UNKNOWN_OPTION.now
+usage_text usage.MissingValue = texts.MISSING_VALUE.now
+usage_text usage.BadNumber = texts.BAD_NUMBER.now
+usage_text usage.BadPath = texts.BAD_PATH.now
+usage_text usage.BadKind = texts.BAD_TYPE.now
+usage_text usage.MissingOperand = texts.MISSING_OPERAND.now
+usage_text usage.NoOutput = texts.NO_OUTPUT.now
+usage_text usage.NotYet = texts.NOT_YET.now
 
 -- where in a pattern's text, counted from 0, the fault stands
 abbrev pub pattern_text : PatternWhy → List ℕ
@@ -44,6 +56,12 @@ spec_text MissingContext = texts.MISSING_CONTEXT.now
 spec_text BadKind = texts.BAD_TYPE.now
 spec_text BadContext = texts.BAD_CONTEXT.now
 spec_text (BadPattern why) = pattern_text why
+
+abbrev pub dump_text : DumpWhy → List ℕ
+dump_text NoSection = texts.NO_SECTION.now
+dump_text BadName = texts.BAD_NAME.now
+dump_text NoValue = texts.NO_VALUE.now
+dump_text BadValue = texts.BAD_VALUE.now
 
 abbrev pub path_text : PathWhy → List ℕ
 path_text Empty = texts.PATH_EMPTY.now
@@ -80,6 +98,8 @@ refusal_text names (SubRefused part line) =
     place_text (name_of names part) line ++ texts.NOT_A_SUBSTITUTION.now
 refusal_text names (CustomRefused line) =
     place_text (name_of names Customizable) line ++ texts.NOT_A_TYPE.now
+refusal_text names (DumpRefused line why) =
+    place_text (name_of names Kept) line ++ texts.COLON.now ++ dump_text why
 refusal_text names (RecordRefused number why) =
     texts.RECORD.now ++ decimal number ++ texts.COLON.now ++ record_text why
 refusal_text names (Unended number) = texts.RECORD.now ++ decimal number ++ texts.NOT_ENDED.now
@@ -87,6 +107,7 @@ refusal_text names (Doubled first second) =
     texts.RECORDS.now ++ decimal first ++ texts.AND.now ++ decimal second ++ texts.TWO_ENTRIES.now
 refusal_text names (Limit which) = limit_text names which
 refusal_text names (WalkErrors count) = []
+refusal_text names (Differs count) = []
 refusal_text names ReadFault = texts.READ_FAILED.now
 refusal_text names WriteFault = texts.WRITE_FAILED.now
 refusal_text names OutOfMemory = texts.OUT_OF_MEMORY.now

@@ -6,7 +6,7 @@ use Rattle.label_base.specs.declared.lines.LinesWhy.{LinesWhy}
 use Rattle.label_base.specs.declared.lines.LinesWhy.TheVariants.{Refused, TooMany}
 use Rattle.label_base.specs.declared.lines.RefusedLine.{RefusedLine}
 use Rattle.label_base.specs.declared.kind.Part.TheVariants.{Base, Homedirs, Local, Subs, SubsDist, Customizable, Kept}
-use Rattle.context_syntax.specs.TypeNames.{NameSet, types_read}
+use Rattle.context_syntax.specs.TypeNames.{NameSet, set_of, types_read}
 use Rattle.context_syntax.specs.declared.customizable.NoTypeName.{NoTypeName}
 use Rattle.spec_reader.specs.SpecLines.{specs_of}
 use Rattle.spec_reader.specs.SpecValue.{SpecValue}
@@ -16,13 +16,21 @@ use Rattle.path_subs.specs.Subs.{SubValue}
 use Rattle.path_subs.specs.SubLines.{subs_of}
 use Rattle.path_subs.specs.declared.sub_fault.NoSub.{NoSub}
 use Rattle.relabel_core.specs.declared.rules.Rules.{Rules}
+use Rattle.setfattr_dump.specs.Reading.{dump_read}
+use Rattle.setfattr_dump.specs.declared.dump.Dump.{Dump}
+use Rattle.setfattr_dump.specs.declared.dump.Section.{Section}
+use Rattle.setfattr_dump.specs.declared.fault.DumpWhy.{DumpWhy}
+use Rattle.tool_words.specs.declared.command.Command.{Command}
+use Rattle.tool_words.specs.declared.command.Command.TheVariants.{Relabel, Lookup}
+use Rattle.relabel_program.specs.Asked.{asks_kept}
 use Rattle.relabel_program.specs.Causes.{and_then}
-use Rattle.relabel_program.specs.Names.{name_of}
+use Rattle.relabel_program.specs.Names.{name_of, names_for}
 use Rattle.relabel_program.specs.declared.cause.Cause.{Cause}
-use Rattle.relabel_program.specs.declared.cause.Cause.TheVariants.{Missing, SpecRefused, SubRefused, CustomRefused, Limit}
+use Rattle.relabel_program.specs.declared.cause.Cause.TheVariants.{Missing, SpecRefused, SubRefused, CustomRefused, DumpRefused, Limit}
 use Rattle.relabel_program.specs.declared.cause.LimitKind.TheVariants.{File, Specs}
 use Rattle.relabel_program.specs.declared.files.TheConstants.{MOST_BYTES, MOST_KEPT_BYTES, MOST_SPEC_BYTES, MOST_SPECS}
 use Rattle.relabel_program.specs.declared.names.FileNames.{FileNames}
+use Rattle.relabel_program.specs.declared.policy.Policy.{Policy}
 
 -- the greatest number of bytes of a file
 abbrev pub most_bytes : Part → ℕ
@@ -32,9 +40,10 @@ most_bytes Local = MOST_SPEC_BYTES
 most_bytes Kept = MOST_KEPT_BYTES
 most_bytes part = MOST_BYTES
 
--- an absent file is empty, but for the base file
+-- an absent file is empty, but for the base file and the file of stored digests
 abbrev pub absent : FileNames → Part → Result (List ℕ) Cause
 absent names Base = Err (Missing names.base)
+absent names Kept = Err (Missing names.kept)
 absent names part = Ok []
 
 abbrev pub bytes_from : FileNames → Part → Option (List ℕ) → Result (List ℕ) Cause
@@ -85,15 +94,46 @@ list_of names files =
     and_then (part_specs names Local (MOST_SPECS - length first - length home) files) (λ local.
     Ok (in_order (first ++ home ++ local)))))
 
+-- matchpathcon looks at no type names
+abbrev pub types_for : Command → Files → Result NameSet Cause
+types_for (Relabel words) files = customizable_types (names_for (Relabel words)) files
+types_for (Lookup words) files = Ok (set_of [])
+
 -- the rules that the files give; each file's faults come before those of the next
-unfoldable pub rules_of : FileNames → Files → Result Rules Cause
-rules_of names files =
-    and_then (list_of names files) (λ list.
-    and_then (part_subs names Subs files) (λ first.
-    and_then (part_subs names SubsDist files) (λ second.
-    and_then (customizable_types names files) (λ types.
+unfoldable pub rules_for : Command → Files → Result Rules Cause
+rules_for command files =
+    and_then (list_of (names_for command) files) (λ list.
+    and_then (part_subs (names_for command) Subs files) (λ first.
+    and_then (part_subs (names_for command) SubsDist files) (λ second.
+    and_then (types_for command files) (λ types.
     Ok (record {
       rules = list;
       subs = record { first = first; second = second };
       types = types;
     })))))
+
+abbrev pub dump_from : Result (List Section) (RefusedLine DumpWhy) → Result Dump Cause
+dump_from (Ok sections) = Ok (record { sections = sections })
+dump_from (Err refused) = Err (DumpRefused refused.number refused.why)
+
+-- the dump that holds the stored digests
+unfoldable pub kept_dump : FileNames → Files → Result Dump Cause
+kept_dump names files =
+    and_then (part_bytes names Kept files) (λ bytes. dump_from (dump_read bytes))
+
+abbrev pub no_dump : Dump
+no_dump = record { sections = [] }
+
+-- no digests are stored where none are asked for
+abbrev pub kept_for : Command → Files → Result Dump Cause
+kept_for command files = if asks_kept command then kept_dump (names_for command) files else Ok no_dump
+
+-- rules with stored digests, where these were read
+abbrev pub with_kept : Rules → Result Dump Cause → Result Policy Cause
+with_kept rules (Ok kept) = Ok (record { rules = rules; kept = kept })
+with_kept rules (Err cause) = Err cause
+
+-- the rules and the stored digests that the files give, or the first refusal
+unfoldable pub policy : Command → Files → Result Policy Cause
+policy command files =
+    and_then (rules_for command files) (λ rules. with_kept rules (kept_for command files))

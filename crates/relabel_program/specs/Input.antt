@@ -1,11 +1,13 @@
 -- The tree that the input gives.
-use Rattle.std.specs.Prelude.{ℕ, nat_lt, List, length, Result, Ok, Err, if◌then◌else◌}
+use Rattle.std.specs.Prelude.{ℕ, nat_lt, List, [], length, Result, Ok, Err, if◌then◌else◌}
 use Rattle.find_records.specs.Grammar.{records_of}
 use Rattle.find_records.specs.Record.{Record}
 use Rattle.find_records.specs.declared.fault.RecordsFault.{RecordsFault}
 use Rattle.find_records.specs.declared.fault.RecordsFault.TheVariants as records
 use Rattle.find_records.specs.declared.reading.RecordLimits.{RecordLimits}
 use Rattle.tree_model.specs.Entries.{tree_of}
+use Rattle.tool_words.specs.declared.command.Command.{Command}
+use Rattle.relabel_program.specs.Asked.{takes_records}
 use Rattle.relabel_program.specs.declared.cause.Cause.{Cause}
 use Rattle.relabel_program.specs.declared.cause.Cause.TheVariants.{RecordRefused, Unended, Doubled, Limit, ReadFault, OutOfMemory}
 use Rattle.relabel_program.specs.declared.cause.LimitKind.TheVariants.{Records, RecordBytes}
@@ -38,3 +40,7 @@ unfoldable pub entries_of : List ℕ → Result (List Record) Cause
 entries_of bytes =
     if nat_lt MOST_RECORD_BYTES (length bytes) then Err (Limit RecordBytes)
     else entries_read (records_of record_limits bytes)
+
+-- the entries that a command looks at; one that takes no records has none
+unfoldable pub entries_for : Command → List ℕ → Result (List Record) Cause
+entries_for command input = if takes_records command then entries_of input else Ok []

@@ -1,4 +1,4 @@
-pub mod Words
+pub mod Asked
 pub mod Names
 pub mod Causes
 pub mod Files

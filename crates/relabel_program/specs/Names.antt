@@ -1,21 +1,41 @@
 -- The names of the files of a policy.
-use Rattle.std.specs.Prelude.{ℕ, List, [], ◌++◌}
+use Rattle.std.specs.Prelude.{ℕ, List, [], ◌++◌, Option, Some, None, Result, Ok, Err}
 use Rattle.label_base.specs.declared.kind.Part.{Part}
-use Rattle.label_base.specs.declared.kind.Part.TheVariants.{Base, Homedirs, Local, Subs, SubsDist, Customizable}
+use Rattle.label_base.specs.declared.kind.Part.TheVariants.{Base, Homedirs, Local, Subs, SubsDist, Customizable, Kept}
+use Rattle.tool_words.specs.declared.command.Command.{Command}
+use Rattle.tool_words.specs.declared.usage.Usage.{Usage}
+use Rattle.relabel_program.specs.Asked.{base_of, kept_of}
 use Rattle.relabel_program.specs.declared.names.FileNames.{FileNames}
 use Rattle.relabel_program.specs.declared.names.TheConstants.{CUSTOMIZABLE_TYPES, HOMEDIRS, LOCAL, SUBS, SUBS_DIST}
 
--- these files stand beside the base file
-abbrev pub names_beside : List ℕ → FileNames
-names_beside base = record {
+abbrev pub name_or_none : Option (List ℕ) → List ℕ
+name_or_none None = []
+name_or_none (Some name) = name
+
+-- the files that stand beside the base file, and the file of stored digests
+abbrev pub names_beside : List ℕ → Option (List ℕ) → FileNames
+names_beside base kept = record {
   base = base;
   homedirs = base ++ HOMEDIRS.now;
   local = base ++ LOCAL.now;
   subs = base ++ SUBS.now;
   subs_dist = base ++ SUBS_DIST.now;
+  kept = name_or_none kept;
 }
 
--- the name of the file that has this part; no other part has a file so far
+-- the names of the files that a command asks for
+abbrev pub names_for : Command → FileNames
+names_for command = names_beside (base_of command) (kept_of command)
+
+-- wrong words name no file
+abbrev pub no_names : FileNames
+no_names = record { base = []; homedirs = []; local = []; subs = []; subs_dist = []; kept = [] }
+
+abbrev pub names_in : Result Command Usage → FileNames
+names_in (Ok command) = names_for command
+names_in (Err wrong) = no_names
+
+-- the name of the file that has this part
 abbrev pub name_of : FileNames → Part → List ℕ
 name_of names Base = names.base
 name_of names Homedirs = names.homedirs
@@ -23,4 +43,4 @@ name_of names Local = names.local
 name_of names Subs = names.subs
 name_of names SubsDist = names.subs_dist
 name_of names Customizable = CUSTOMIZABLE_TYPES.now
-name_of names part = []
+name_of names Kept = names.kept

@@ -1,44 +1,45 @@
 -- What a run of the command says and does, over any store, input and sink.
-use Rattle.std.specs.Prelude.{◌≡◌, ℕ, ◌≤◌, List, [], Option, Some, Result, Ok, Err, IsOk, IfSome, ◌⊎◌}
+use Rattle.std.specs.Prelude.{◌≡◌, ℕ, ◌≤◌, Bool, true, false, List, [], Option, Some, None, is_some, Result, Ok, Err, IsOk, IfErr, IfOk, IfSome, ◌⊎◌}
+use Rattle.std.specs.FinMap as map
 use Rattle.std.specs.Io.KnownBytes.{Appends}
 use Rattle.label_base.specs.Sink.{AppendsFront}
 use Rattle.label_base.specs.Source.{Rose}
-use Rattle.label_base.specs.Store.{Files}
-use Rattle.relabel_core.specs.declared.rules.Rules.{Rules}
-use Rattle.relabel_program.specs.Answer.{answer, names_in, policy}
-use Rattle.relabel_program.specs.Causes.{Explained, IsInputCause, IsPolicyCause, IsReadingCause, IsReported, end_cause}
+use Rattle.label_base.specs.Store.{Files, SaveTold}
+use Rattle.label_base.specs.declared.store.SaveFault.{SaveFault}
+use Rattle.tool_words.specs.declared.command.Command.{Command}
+use Rattle.tool_words.specs.declared.usage.Usage.{Usage}
+use Rattle.relabel_program.specs.Answer.{answer, cause_of}
+use Rattle.relabel_program.specs.Asked.{input_in, output_in, takes_records}
+use Rattle.relabel_program.specs.Causes.{Explained, IsFileCause, IsReadingCause, IsWritten}
 use Rattle.relabel_program.specs.Faults.{fault_line}
-use Rattle.relabel_program.specs.Words.{usage}
+use Rattle.relabel_program.specs.Files.{policy}
+use Rattle.relabel_program.specs.Names.{names_in}
 use Rattle.relabel_program.specs.declared.cause.Cause.{Cause}
-use Rattle.relabel_program.specs.declared.cause.Cause.TheVariants.{Done, Usage, WalkErrors, ReadFault, WriteFault, OutOfMemory}
-use Rattle.relabel_program.specs.declared.cause.UsageWhy.{UsageWhy}
+use Rattle.relabel_program.specs.declared.cause.Cause.TheVariants as causes
+use Rattle.relabel_program.specs.declared.cause.Cause.TheVariants.{Done, WalkErrors, Differs, ReadFault, WriteFault, OutOfMemory}
 use Rattle.relabel_program.specs.declared.names.FileNames.{FileNames}
-use Rattle.relabel_program.specs.declared.reported.Reported.{Reported}
+use Rattle.relabel_program.specs.declared.policy.Policy.{Policy}
+use Rattle.relabel_program.specs.declared.told.Saved.{Saved}
+use Rattle.relabel_program.specs.declared.told.Told.{Told}
 
--- the causes of a run whose words and files are accepted
-abbrev pub IsLaterCause : Cause → Type 0
-IsLaterCause Done = Unit {0}
-IsLaterCause (WalkErrors count) = Unit {0}
-IsLaterCause WriteFault = Unit {0}
-IsLaterCause cause = IsInputCause cause
+-- ---- refusals
 
 -- wrong words are the cause, or want of memory, and neither the store nor the input was touched
-pub record RefusesWords (wrong : ℕ × UsageWhy) (cause : Cause)
-    (unread untouched : Type 0) : Type 0 where
-  pub told : (cause ≡ Usage wrong.0 wrong.1) ⊎ (cause ≡ OutOfMemory)
+pub record RefusesWords (wrong : Usage) (cause : Cause) (unread untouched : Type 0) : Type 0 where
+  pub told : (cause ≡ causes.Usage wrong.index wrong.why) ⊎ (cause ≡ OutOfMemory)
   pub no_file_read : unread
   pub no_input_read : untouched
 
 -- a refused file is the cause, or a failed read or want of memory, and the input was not touched
-pub record RefusesPolicy (refusal cause : Cause) (untouched : Type 0) : Type 0 where
+pub record RefusesFile (refusal cause : Cause) (untouched : Type 0) : Type 0 where
   pub told : (cause ≡ refusal) ⊎ IsReadingCause cause
-  pub of_policy : IsPolicyCause cause
+  pub of_files : IsFileCause cause
   pub no_input_read : untouched
 
--- what the policy says of the end of a run
-abbrev pub PolicyDecides : Result Rules Cause → Cause → Type 0 → Type 0
-PolicyDecides (Err refusal) cause untouched = RefusesPolicy refusal cause untouched
-PolicyDecides (Ok rules) cause untouched = IsLaterCause cause
+-- what the files say of the end of a run: where all are accepted, none of them is refused
+abbrev pub FilesDecide : Result Policy Cause → Cause → Type 0 → Type 0
+FilesDecide (Err refusal) cause untouched = RefusesFile refusal cause untouched
+FilesDecide (Ok policy) cause untouched = IsFileCause cause → IsReadingCause cause
 
 -- a line was written, or a front of it where the sink failed
 abbrev pub LineOrFront : {O : Type 0} → (O → Option (List ℕ)) → (O → ℕ) → O → O → List ℕ → Type 0
@@ -46,94 +47,146 @@ LineOrFront written faults old new line =
     Appends (written old) (written new) line
     ⊎ (AppendsFront (written old) (written new) line × Rose (faults old) (faults new))
 
--- a refusal, a failed read and want of memory are told by their line
-abbrev pub TellsFault : {O : Type 0}
-    → (O → Option (List ℕ)) → (O → ℕ) → O → O → FileNames → Cause → Type 0
-TellsFault written faults old new names Done = Unit {0}
-TellsFault written faults old new names (WalkErrors count) = Unit {0}
-TellsFault written faults old new names WriteFault = Unit {0}
-TellsFault written faults old new names cause =
-    LineOrFront written faults old new (fault_line names cause)
+-- ---- what is written
 
--- a report was written whole and the cause is its own, or a front of it was where the sink failed
+-- the files where the dump is saved
+abbrev pub files_with : Files → Option Saved → Files
+files_with files None = files
+files_with files (Some saved) = map.insert files saved.name saved.text
+
+-- all files are as before, but for the one of this name
+abbrev pub OthersStay : Option Files → Option Files → Option (List ℕ) → Type 0
+OthersStay old new None = new ≡ old
+OthersStay None new (Some name) = Unit {0}
+OthersStay (Some old) None (Some name) = ⊥
+OthersStay (Some old) (Some new) (Some name) = map.remove new name ≡ map.remove old name
+
+-- the report that is meant was written, the dump that is meant was saved, and the cause is the report's
+pub record Reports {S O : Type 0} (files : S → Option Files) (written : O → Option (List ℕ))
+    (store : S) (out out_now : O) (told : Files) (meant : Result Told Cause) (cause : Cause)
+    : Type 0 where
+  pub reported : Told
+  pub is_meant : meant ≡ Ok reported
+  pub cause_is : cause ≡ cause_of reported.end
+  pub whole : Appends (written out) (written out_now) reported.report
+  pub saved : files store ≡ Some (files_with told reported.saved)
+
+-- a front of the report that is meant was written, and the dump that is meant was saved
+pub record ReportsFront {S O : Type 0} (files : S → Option Files) (written : O → Option (List ℕ))
+    (store : S) (out out_now : O) (told : Files) (meant : Result Told Cause) : Type 0 where
+  pub reported : Told
+  pub is_meant : meant ≡ Ok reported
+  pub front : AppendsFront (written out) (written out_now) reported.report
+  pub saved : files store ≡ Some (files_with told reported.saved)
+
+-- ---- what the two writes of a run leave
+
+-- a write of the dump: it was saved, or the write failed, or found no memory; without a dump nothing is
+-- written
+abbrev pub Saves : Option Files → Option Files → Option Saved → Result (Unit {0}) SaveFault → Type 0
+Saves old new None (Ok done) = new ≡ old
+Saves old new None (Err fault) = ⊥
+Saves old new (Some saved) result = SaveTold old new saved.name saved.text result
+
+-- a write of the report: it was written whole and the cause is its own, or a front of it was where the
+-- sink failed
 abbrev pub WritesReport : {O : Type 0}
-    → (O → Option (List ℕ)) → (O → ℕ) → O → O → Reported → Cause → Type 0
-WritesReport written faults old new reported cause =
-    (cause ≡ end_cause reported.errors) × Appends (written old) (written new) reported.report
-    ⊎ (cause ≡ WriteFault) × AppendsFront (written old) (written new) reported.report
+    → (O → Option (List ℕ)) → (O → ℕ) → O → O → Told → Cause → Type 0
+WritesReport written faults old new told cause =
+    (cause ≡ cause_of told.end) × Appends (written old) (written new) told.report
+    ⊎ (cause ≡ WriteFault) × AppendsFront (written old) (written new) told.report
     × Rose (faults old) (faults new)
 
--- the report that is meant was written, and the cause tells its errors
-pub record Reports {O : Type 0} (written : O → Option (List ℕ)) (old new : O)
-    (meant : Result Reported Cause) (cause : Cause) : Type 0 where
-  pub reported : Reported
-  pub is_meant : meant ≡ Ok reported
-  pub cause_is : cause ≡ end_cause reported.errors
-  pub whole : Appends (written old) (written new) reported.report
+-- the end of a run is the one that is meant; a write fails only where there is no refusal
+abbrev pub Ends : {S O : Type 0} → (S → Option Files) → (O → Option (List ℕ)) → S → O → O
+    → Files → Result Told Cause → Cause → Type 0
+Ends files written store out out_now told meant Done =
+    Reports files written store out out_now told meant Done
+Ends files written store out out_now told meant (WalkErrors count) =
+    Reports files written store out out_now told meant (WalkErrors count)
+Ends files written store out out_now told meant (Differs count) =
+    Reports files written store out out_now told meant (Differs count)
+Ends files written store out out_now told meant WriteFault = IsOk meant
+Ends files written store out out_now told meant cause = Explained meant cause
 
--- a front of the report that is meant was written
-abbrev pub ReportsFront : {O : Type 0}
-    → (O → Option (List ℕ)) → O → O → Result Reported Cause → Type 0
-ReportsFront written old new meant =
-    (reported : Reported) × (meant ≡ Ok reported)
-    × AppendsFront (written old) (written new) reported.report
-
--- the end of a run is the one that is meant
-abbrev pub Ends : {O : Type 0}
-    → (O → Option (List ℕ)) → O → O → Result Reported Cause → Cause → Type 0
-Ends written old new meant Done = Reports written old new meant Done
-Ends written old new meant (WalkErrors count) = Reports written old new meant (WalkErrors count)
-Ends written old new meant WriteFault = ReportsFront written old new meant
-Ends written old new meant cause = Explained meant cause
-
--- counts of failed reads rise by failed reads alone, which want of memory for their line may hide
-abbrev pub ReadCounts : ℕ → ℕ → ℕ → ℕ → Cause → Type 0
-ReadCounts store store_now input input_now ReadFault = (store ≤ store_now) × (input ≤ input_now)
-ReadCounts store store_now input input_now OutOfMemory = (store ≤ store_now) × (input ≤ input_now)
-ReadCounts store store_now input input_now cause = (store_now ≡ store) × (input_now ≡ input)
+-- ---- failed reads and writes
 
 -- a read of a file failed, before the input was touched
 abbrev pub FileFailed : ℕ → ℕ → Type 0 → Type 0
 FileFailed store store_now untouched = Rose store store_now × untouched
 
 -- a read of the input failed, all files being accepted
-pub record InputFailed (words : List (List ℕ)) (files : Option Files)
+pub record InputFailed (asked : Result Command Usage) (files : Option Files)
     (store store_now input input_now : ℕ) : Type 0 where
   pub rose : Rose input input_now
   pub no_file_failed : store_now ≡ store
-  pub accepted : IfSome files (λ told. IsOk (policy words told))
+  pub accepted : IfOk asked (λ command. IfSome files (λ told. IsOk (policy command told)))
 
--- A run: its words, and the store, the input and the sink before and after it, seen by what they
--- tell.
+-- the write of the dump failed, which was asked for, and its line alone was written
+pub record LosesDump {O : Type 0} (written : O → Option (List ℕ)) (out_faults : O → ℕ)
+    (store store_now : ℕ) (out out_now : O) (asked : Result Command Usage) : Type 0 where
+  pub to_file : is_some (output_in asked) ≡ true
+  pub rose : Rose store store_now
+  pub line : LineOrFront written out_faults out out_now (fault_line (names_in asked) WriteFault)
+
+-- the write of the report failed, after the dump was saved, and no line was tried
+pub record LosesReport {S O : Type 0} (files : S → Option Files) (written : O → Option (List ℕ))
+    (out_faults : O → ℕ) (store_faults store_faults_now : ℕ)
+    (store store_now : S) (out out_now : O) (asked : Result Command Usage)
+    (input : Option (List ℕ)) : Type 0 where
+  pub rose : Rose (out_faults out) (out_faults out_now)
+  pub no_file_failed : store_faults_now ≡ store_faults
+  pub front : IfSome (files store) (λ told. IfSome input (λ bytes.
+      ReportsFront files written store_now out out_now told (answer asked told bytes)))
+
+-- A run: what its words ask for, or the first wrong one, and the store, the input and the sink before
+-- and after it, seen by what they tell.
 pub record Run {S I O : Type 0} (files : S → Option Files) (read_faults write_faults : S → ℕ)
     (left : I → Option (List ℕ)) (input_faults : I → ℕ)
     (written : O → Option (List ℕ)) (out_faults : O → ℕ)
-    (words : List (List ℕ)) (store store_now : S) (input input_now : I) (out out_now : O)
+    (asked : Result Command Usage) (store store_now : S) (input input_now : I) (out out_now : O)
     (cause : Cause) : Type 0 where
-  -- No file changes, and none is written.
-  pub same_files : files store_now ≡ files store
-  pub none_written : write_faults store_now ≡ write_faults store
   -- Wrong words are told as such, and only they, whatever the objects tell. Nothing is read then.
-  pub wrong_words : IfSome (usage words) (λ wrong.
+  pub wrong_words : IfErr asked (λ wrong.
       RefusesWords wrong cause (store_now ≡ store) (input_now ≡ input))
-  pub only_wrong_words : (index : ℕ) (why : UsageWhy)
-      → cause ≡ Usage index why → usage words ≡ Some (index, why)
+  pub only_wrong_words : (wrong : Usage)
+      → cause ≡ causes.Usage wrong.index wrong.why → asked ≡ Err wrong
+  -- A command that takes no records leaves the input alone.
+  pub no_records : IfOk asked (λ command. takes_records command ≡ false → input_now ≡ input)
   -- A refused file is told as such, before the input is touched. Any later end means that all
   -- files are accepted.
-  pub files_decide : IfSome (files store) (λ told.
-      PolicyDecides (policy words told) cause (input_now ≡ input))
-  -- The end is the one that is meant, and the sink gained the report or the line that tells the
-  -- cause.
-  pub is_meant : IfSome (files store) (λ told. IfSome (left input) (λ bytes.
-      Ends written out out_now (answer words told bytes) cause))
-  pub fault_told : TellsFault written out_faults out out_now (names_in words) cause
-  -- Where the report is written, the input was read to its end.
-  pub all_read : IsReported cause → IfSome (left input) (λ bytes. left input_now ≡ Some [])
+  pub files_decide : IfOk asked (λ command. IfSome (files store) (λ told.
+      FilesDecide (policy command told) cause (input_now ≡ input)))
+  -- The end is the one that is meant: after a report the sink gained it and the store's files have
+  -- the dump.
+  pub is_meant : IfSome (files store) (λ told. IfSome (input_in asked (left input)) (λ bytes.
+      Ends files written store_now out out_now told (answer asked told bytes) cause))
+  -- Whatever the end, all files but that of the dump are as before; and where nothing was to be
+  -- written yet, that one too. The sink gained the line that tells the cause then.
+  pub others_stay : OthersStay (files store) (files store_now) (output_in asked)
+  pub same_files : (IsWritten cause → ⊥)
+      → IfSome (files store) (λ told. files store_now ≡ Some told)
+  pub fault_told : (IsWritten cause → ⊥)
+      → LineOrFront written out_faults out out_now (fault_line (names_in asked) cause)
+  -- Where dump or report are written, the records were read to their end.
+  pub all_read : IsWritten cause → IfOk asked (λ command. takes_records command ≡ true
+      → IfSome (left input) (λ bytes. left input_now ≡ Some []))
   -- A read failed in the store with the input untouched, or in the input with all files accepted.
   pub read_failed : cause ≡ ReadFault
       → FileFailed (read_faults store) (read_faults store_now) (input_now ≡ input)
-      ⊎ InputFailed words (files store) (read_faults store) (read_faults store_now)
+      ⊎ InputFailed asked (files store) (read_faults store) (read_faults store_now)
       (input_faults input) (input_faults input_now)
-  pub write_failed : cause ≡ WriteFault → Rose (out_faults out) (out_faults out_now)
-  pub counts : ReadCounts (read_faults store) (read_faults store_now)
-      (input_faults input) (input_faults input_now) cause
+  -- A write failed in the store or in the sink.
+  pub write_failed : cause ≡ WriteFault
+      → LosesDump written out_faults (write_faults store) (write_faults store_now) out out_now
+      asked
+      ⊎ LosesReport files written out_faults (write_faults store) (write_faults store_now)
+      store store_now out out_now asked (input_in asked (left input))
+  -- Counts of failed calls never fall. They rise by failed calls alone, which want of memory for
+  -- the line of a failed read may hide.
+  pub read_counts : read_faults store ≤ read_faults store_now
+  pub input_counts : input_faults input ≤ input_faults input_now
+  pub write_counts : write_faults store ≤ write_faults store_now
+  pub no_read_failed : (IsReadingCause cause → ⊥)
+      → (read_faults store_now ≡ read_faults store) × (input_faults input_now ≡ input_faults input)
+  pub no_write_failed : (cause ≡ WriteFault → ⊥) → write_faults store_now ≡ write_faults store

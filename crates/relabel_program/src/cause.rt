@@ -3,16 +3,9 @@ ghost use Rattle.relabel_program.specs.declared.cause.Cause.TheVariants as cause
 
 use find_records::RecordWhy;
 use label_base::{Name, OutOfMemory, Part};
+use setfattr_dump::DumpWhy;
 use spec_reader::SpecWhy;
-
-/// What is wrong with the command's words.
-#[derive(Clone, Copy, Debug, PartialEq, Eq)]
-pub enum UsageWhy {
-    /// The first word names no tool.
-    UnknownTool,
-    /// The words are none that this version takes.
-    NotYet,
-}
+use tool_words::UsageWhy;
 
 /// A quantity that has a greatest value.
 #[derive(Clone, Copy, Debug, PartialEq, Eq)]
@@ -30,11 +23,11 @@ pub enum LimitKind {
 /// How a run ended.
 #[derive(Debug, Drop)]
 pub enum Cause {
-    /// The report was written.
+    /// The report was written, and tells no error.
     Done,
-    /// This word is the first that the command does not take; words count from 0.
+    /// This word is the first that is wrong; words count from 0, and where they end too early the index is their number.
     Usage { index: u32, why: UsageWhy },
-    /// The file of the specifications does not exist.
+    /// The file of the specifications, or that of the stored digests, does not exist.
     Missing { name: Name },
     /// This line of a file of specifications is the first that is none; lines count from 1.
     SpecRefused { part: Part, line: u32, why: SpecWhy },
@@ -42,6 +35,8 @@ pub enum Cause {
     SubRefused { part: Part, line: u32 },
     /// This line of the file of customizable types is the first that is none; lines count from 1.
     CustomRefused { line: u32 },
+    /// This line of the file of stored digests is the first that is refused; lines count from 1.
+    DumpRefused { line: u32, why: DumpWhy },
     /// This record of the input is the first that is none; records count from 1.
     RecordRefused { number: u32, why: RecordWhy },
     /// The last record of the input has no NUL, and this number.
@@ -51,11 +46,13 @@ pub enum Cause {
     Doubled { first: u32, second: u32 },
     /// A quantity is past its greatest value.
     Limit { which: LimitKind },
-    /// The report was written, and tells so many errors.
+    /// The report was written, and tells so many errors of a walk.
     WalkErrors { count: u32 },
+    /// The report was written, and tells so many paths that differ or have no record.
+    Differs { count: u32 },
     /// A file or the input could not be read.
     ReadFault,
-    /// The report could not be written.
+    /// The dump or the report could not be written.
     WriteFault,
     /// There was not enough memory.
     OutOfMemory,

@@ -1,15 +1,17 @@
-ghost use Rattle.std.specs.Prelude.{◌≡◌, ◌++◌, OnOk, IfOk};
+ghost use Rattle.std.specs.Prelude.{◌≡◌, ◌++◌, OnOk, IfOk, if◌then◌else◌};
 ghost use Rattle.std.specs.Fmt.{decimal};
 ghost use Rattle.label_base.specs.Escape.{escaped};
-ghost use Rattle.relabel_program.specs.Faults.{fault_line, limit_text, path_text, pattern_text, place_text, record_text, refusal_text, spec_text, status_of, usage_text};
+ghost use Rattle.relabel_program.specs.Faults.{dump_text, fault_line, limit_text, path_text, pattern_text, place_text, record_text, refusal_text, spec_text, status_of, usage_text};
 
-use crate::cause::{Cause, LimitKind, UsageWhy};
+use crate::cause::{Cause, LimitKind};
 use crate::names::FileNames;
 use find_records::RecordWhy;
 use label_base::{Bytes, OutOfMemory, Part, PathWhy, write_escaped};
 use pattern_syntax::PatternWhy;
+use setfattr_dump::DumpWhy;
 use spec_reader::SpecWhy;
 use std::alloc::Global;
+use tool_words::UsageWhy;
 
 const PROGRAM: &str = "relabel: ";
 
@@ -67,6 +69,16 @@ const OUT_OF_MEMORY: &str = "out of memory";
 
 const UNKNOWN_TOOL: &str = "unknown tool";
 
+const UNKNOWN_OPTION: &str = "unknown option";
+
+const MISSING_VALUE: &str = "missing value";
+
+const BAD_PATH: &str = "bad path";
+
+const MISSING_OPERAND: &str = "missing operand";
+
+const NO_OUTPUT: &str = "needs -n or -o";
+
 const NOT_YET: &str = "not yet";
 
 const MISSING_CONTEXT: &str = "missing context";
@@ -74,6 +86,14 @@ const MISSING_CONTEXT: &str = "missing context";
 const BAD_TYPE: &str = "bad type";
 
 const BAD_CONTEXT: &str = "bad context";
+
+const NO_SECTION: &str = "no section";
+
+const BAD_NAME: &str = "bad name";
+
+const NO_VALUE: &str = "no value";
+
+const BAD_VALUE: &str = "bad value";
 
 const PATTERN_SYNTAX: &str = "pattern: syntax at ";
 
@@ -83,12 +103,20 @@ const PATTERN_TOO_DEEP: &str = "pattern: too deep at ";
 
 const PATTERN_TOO_MANY_POSITIONS: &str = "pattern: too many positions";
 
-/// The exit status.
-pub fn status(cause: &Cause) -> u8
-    ensures { result ≡ status_of cause.now }
+fn errors_status(soft: bool) -> u8
+    ensures { result ≡ (if soft then 1 else 255) }
+{
+    if soft { 1 } else { 255 }
+}
+
+/// The exit status, where errors of a walk are soft or not.
+pub fn status(cause: &Cause, soft: bool) -> u8
+    ensures { result ≡ status_of soft cause.now }
 {
     match cause {
         Cause::Done => 0,
+        Cause::WalkErrors { .. } => errors_status(soft),
+        Cause::Differs { .. } => 1,
         Cause::ReadFault => 253,
         Cause::WriteFault => 252,
         Cause::OutOfMemory => 254,
@@ -152,7 +180,25 @@ fn usage_words(why: UsageWhy) -> &'static str
 {
     match why {
         UsageWhy::UnknownTool => UNKNOWN_TOOL,
+        UsageWhy::UnknownOption => UNKNOWN_OPTION,
+        UsageWhy::MissingValue => MISSING_VALUE,
+        UsageWhy::BadNumber => BAD_NUMBER,
+        UsageWhy::BadPath => BAD_PATH,
+        UsageWhy::BadKind => BAD_TYPE,
+        UsageWhy::MissingOperand => MISSING_OPERAND,
+        UsageWhy::NoOutput => NO_OUTPUT,
         UsageWhy::NotYet => NOT_YET,
+    }
+}
+
+fn dump_words(why: DumpWhy) -> &'static str
+    ensures { result.now ≡ dump_text why }
+{
+    match why {
+        DumpWhy::NoSection => NO_SECTION,
+        DumpWhy::BadName => BAD_NAME,
+        DumpWhy::NoValue => NO_VALUE,
+        DumpWhy::BadValue => BAD_VALUE,
     }
 }
 
@@ -228,6 +274,22 @@ fn add_line_why(
     add_why(alloc, why, text)
 }
 
+// Adds a line of the file of stored digests that is refused.
+fn add_dump_why(
+    alloc: Global,
+    name: &str,
+    line: u32,
+    why: DumpWhy,
+    text: &mut Bytes,
+) -> Result<(), OutOfMemory>
+    ensures { OnOk result (text.new ≡ text.old
+        ++ (place_text name.now line ++ COLON.now ++ dump_text why)) }
+{
+    add_place(alloc, name, line, text)?;
+    add(COLON, text)?;
+    add(dump_words(why), text)
+}
+
 // Adds a line of a file, and what it is not.
 fn add_line_not(
     alloc: Global,
@@ -285,7 +347,7 @@ fn add_refusal(
     ensures { OnOk result (text.new ≡ text.old ++ refusal_text names.now cause.now) }
 {
     match cause {
-        Cause::Done | Cause::WalkErrors { .. } => Ok(()),
+        Cause::Done | Cause::WalkErrors { .. } | Cause::Differs { .. } => Ok(()),
         Cause::Usage { index, why } => add_usage(alloc, *index, *why, text),
         Cause::Missing { name } => {
             add_name(alloc, name.as_str(), text)?;
@@ -301,6 +363,9 @@ fn add_refusal(
         Cause::CustomRefused { line } => {
             let name = names.name_of(Part::Customizable);
             add_line_not(alloc, name, *line, NOT_A_TYPE, text)
+        }
+        Cause::DumpRefused { line, why } => {
+            add_dump_why(alloc, names.name_of(Part::Kept), *line, *why, text)
         }
         Cause::RecordRefused { number, why } => add_record(alloc, *number, *why, text),
         Cause::Unended { number } => add_unended(alloc, *number, text),

@@ -1,17 +1,19 @@
 ghost use Rattle.std.specs.Prelude.{◌≡◌, ℕ, ◌≤◌, ◌-◌, IfOk, IfErr, IfSome, OnOk, length};
 ghost use Rattle.relabel_program.specs.Causes.{Counts, Gives, IsFileCause};
-ghost use Rattle.relabel_program.specs.Files.{absent, customizable_types, list_of, most_bytes, part_bytes, part_specs, part_subs, rules_of};
+ghost use Rattle.relabel_program.specs.Files.{absent, customizable_types, list_of, most_bytes, part_bytes, part_specs, part_subs, rules_for, types_for};
+ghost use Rattle.relabel_program.specs.Names.{names_for};
 
 use crate::cause::{Cause, LimitKind};
 use crate::names::FileNames;
 use context_syntax::{TypeNames, read_customizable};
 use label_base::{Bytes, Fault, FileFault, LinesWhy, Name, Part, Row, Store};
-use path_subs::{Sub, Subs, read_subs};
+use path_subs::{Sub, SubList, Subs, read_subs};
 use relabel_core::Rules;
 use spec_match::RuleSet;
 use spec_order::ordered;
 use spec_reader::{Spec, read_specs};
 use std::alloc::Global;
+use tool_words::Command;
 
 /// The greatest number of bytes of a file of specifications.
 const MOST_SPEC_BYTES: usize = 67_108_864;
@@ -39,15 +41,16 @@ fn without_file(alloc: Global, names: &FileNames, part: Part) -> Result<Bytes, C
     ensures within { IfOk result (λ bytes. length bytes ≤ most_bytes part) }
 {
     match part {
-        Part::Base => Err(Cause::Missing {
+        Part::Base | Part::Kept => Err(Cause::Missing {
             name: Name::copy_of(alloc, names.name_of(part))?,
         }),
         _ => Ok(Bytes::new(alloc)),
     }
 }
 
+/// Reads a file, at most so many bytes as its part may have.
 #[tactic(auto, unfolding(crate::specs::Files::part_bytes))]
-fn read_part<S: Store>(
+pub fn read_part<S: Store>(
     alloc: Global,
     names: &FileNames,
     part: Part,
@@ -163,24 +166,54 @@ fn read_list<S: Store>(alloc: Global, names: &FileNames, store: &mut S) -> Resul
     Ok(ordered(alloc, first, home, local)?)
 }
 
-/// Reads the files of a policy: the base file, then `.homedirs`, `.local`, `.subs` and `.subs_dist`
-/// beside it, then the customizable types. Each but the base file may be absent.
-#[tactic(auto, unfolding(crate::specs::Files::rules_of))]
-pub fn read_rules<S: Store>(alloc: Global, names: &FileNames, store: &mut S) -> Result<Rules, Cause>
+// The customizable types, at which matchpathcon doesn't look.
+fn read_types_for<S: Store>(
+    alloc: Global,
+    command: &Command,
+    names: &FileNames,
+    store: &mut S,
+) -> Result<TypeNames, Cause>
+    requires { names.now ≡ names_for command.now }
     ensures files { S.files store.new ≡ S.files store.old }
     ensures writes { S.write_faults store.new ≡ S.write_faults store.old }
     ensures answer { IfSome (S.files store.old) (λ files.
-        Gives (rules_of names.now files) result) }
+        Gives (types_for command.now files) result) }
+    ensures counts { Counts (S.read_faults store.old) (S.read_faults store.new) result }
+    ensures kinds { IfErr result IsFileCause }
+{
+    match command {
+        Command::Relabel(_) => read_types(alloc, names, store),
+        Command::Lookup(_) => Ok(TypeNames::new(alloc)),
+    }
+}
+
+/// Reads the files of a policy: the base file, then `.homedirs`, `.local`, `.subs` and `.subs_dist`
+/// beside it, then the customizable types, at which matchpathcon doesn't look. Each but the base file may be absent.
+#[tactic(auto, unfolding(crate::specs::Files::rules_for))]
+pub fn read_rules<S: Store>(
+    alloc: Global,
+    command: &Command,
+    names: &FileNames,
+    store: &mut S,
+) -> Result<Rules, Cause>
+    requires { names.now ≡ names_for command.now }
+    ensures files { S.files store.new ≡ S.files store.old }
+    ensures writes { S.write_faults store.new ≡ S.write_faults store.old }
+    ensures answer { IfSome (S.files store.old) (λ files.
+        Gives (rules_for command.now files) result) }
     ensures counts { Counts (S.read_faults store.old) (S.read_faults store.new) result }
     ensures kinds { IfErr result IsFileCause }
 {
     let list = read_list(alloc, names, store)?;
     let first = read_subs_part(alloc, names, Part::Subs, store)?;
     let second = read_subs_part(alloc, names, Part::SubsDist, store)?;
-    let types = read_types(alloc, names, store)?;
+    let types = read_types_for(alloc, command, names, store)?;
     Ok(Rules {
         rules: RuleSet::new(alloc, list)?,
-        subs: Subs { first, second },
+        subs: Subs {
+            first: SubList::new(alloc, first)?,
+            second: SubList::new(alloc, second)?,
+        },
         types,
     })
 }

@@ -1,12 +1,15 @@
-ghost use Rattle.std.specs.Prelude.{◌≡◌, ℕ, ◌≤◌, ◌<◌, ◌-◌, ◌^◌, [], Some, IfOk, IfErr, IfSome, OnOk, length};
+ghost use Rattle.std.specs.Prelude.{◌≡◌, ℕ, ◌≤◌, ◌<◌, ◌-◌, ◌^◌, [], Ok, Some, true, false, IfOk, IfErr, IfSome, OnOk, length};
 ghost use Rattle.relabel_program.specs.Causes.{Counts, Gives, IsInputCause};
 ghost use Rattle.tree_model.specs.Entries.{tree_of};
-ghost use Rattle.relabel_program.specs.Input.{entries_from, entries_of, records_refusal};
+ghost use Rattle.relabel_program.specs.Asked.{input_for, takes_records};
+ghost use Rattle.relabel_program.specs.Input.{entries_for, entries_from, entries_of, records_refusal};
 
+use crate::asked::takes_records;
 use crate::cause::{Cause, LimitKind};
 use find_records::{RecordLimits, Records, RecordsFault, read_records};
 use label_base::Source;
 use std::alloc::Global;
+use tool_words::Command;
 use tree_model::{Tree, TreeFault};
 
 /// The greatest number of records.
@@ -47,9 +50,20 @@ fn refusal(fault: RecordsFault) -> Cause
     }
 }
 
-/// Reads the input to its end, as the tree of its records.
+// The tree of no records.
+#[tactic(auto, unfolding(tree_model::specs::Entries::doubled, tree_model::specs::Entries::entries_of))]
+fn no_entries(alloc: Global) -> Result<Tree, Cause>
+    ensures answer { Gives (Ok []) result }
+    ensures counts { (count : ℕ) → Counts count count result }
+    ensures kinds { IfErr result IsInputCause }
+    ensures few { IfOk result (λ tree. length tree ≤ MOST_RECORDS) }
+{
+    tree_from(alloc, Records::new(alloc))
+}
+
+// Reads the input to its end, as the tree of its records.
 #[tactic(auto, unfolding(crate::specs::Input::entries_of))]
-pub fn read_tree<I: Source>(alloc: Global, input: &mut I) -> Result<Tree, Cause>
+fn read_tree<I: Source>(alloc: Global, input: &mut I) -> Result<Tree, Cause>
     ensures answer { IfSome (I.left input.old) (λ bytes. Gives (entries_of bytes) result) }
     ensures ended { OnOk result (IfSome (I.left input.old) (λ bytes. I.left input.new ≡ Some [])) }
     ensures counts { Counts (I.faults input.old) (I.faults input.new) result }
@@ -64,4 +78,26 @@ pub fn read_tree<I: Source>(alloc: Global, input: &mut I) -> Result<Tree, Cause>
         Ok(records) => tree_from(alloc, records),
         Err(fault) => Err(refusal(fault)),
     }
+}
+
+/// Reads the records that a command takes, as a tree. One that takes none leaves the input alone.
+#[tactic(auto, unfolding(crate::specs::Input::entries_for))]
+pub fn read_entries<I: Source>(
+    alloc: Global,
+    command: &Command,
+    input: &mut I,
+) -> Result<Tree, Cause>
+    ensures answer { IfSome (input_for command.now (I.left input.old)) (λ bytes.
+        Gives (entries_for command.now bytes) result) }
+    ensures ended { OnOk result (takes_records command.now ≡ true
+        → IfSome (I.left input.old) (λ bytes. I.left input.new ≡ Some [])) }
+    ensures untouched { takes_records command.now ≡ false → input.new ≡ input.old }
+    ensures counts { Counts (I.faults input.old) (I.faults input.new) result }
+    ensures kinds { IfErr result IsInputCause }
+    ensures few { IfOk result (λ tree. length tree ≤ MOST_RECORDS) }
+{
+    if takes_records(command) {
+        return read_tree(alloc, input);
+    }
+    no_entries(alloc)
 }

@@ -1,6 +1,9 @@
-//! The program: setfiles(8) over the files of a policy and the records of a tree.
+//! The program: setfiles(8), restorecon(8) and matchpathcon(8) over the files of a policy and the records of a tree.
 #![tactic(auto)]
 
+ghost use Rattle.std.specs.Prelude.{◌<◌, ◌^◌, IfOk, length};
+
+mod asked;
 mod cause;
 mod ending;
 mod fault;
@@ -8,11 +11,11 @@ mod files;
 mod input;
 mod names;
 mod policy;
-mod reported;
 mod runs;
+mod saving;
 #[cfg(test)]
 mod tests;
-mod words;
+mod told;
 
 use crate::runs::top;
 use label_base::{FileStore, ReadSource, WriteSink};
@@ -29,7 +32,9 @@ const WORDS_REFUSED: u8 = 251;
 const NO_MEMORY: u8 = 254;
 
 // The words after the program's name, or the status to end with.
-fn words_of(alloc: Global, rt: &HostRuntime) -> Result<Vec<String>, u8> {
+fn words_of(alloc: Global, rt: &HostRuntime) -> Result<Vec<String>, u8>
+    ensures { IfOk result (λ words. length words.items < 2 ^ 31) }
+{
     let given = match env::args(rt) {
         Ok(given) => given,
         Err(error) if error.kind() == ErrorKind::OutOfMemory => return Err(NO_MEMORY),

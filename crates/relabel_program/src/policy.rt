@@ -1,39 +1,96 @@
-ghost use Rattle.std.specs.Prelude.{◌≡◌, ℕ, Err, IfErr, IfSome, Some};
-ghost use Rattle.relabel_program.specs.Answer.{names_in, policy};
-ghost use Rattle.relabel_program.specs.Causes.{Counts, Gives, IsPolicyCause};
-ghost use Rattle.relabel_program.specs.Words.{usage, word_texts};
-ghost use Rattle.relabel_program.specs.declared.cause.UsageWhy.{UsageWhy};
+ghost use Rattle.std.specs.Prelude.{◌≡◌, ℕ, ◌<◌, ◌^◌, IfErr, IfOk, IfSome, length};
+ghost use Rattle.relabel_program.specs.Causes.{Counts, Gives, IsFileCause};
+ghost use Rattle.relabel_program.specs.Files.{kept_dump, kept_for, policy, with_kept};
+ghost use Rattle.relabel_program.specs.Names.{names_for};
 
+use crate::asked::asks_kept;
 use crate::cause::Cause;
-use crate::files::read_rules;
+use crate::files::{read_part, read_rules};
 use crate::names::FileNames;
-use crate::words::wrong_word;
-use label_base::Store;
+use label_base::{Fault, Part, Row, Store};
 use relabel_core::Rules;
+use setfattr_dump::Dump;
 use std::alloc::Global;
+use tool_words::Command;
 
-/// Reads the rules that the words name.
-#[tactic(auto, unfolding(crate::specs::Answer::policy))]
-pub fn read_policy<S: Store>(
-    alloc: Global,
-    words: &[String],
-    names: &FileNames,
-    store: &mut S,
-) -> Result<Rules, Cause>
-    requires { names.now ≡ names_in (word_texts words.now) }
+/// What the files say that a command reads.
+#[derive(Debug, Drop)]
+pub struct Policy {
+    pub rules: Rules,
+    /// The dump that holds the stored digests.
+    pub kept: Dump,
+}
+
+// Reads the file of stored digests.
+#[tactic(auto, unfolding(crate::specs::Files::kept_dump))]
+fn read_dump<S: Store>(alloc: Global, names: &FileNames, store: &mut S) -> Result<Dump, Cause>
     ensures files { S.files store.new ≡ S.files store.old }
     ensures writes { S.write_faults store.new ≡ S.write_faults store.old }
-    ensures usage { IfSome (usage (word_texts words.now)) (λ wrong.
-        (result ≡ Err (Cause.Usage wrong.0 wrong.1)) × (store.new ≡ store.old)) }
-    ensures only_usage { IfErr result (λ cause. (index : ℕ) (why : UsageWhy)
-        → cause ≡ Cause.Usage index why → usage (word_texts words.now) ≡ Some (index, why)) }
     ensures answer { IfSome (S.files store.old) (λ files.
-        Gives (policy (word_texts words.now) files) result) }
+        Gives (kept_dump names.now files) result) }
     ensures counts { Counts (S.read_faults store.old) (S.read_faults store.new) result }
-    ensures kinds { IfErr result IsPolicyCause }
+    ensures kinds { IfErr result IsFileCause }
 {
-    match wrong_word(words) {
-        Some((index, why)) => Err(Cause::Usage { index, why }),
-        None => read_rules(alloc, names, store),
+    let bytes = read_part(alloc, names, Part::Kept, store)?;
+    match Dump::read(alloc, bytes.as_slice()) {
+        Ok(dump) => Ok(dump),
+        Err(Fault::Why(refused)) => Err(Cause::DumpRefused {
+            line: refused.number,
+            why: refused.why,
+        }),
+        Err(Fault::OutOfMemory) => Err(Cause::OutOfMemory),
     }
+}
+
+// The stored digests, of which there are none where none are asked for.
+fn read_kept<S: Store>(
+    alloc: Global,
+    command: &Command,
+    names: &FileNames,
+    store: &mut S,
+) -> Result<Dump, Cause>
+    requires { names.now ≡ names_for command.now }
+    ensures files { S.files store.new ≡ S.files store.old }
+    ensures writes { S.write_faults store.new ≡ S.write_faults store.old }
+    ensures answer { IfSome (S.files store.old) (λ files.
+        Gives (kept_for command.now files) result) }
+    ensures counts { Counts (S.read_faults store.old) (S.read_faults store.new) result }
+    ensures kinds { IfErr result IsFileCause }
+{
+    if asks_kept(command) {
+        return read_dump(alloc, names, store);
+    }
+    Ok(Dump {
+        sections: Row::new(alloc),
+    })
+}
+
+// Rules with stored digests, where these were read.
+fn with_kept(rules: Rules, kept: Result<Dump, Cause>) -> Result<Policy, Cause>
+    ensures { result ≡ with_kept rules kept }
+{
+    match kept {
+        Ok(kept) => Ok(Policy { rules, kept }),
+        Err(cause) => Err(cause),
+    }
+}
+
+/// Reads the files that a command asks for: those of the policy, then that of the stored digests.
+#[tactic(auto, using(crate::proofs::PolicyLemmas::kept_gives, crate::proofs::PolicyLemmas::kept_counts, crate::proofs::PolicyLemmas::kept_kinds), unfolding(crate::specs::Files::policy))]
+pub fn read_policy<S: Store>(
+    alloc: Global,
+    command: &Command,
+    names: &FileNames,
+    store: &mut S,
+) -> Result<Policy, Cause>
+    requires { names.now ≡ names_for command.now }
+    ensures files { S.files store.new ≡ S.files store.old }
+    ensures writes { S.write_faults store.new ≡ S.write_faults store.old }
+    ensures answer { IfSome (S.files store.old) (λ files.
+        Gives (policy command.now files) result) }
+    ensures counts { Counts (S.read_faults store.old) (S.read_faults store.new) result }
+    ensures kinds { IfErr result IsFileCause }
+{
+    let rules = read_rules(alloc, command, names, store)?;
+    with_kept(rules, read_kept(alloc, command, names, store))
 }

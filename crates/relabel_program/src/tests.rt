@@ -1,3 +1,5 @@
+ghost use Rattle.std.specs.Prelude.{◌<◌, ◌^◌, IfOk, length};
+
 use crate::cause::{Cause, LimitKind, Outcome};
 use crate::fault::refusal_line;
 use crate::names::FileNames;
@@ -33,10 +35,11 @@ const NONE_FAILS: Failing = Failing {
     out: 0,
 };
 
-/// What a run ended with, what it wrote, and whether it left the input as it was.
+/// What a run ended with, what it left in the store and wrote, and whether it left the input as it was.
 #[derive(Drop)]
 struct Ran {
     outcome: Outcome,
+    store: MemStore,
     out: MemSink,
     is_unread: bool,
 }
@@ -44,6 +47,18 @@ struct Ran {
 impl Ran {
     fn ended(&self, status: u8, text: &[u8]) -> bool {
         self.outcome.status == status && self.out.written() == text
+    }
+
+    fn refused(&self, status: u8, text: &[u8]) -> bool {
+        self.ended(status, text) && self.is_unread
+    }
+
+    fn has(&self, name: &str, text: &[u8]) -> bool {
+        self.store.file(name) == Some(text)
+    }
+
+    fn lacks(&self, name: &str) -> bool {
+        self.store.file(name).is_none()
     }
 }
 
@@ -55,12 +70,30 @@ fn failing_at(alloc: Global, number: u64) -> Result<Row<u64>, OutOfMemory> {
     Ok(numbers)
 }
 
-fn words_of(alloc: Global, words: &[&str]) -> Result<Vec<String>, OutOfMemory> {
+fn words_of(alloc: Global, words: &[&str]) -> Result<Vec<String>, OutOfMemory>
+    ensures { IfOk result (λ made. length made.items < 2 ^ 31) }
+{
     let mut made = Vec::new(alloc);
-    for word in words {
+    'words: for word in words {
         made.push(String::from_str(alloc, word)?)?;
     }
+    if made.len() >= 1 << 31 {
+        return Err(OutOfMemory);
+    }
     Ok(made)
+}
+
+fn store_of(alloc: Global, files: &[(&str, &[u8])], failing: u64) -> Result<MemStore, OutOfMemory> {
+    let mut store = MemStore::new(alloc, failing_at(alloc, failing)?);
+    'files: for file in files {
+        store.put(alloc, file.0, file.1)?;
+    }
+    Ok(store)
+}
+
+fn input_of(alloc: Global, records: &[u8], failing: u64) -> Result<MemSource, OutOfMemory> {
+    let bytes = Bytes::copy_of(alloc, records)?;
+    Ok(MemSource::new(bytes, 10, failing_at(alloc, failing)?))
 }
 
 fn run(
@@ -70,67 +103,104 @@ fn run(
     records: &[u8],
     failing: &Failing,
 ) -> Result<Ran, OutOfMemory> {
-    let mut store = MemStore::new(alloc, failing_at(alloc, failing.store)?);
-    for file in files {
-        store.put(alloc, file.0, file.1)?;
-    }
-    let mut input = MemSource::new(
-        Bytes::copy_of(alloc, records)?,
-        10,
-        failing_at(alloc, failing.input)?,
-    );
+    let mut store = store_of(alloc, files, failing.store)?;
+    let mut input = input_of(alloc, records, failing.input)?;
     let mut out = MemSink::new(alloc, 10, failing_at(alloc, failing.out)?);
     let words = words_of(alloc, words)?;
     let outcome = plain(alloc, words.as_slice(), &mut store, &mut input, &mut out);
     let is_unread = input.left() == records;
     Ok(Ran {
         outcome,
+        store,
         out,
         is_unread,
     })
 }
 
+// A run of the first example with one of its calls failing.
+fn first(alloc: Global, failing: &Failing) -> Result<Ran, OutOfMemory> {
+    run(alloc, WORDS, &[("fc", SPECS)], RECORDS, failing)
+}
+
 #[test]
-fn a_failing_call_is_told(rt: HostRuntime) -> Result<(), Fail> {
-    let files: &[(&str, &[u8])] = &[("fc", SPECS)];
-    let line = b"relabel: read failed\n".as_slice();
-    let local = run(
-        rt.alloc(),
-        WORDS,
-        files,
-        RECORDS,
-        &Failing {
-            store: 3,
-            ..NONE_FAILS
-        },
-    )?;
-    assert!(rt; local.ended(253, line) && local.is_unread);
-    let input = run(
-        rt.alloc(),
-        WORDS,
-        files,
-        RECORDS,
-        &Failing {
-            input: 1,
-            ..NONE_FAILS
-        },
-    )?;
-    assert!(rt; input.ended(253, line));
-    let out = run(
-        rt.alloc(),
-        WORDS,
-        files,
-        RECORDS,
-        &Failing {
-            out: 2,
-            ..NONE_FAILS
-        },
-    )?;
-    assert!(rt; out.ended(252, b"Would rela"));
+fn a_failing_read_of_a_file_is_told_before_the_input(rt: HostRuntime) -> Result<(), Fail> {
+    let third = Failing {
+        store: 3,
+        ..NONE_FAILS
+    };
+    let ran = first(rt.alloc(), &third)?;
+    assert!(rt; ran.refused(253, b"relabel: read failed\n"));
     Ok(())
 }
 
-/// Base files that are refused, and what stands behind their name in the line.
+#[test]
+fn a_failing_read_of_the_input_is_told(rt: HostRuntime) -> Result<(), Fail> {
+    let at_once = Failing {
+        input: 1,
+        ..NONE_FAILS
+    };
+    assert!(rt; first(rt.alloc(), &at_once)?.ended(253, b"relabel: read failed\n"));
+    Ok(())
+}
+
+#[test]
+fn a_failing_write_of_the_report_leaves_a_front_of_it(rt: HostRuntime) -> Result<(), Fail> {
+    let second = Failing {
+        out: 2,
+        ..NONE_FAILS
+    };
+    assert!(rt; first(rt.alloc(), &second)?.ended(252, b"Would rela"));
+    Ok(())
+}
+
+/// Words that are refused, and what stands behind `relabel: usage: word `.
+const REFUSED_WORDS: &[(&[&str], &[u8])] = &[
+    (&[], b"relabel: usage: word 0: unknown tool\n"),
+    (&["setfile"], b"relabel: usage: word 0: unknown tool\n"),
+    (
+        &["setfiles", "-n", "-q", "fc", "/"],
+        b"relabel: usage: word 2: unknown option\n",
+    ),
+    (
+        &["setfiles", "-ne"],
+        b"relabel: usage: word 1: missing value\n",
+    ),
+    (
+        &["setfiles", "-n", "-T", "65", "fc", "/"],
+        b"relabel: usage: word 3: bad number\n",
+    ),
+    (
+        &["restorecon", "-n", "etc"],
+        b"relabel: usage: word 2: bad path\n",
+    ),
+    (
+        &["matchpathcon", "-m", "door", "/"],
+        b"relabel: usage: word 2: bad type\n",
+    ),
+    (
+        &["setfiles", "-n", "fc"],
+        b"relabel: usage: word 3: missing operand\n",
+    ),
+    (
+        &["setfiles", "fc", "/"],
+        b"relabel: usage: word 3: needs -n or -o\n",
+    ),
+    (
+        &["restorecon", "-nD", "/"],
+        b"relabel: usage: word 1: not yet\n",
+    ),
+];
+
+#[test]
+fn each_refusal_of_words_is_told_before_all_else(rt: HostRuntime) -> Result<(), Fail> {
+    for (words, line) in REFUSED_WORDS {
+        let ran = run(rt.alloc(), *words, &[], RECORDS, &NONE_FAILS)?;
+        assert!(rt; ran.refused(255, *line), "at {line:?}");
+    }
+    Ok(())
+}
+
+/// Base files that are refused, and their line.
 const REFUSED: &[(&[u8], &[u8])] = &[
     (b"[ u:r:a_t", b"relabel: fc: line 1: pattern: syntax at 0\n"),
     (
@@ -158,49 +228,269 @@ const REFUSED: &[(&[u8], &[u8])] = &[
 fn each_refused_base_file_is_told_before_the_input(rt: HostRuntime) -> Result<(), Fail> {
     for (specs, line) in REFUSED {
         let ran = run(rt.alloc(), WORDS, &[("fc", *specs)], RECORDS, &NONE_FAILS)?;
-        assert!(rt; ran.ended(255, *line) && ran.is_unread, "at {line:?}");
+        assert!(rt; ran.refused(255, *line), "at {line:?}");
+    }
+    Ok(())
+}
+
+/// Files that are refused, and their line.
+const REFUSED_FILES: &[(&[(&str, &[u8])], &[u8])] = &[
+    (&[], b"relabel: fc: not found\n"),
+    (
+        &[("fc", SPECS), ("fc.subs_dist", b"/a /b\n/ /c\n")],
+        b"relabel: fc.subs_dist: line 2: not a substitution\n",
+    ),
+    (
+        &[("fc", SPECS), (TYPES, b"# types\nhome_t\nhome_t etc_t\n")],
+        b"relabel: /etc/selinux/targeted/contexts/customizable_types: line 3: not a type\n",
+    ),
+];
+
+#[test]
+fn other_refused_files_are_told_before_the_input(rt: HostRuntime) -> Result<(), Fail> {
+    for (files, line) in REFUSED_FILES {
+        let ran = run(rt.alloc(), WORDS, *files, RECORDS, &NONE_FAILS)?;
+        assert!(rt; ran.refused(255, *line), "at {line:?}");
+    }
+    Ok(())
+}
+
+const KEPT_WORDS: &[&str] = &["restorecon", "-S", "fc", "-K", "k", "-o", "out", "/srv/b"];
+
+const VAR_SPECS: &[u8] = b"/srv/.* system_u:object_r:var_t:s0\n";
+
+/// Files of stored digests that are refused, and their line.
+const REFUSED_DUMPS: &[(&[u8], &[u8])] = &[
+    (b"# file:", b"relabel: k: line 1: no section\n"),
+    (b"# file: a\\8", b"relabel: k: line 1: bad name\n"),
+    (
+        b"# file: a\nsecurity.selinux",
+        b"relabel: k: line 2: no value\n",
+    ),
+    (
+        b"# file: a\nsecurity.sehash=0xA",
+        b"relabel: k: line 2: bad value\n",
+    ),
+];
+
+#[test]
+fn each_refused_dump_is_told_before_the_input(rt: HostRuntime) -> Result<(), Fail> {
+    for (dump, line) in REFUSED_DUMPS {
+        let files: &[(&str, &[u8])] = &[("fc", VAR_SPECS), ("k", *dump)];
+        let ran = run(rt.alloc(), KEPT_WORDS, files, RECORDS, &NONE_FAILS)?;
+        assert!(rt; ran.refused(255, *line), "at {line:?}");
     }
     Ok(())
 }
 
 #[test]
-fn other_refusals_are_told_before_the_input(rt: HostRuntime) -> Result<(), Fail> {
-    let alloc = rt.alloc();
-    let subs: &[(&str, &[u8])] = &[("fc", SPECS), ("fc.subs_dist", b"/a /b\n/ /c\n")];
-    let ran = run(alloc, WORDS, subs, RECORDS, &NONE_FAILS)?;
-    let line = b"relabel: fc.subs_dist: line 2: not a substitution\n".as_slice();
-    assert!(rt; ran.ended(255, line) && ran.is_unread);
-    let ran = run(alloc, WORDS, &[], RECORDS, &NONE_FAILS)?;
-    assert!(rt; ran.ended(255, b"relabel: fc: not found\n") && ran.is_unread);
-    let ran = run(alloc, &["setfile"], &[], RECORDS, &NONE_FAILS)?;
-    let line = b"relabel: usage: word 0: unknown tool\n".as_slice();
-    assert!(rt; ran.ended(255, line) && ran.is_unread);
-    let ran = run(alloc, &["setfiles", "-n"], &[], RECORDS, &NONE_FAILS)?;
-    let line = b"relabel: usage: word 2: not yet\n".as_slice();
-    assert!(rt; ran.ended(255, line) && ran.is_unread);
+fn stored_digests_are_read_last_and_must_be_there(rt: HostRuntime) -> Result<(), Fail> {
+    let files: &[(&str, &[u8])] = &[("fc", VAR_SPECS)];
+    let ran = run(rt.alloc(), KEPT_WORDS, files, RECORDS, &NONE_FAILS)?;
+    assert!(rt; ran.refused(255, b"relabel: k: not found\n") && ran.lacks("out"));
+    Ok(())
+}
+
+const ROW_WORDS: &[&str] = &["restorecon", "-v", "-S", "fc", "-o", "out", "/srv/b"];
+
+const ROW_RECORDS: &[u8] = b"f 1 21 unconfined_u:object_r:tmp_t:s0-s0:c0.c1023 /srv/b\0";
+
+const ROW_REPORT: &[u8] =
+    b"Relabeled /srv/b from unconfined_u:object_r:tmp_t:s0-s0:c0.c1023 to unconfined_u:object_r:var_t:s0-s0:c0.c1023\n";
+
+const ROW_DUMP: &[u8] =
+    b"# file: /srv/b\nsecurity.selinux=\"unconfined_u:object_r:var_t:s0-s0:c0.c1023\"\n\n";
+
+// A run that writes a dump over an old one, beside another file.
+fn dumped(alloc: Global, failing: &Failing) -> Result<Ran, OutOfMemory> {
+    let files: &[(&str, &[u8])] = &[("fc", VAR_SPECS), ("out", b"old"), ("other", b"kept")];
+    run(alloc, ROW_WORDS, files, ROW_RECORDS, failing)
+}
+
+#[test]
+fn a_dump_is_written_to_its_file_alone(rt: HostRuntime) -> Result<(), Fail> {
+    let ran = dumped(rt.alloc(), &NONE_FAILS)?;
+    assert!(rt; ran.ended(0, ROW_REPORT) && ran.has("out", ROW_DUMP));
+    assert!(rt; ran.has("other", b"kept"));
     Ok(())
 }
 
 #[test]
-fn a_refused_file_of_types_is_told_before_the_input(rt: HostRuntime) -> Result<(), Fail> {
-    let files: &[(&str, &[u8])] = &[("fc", SPECS), (TYPES, b"# types\nhome_t\nhome_t etc_t\n")];
-    let ran = run(rt.alloc(), WORDS, files, RECORDS, &NONE_FAILS)?;
-    let line =
-        b"relabel: /etc/selinux/targeted/contexts/customizable_types: line 3: not a type\n".as_slice();
-    assert!(rt; ran.ended(255, line) && ran.is_unread);
+fn a_failing_read_leaves_the_dump(rt: HostRuntime) -> Result<(), Fail> {
+    for call in 1..7u64 {
+        let failing = Failing {
+            store: call,
+            ..NONE_FAILS
+        };
+        let ran = dumped(rt.alloc(), &failing)?;
+        assert!(rt; ran.refused(253, b"relabel: read failed\n") && ran.has("out", b"old"));
+    }
+    Ok(())
+}
+
+#[test]
+fn a_failing_write_of_the_dump_is_told_in_place_of_the_report(rt: HostRuntime) -> Result<(), Fail> {
+    let seventh = Failing {
+        store: 7,
+        ..NONE_FAILS
+    };
+    let ran = dumped(rt.alloc(), &seventh)?;
+    assert!(rt; ran.ended(252, b"relabel: write failed\n") && ran.has("other", b"kept"));
+    Ok(())
+}
+
+#[test]
+fn a_dump_stands_where_the_report_is_not_written(rt: HostRuntime) -> Result<(), Fail> {
+    let first = Failing {
+        out: 1,
+        ..NONE_FAILS
+    };
+    let ran = dumped(rt.alloc(), &first)?;
+    assert!(rt; ran.ended(252, b"") && ran.has("out", ROW_DUMP));
+    Ok(())
+}
+
+#[test]
+fn a_dry_run_writes_an_empty_dump(rt: HostRuntime) -> Result<(), Fail> {
+    let words = &["restorecon", "-n", "-S", "fc", "-o", "out", "/srv/b"];
+    let files: &[(&str, &[u8])] = &[("fc", VAR_SPECS), ("out", b"old")];
+    let ran = run(rt.alloc(), words, files, ROW_RECORDS, &NONE_FAILS)?;
+    assert!(rt; ran.ended(0, b"") && ran.has("out", b""));
+    Ok(())
+}
+
+#[test]
+fn labels_that_stay_give_an_empty_dump(rt: HostRuntime) -> Result<(), Fail> {
+    let words = &["restorecon", "-R", "-v", "-S", "fc", "-o", "d1", "/srv"];
+    let files: &[(&str, &[u8])] = &[("fc", b"/srv(/.*)? system_u:object_r:var_t:s0\n")];
+    let records =
+        b"d 1 30 system_u:object_r:var_t:s0 /srv\0f 1 32 system_u:object_r:var_t:s0 /srv/f\0";
+    let ran = run(rt.alloc(), words, files, records, &NONE_FAILS)?;
+    assert!(rt; ran.ended(0, b"") && ran.has("d1", b""));
+    Ok(())
+}
+
+const VOIDED: &[u8] =
+    b"# file: /srv\nsecurity.sehash=0x0000000000000000000000000000000000000000\n\n# file: /srv/b\nsecurity.selinux=\"unconfined_u:object_r:var_t:s0-s0:c0.c1023\"\n\n";
+
+#[test]
+fn a_stored_digest_is_voided_where_a_label_below_changes(rt: HostRuntime) -> Result<(), Fail> {
+    let files: &[(&str, &[u8])] = &[
+        ("fc", VAR_SPECS),
+        ("k", b"# file: srv\nsecurity.sehash=0xAB\n\n"),
+    ];
+    let records =
+        b"d 1 9 system_u:object_r:var_t:s0 /srv\0f 1 21 unconfined_u:object_r:tmp_t:s0-s0:c0.c1023 /srv/b\0";
+    let ran = run(rt.alloc(), KEPT_WORDS, files, records, &NONE_FAILS)?;
+    assert!(rt; ran.ended(0, b"") && ran.has("out", VOIDED));
     Ok(())
 }
 
 #[test]
 fn types_are_read_last(rt: HostRuntime) -> Result<(), Fail> {
-    let files: &[(&str, &[u8])] = &[("fc", SPECS), (TYPES, b"home_t\n")];
     let sixth = Failing {
         store: 6,
         ..NONE_FAILS
     };
-    let ran = run(rt.alloc(), WORDS, files, RECORDS, &sixth)?;
-    assert!(rt; ran.ended(253, b"relabel: read failed\n") && ran.is_unread);
-    assert!(rt; run(rt.alloc(), WORDS, files, RECORDS, &NONE_FAILS)?.ended(0, REPORT));
+    let ran = first(rt.alloc(), &sixth)?;
+    assert!(rt; ran.refused(253, b"relabel: read failed\n"));
+    Ok(())
+}
+
+#[test]
+fn customizable_types_are_kept_without_force(rt: HostRuntime) -> Result<(), Fail> {
+    let words = &["restorecon", "-n", "-v", "-S", "fc", "/srv/a"];
+    let files: &[(&str, &[u8])] = &[("fc", VAR_SPECS), (TYPES, b"public_content_t\n")];
+    let records = b"f 1 20 u:r:public_content_t:s0 /srv/a\0";
+    let ran = run(rt.alloc(), words, files, records, &NONE_FAILS)?;
+    let line = b"/srv/a not reset as customized by admin to u:r:public_content_t:s0\n".as_slice();
+    assert!(rt; ran.ended(0, line));
+    Ok(())
+}
+
+const LOOKUP_SPECS: &[u8] = b"/etc/foo\\.conf u:r:foo_t:s0\n/etc/.* u:r:etc_t:s0\n";
+
+// Matchpathcon, of which only the first five reads of the store may fail.
+#[test]
+fn a_lookup_reads_no_types_and_no_records(rt: HostRuntime) -> Result<(), Fail> {
+    let words = &["matchpathcon", "-f", "fc", "/etc/foo.conf", "/x"];
+    let files: &[(&str, &[u8])] = &[("fc", LOOKUP_SPECS), (TYPES, b"not a type\n")];
+    let later = Failing {
+        store: 6,
+        input: 1,
+        ..NONE_FAILS
+    };
+    let ran = run(rt.alloc(), words, files, RECORDS, &later)?;
+    let lines = b"/etc/foo.conf\tu:r:foo_t:s0\n/x\t<<none>>\n".as_slice();
+    assert!(rt; ran.refused(0, lines));
+    Ok(())
+}
+
+#[test]
+fn a_lookup_compares_with_the_records(rt: HostRuntime) -> Result<(), Fail> {
+    let words = &[
+        "matchpathcon",
+        "-V",
+        "-f",
+        "fc",
+        "/srv/a",
+        "/srv/b",
+        "/srv/c",
+    ];
+    let files: &[(&str, &[u8])] = &[("fc", VAR_SPECS)];
+    let records =
+        b"f 1 60 unconfined_u:object_r:var_t:s0 /srv/a\0f 1 61 system_u:object_r:tmp_t:s0 /srv/b\0";
+    let ran = run(rt.alloc(), words, files, records, &NONE_FAILS)?;
+    let lines =
+        b"/srv/a verified.\n/srv/b has context system_u:object_r:tmp_t:s0, should be system_u:object_r:var_t:s0\n/srv/c has no record\n".as_slice();
+    assert!(rt; ran.ended(1, lines));
+    assert!(rt; matches!(&ran.outcome.cause, Cause::Differs { count: 2 }));
+    Ok(())
+}
+
+#[test]
+fn a_specification_that_decides_nothing_is_told(rt: HostRuntime) -> Result<(), Fail> {
+    let words = &["setfiles", "-n", "-W", "fc", "/etc"];
+    let files: &[(&str, &[u8])] = &[("fc", b"/etc(/.*)? u:r:etc_t:s0\n/opt/.* -d u:r:opt_t:s0\n")];
+    let ran = run(
+        rt.alloc(),
+        words,
+        files,
+        b"d 1 7 u:r:etc_t:s0 /etc\0",
+        &NONE_FAILS,
+    )?;
+    let line = b"Warning! No matches for (/opt/.*, -d, u:r:opt_t:s0)\n".as_slice();
+    assert!(rt; ran.ended(0, line));
+    Ok(())
+}
+
+#[test]
+fn options_may_stand_in_one_word(rt: HostRuntime) -> Result<(), Fail> {
+    let words = &["setfiles", "-nvFT2", "fc", "/"];
+    let ran = run(rt.alloc(), words, &[("fc", SPECS)], RECORDS, &NONE_FAILS)?;
+    assert!(rt; ran.ended(0, REPORT));
+    Ok(())
+}
+
+/// Words of runs that meet an error, and their status.
+const ERRORS: &[(&[&str], u8)] = &[
+    (&["setfiles", "-n", "fc", "/etc"], 255),
+    (&["setfiles", "-nC", "fc", "/etc"], 1),
+];
+
+#[test]
+fn errors_of_the_walk_may_be_soft(rt: HostRuntime) -> Result<(), Fail> {
+    for (words, status) in ERRORS {
+        let ran = run(
+            rt.alloc(),
+            *words,
+            &[("fc", b"# nothing\n")],
+            b"",
+            &NONE_FAILS,
+        )?;
+        assert!(rt; ran.ended(*status, b"no record for /etc\n"), "at {status}");
+        assert!(rt; matches!(&ran.outcome.cause, Cause::WalkErrors { count: 1 }));
+    }
     Ok(())
 }
 
@@ -231,11 +521,16 @@ fn each_refused_input_is_told(rt: HostRuntime) -> Result<(), Fail> {
     Ok(())
 }
 
+fn long_record(alloc: Global) -> Result<Bytes, OutOfMemory> {
+    let mut record = Bytes::copy_of(alloc, b"f 1 5 ? /")?;
+    record.push([b'x'; 4095].as_slice())?;
+    record.push(b"\0")?;
+    Ok(record)
+}
+
 #[test]
 fn a_path_of_a_record_past_its_limit(rt: HostRuntime) -> Result<(), Fail> {
-    let mut records = Bytes::copy_of(rt.alloc(), b"f 1 5 ? /")?;
-    records.push([b'x'; 4095].as_slice())?;
-    records.push(b"\0")?;
+    let records = long_record(rt.alloc())?;
     let files: &[(&str, &[u8])] = &[("fc", SPECS)];
     let ran = run(rt.alloc(), WORDS, files, records.as_slice(), &NONE_FAILS)?;
     assert!(rt; ran.ended(255, b"relabel: record 1: path: too long\n"));
@@ -253,24 +548,11 @@ fn records_past_their_limit(rt: HostRuntime) -> Result<(), Fail> {
 
 #[test]
 fn bytes_past_their_limit_have_a_line(rt: HostRuntime) -> Result<(), Fail> {
-    let names = FileNames::beside(rt.alloc(), "fc")?;
     let cause = Cause::Limit {
         which: LimitKind::RecordBytes,
     };
-    let line = refusal_line(rt.alloc(), &names, &cause)?;
-    assert_eq!(rt;
-        line.as_slice(),
-        b"relabel: limit: bytes of input\n".as_slice()
-    );
-    Ok(())
-}
-
-#[test]
-fn a_tree_without_its_root_is_an_error(rt: HostRuntime) -> Result<(), Fail> {
-    let files: &[(&str, &[u8])] = &[("fc", SPECS)];
-    let ran = run(rt.alloc(), WORDS, files, b"f 1 5 ? /a\0", &NONE_FAILS)?;
-    assert!(rt; ran.ended(255, b"no record for /\n"));
-    assert!(rt; matches!(&ran.outcome.cause, Cause::WalkErrors { count: 1 }));
+    let line = refusal_line(rt.alloc(), &FileNames::none(rt.alloc()), &cause)?;
+    assert!(rt; line.as_slice() == b"relabel: limit: bytes of input\n".as_slice());
     Ok(())
 }
 
@@ -285,7 +567,7 @@ fn one_entry_given_twice(rt: HostRuntime) -> Result<(), Fail> {
 
 fn repeated(alloc: Global, line: &[u8], count: u32) -> Result<Bytes, OutOfMemory> {
     let mut text = Bytes::new(alloc);
-    for _ in 0..count {
+    'lines: for _ in 0..count {
         text.push(line)?;
     }
     Ok(text)
@@ -304,7 +586,12 @@ fn with_specs(alloc: Global, count: u32) -> Result<Ran, OutOfMemory> {
 #[test]
 fn specifications_of_three_files_are_counted_together(rt: HostRuntime) -> Result<(), Fail> {
     let ran = with_specs(rt.alloc(), 65_536)?;
-    assert!(rt; ran.ended(255, b"relabel: limit: specifications\n") && ran.is_unread);
+    assert!(rt; ran.refused(255, b"relabel: limit: specifications\n"));
+    Ok(())
+}
+
+#[test]
+fn as_many_specifications_as_there_may_be(rt: HostRuntime) -> Result<(), Fail> {
     assert!(rt; with_specs(rt.alloc(), 65_535)?.ended(0, REPORT));
     Ok(())
 }
@@ -318,20 +605,31 @@ fn with_feeds(alloc: Global, count: u32) -> Result<Ran, OutOfMemory> {
 #[test]
 fn a_substitution_file_past_its_limit(rt: HostRuntime) -> Result<(), Fail> {
     let ran = with_feeds(rt.alloc(), 1_048_577)?;
-    assert!(rt; ran.ended(255, b"relabel: limit: bytes of fc.subs\n") && ran.is_unread);
-    assert!(rt; with_feeds(rt.alloc(), 1_048_576)?.ended(0, REPORT));
+    assert!(rt; ran.refused(255, b"relabel: limit: bytes of fc.subs\n"));
     Ok(())
 }
 
 #[test]
-fn the_top_call_answers_as_the_plain_one(rt: HostRuntime) -> Result<(), Fail> {
-    let alloc = rt.alloc();
-    let mut store = MemStore::new(alloc, Row::new(alloc));
-    store.put(alloc, "fc", SPECS)?;
-    let mut input = MemSource::new(Bytes::copy_of(alloc, RECORDS)?, 7, Row::new(alloc));
+fn a_substitution_file_at_its_limit(rt: HostRuntime) -> Result<(), Fail> {
+    assert!(rt; with_feeds(rt.alloc(), 1_048_576)?.ended(0, REPORT));
+    Ok(())
+}
+
+// The status of the first example by the top call, or none where it wrote something else.
+fn by_top(alloc: Global) -> Result<Option<u8>, OutOfMemory> {
+    let mut store = store_of(alloc, &[("fc", SPECS)], 0)?;
+    let mut input = input_of(alloc, RECORDS, 0)?;
     let mut out = MemSink::new(alloc, 7, Row::new(alloc));
     let words = words_of(alloc, WORDS)?;
     let outcome = top(alloc, words.as_slice(), 4, &mut store, &mut input, &mut out);
-    assert!(rt; outcome.status == 0 && out.written() == REPORT);
+    if out.written() == REPORT {
+        return Ok(Some(outcome.status));
+    }
+    Ok(None)
+}
+
+#[test]
+fn the_top_call_answers_as_the_plain_one(rt: HostRuntime) -> Result<(), Fail> {
+    assert_eq!(rt; by_top(rt.alloc())?, Some(0));
     Ok(())
 }

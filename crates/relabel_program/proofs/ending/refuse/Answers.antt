@@ -12,7 +12,5 @@ pub returns-in-Err : goal.returns-in-Err
 returns-in-Err g c =
     record {
       cause = inr c.give_up-in-Err.ensures.cause;
-      status = c.give_up-in-Err.ensures.status;
       told = subst (λ (k : Cause). LineOrFront g.O.Sink.written g.O.Sink.faults c.args.out.now c.give_up-in-Err.new.out (fault_line c.args.names.now k)) (sym c.give_up-in-Err.ensures.cause) (c.give_up-in-Err.ensures.told c.args.names.now);
-      later = c.give_up-in-Err.ensures.later;
     }

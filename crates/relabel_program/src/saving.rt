@@ -1,0 +1,19 @@
+ghost use Rattle.std.specs.Prelude.{◌≡◌};
+ghost use Rattle.label_base.specs.Store.{SaveCounts};
+ghost use Rattle.relabel_program.specs.Run.{Saves};
+
+use crate::told::Told;
+use label_base::{SaveFault, Store};
+use std::alloc::Global;
+
+/// Writes the dump to its file, where one is asked for.
+pub fn save<S: Store>(alloc: Global, told: &Told, store: &mut S) -> Result<(), SaveFault>
+    ensures files { Saves (S.files store.old) (S.files store.new) told.now.saved result }
+    ensures counts { SaveCounts (S.write_faults store.old) (S.write_faults store.new) result }
+    ensures reads { S.read_faults store.new ≡ S.read_faults store.old }
+{
+    match &told.saved {
+        None => Ok(()),
+        Some(saved) => store.write_file(alloc, saved.name.as_str(), saved.text.as_slice()),
+    }
+}

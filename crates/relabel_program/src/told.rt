@@ -1,0 +1,210 @@
+ghost use Rattle.std.specs.Prelude.{◌≡◌, ◌+◌, ◌-◌, ◌<◌, ◌≤◌, ◌^◌, IfOk, length};
+ghost use Rattle.setfattr_dump.specs.Texts.{dump_text};
+ghost use Rattle.relabel_core.specs.Answer.{walk_in};
+ghost use Rattle.relabel_core.specs.Changes.{changes};
+ghost use Rattle.relabel_program.specs.Asked.{paths_in};
+ghost use Rattle.relabel_program.specs.Answer.{lookup_end, saved_as, told_by, told_by_looking_up, told_by_lookup, told_by_verifying, told_by_walk, told_of, walk_end};
+
+use crate::policy::Policy;
+use label_base::{Bytes, Name, OutOfMemory};
+use relabel_core::{
+    Stored, Walked, add_found_report, add_verified_report, walk_input, walk_uncounted,
+};
+use std::alloc::Global;
+use tool_words::{Command, LookupWords, RelabelWords};
+use tree_model::Tree;
+
+/// How a run ends that writes its report.
+#[derive(Clone, Copy, Debug, PartialEq, Eq)]
+pub enum End {
+    /// Nothing was amiss.
+    Done,
+    /// The walk met so many errors.
+    WalkErrors { count: u32 },
+    /// So many paths have another label than they should have, or no record.
+    Differs { count: u32 },
+}
+
+/// A text that goes to a file.
+#[derive(Debug, Drop)]
+pub struct Saved {
+    /// The name of the file.
+    pub name: Name,
+    pub text: Bytes,
+}
+
+/// What a command tells.
+#[derive(Debug, Drop)]
+pub struct Told {
+    /// The lines of the report.
+    pub report: Bytes,
+    pub end: End,
+    /// The dump, where one is asked for.
+    pub saved: Option<Saved>,
+}
+
+fn walk_end(errors: u32) -> End
+    ensures { result ≡ walk_end errors }
+{
+    if errors == 0 {
+        End::Done
+    } else {
+        End::WalkErrors { count: errors }
+    }
+}
+
+fn lookup_end(count: u32) -> End
+    ensures { result ≡ lookup_end count }
+{
+    if count == 0 {
+        End::Done
+    } else {
+        End::Differs { count }
+    }
+}
+
+// The dump of a walk, for the file of `-o`.
+fn saved_by(alloc: Global, output: &Name, walked: &Walked<'_>) -> Result<Saved, OutOfMemory>
+    ensures { IfOk result (λ saved. saved ≡ record {
+      name = output.now;
+      text = dump_text (changes (walk_in walked.now));
+    }) }
+{
+    let mut text = Bytes::new(alloc);
+    walked.add_dump(alloc, &mut text)?;
+    Ok(Saved {
+        name: Name::copy_of(alloc, output.as_str())?,
+        text,
+    })
+}
+
+fn saved_as(
+    alloc: Global,
+    output: &Option<Name>,
+    walked: &Walked<'_>,
+) -> Result<Option<Saved>, OutOfMemory>
+    ensures { IfOk result (λ saved. saved
+        ≡ saved_as output.now (dump_text (changes (walk_in walked.now)))) }
+{
+    match output {
+        None => Ok(None),
+        Some(name) => Ok(Some(saved_by(alloc, name, walked)?)),
+    }
+}
+
+fn tell(alloc: Global, output: &Option<Name>, walked: &Walked<'_>) -> Result<Told, OutOfMemory>
+    ensures { IfOk result (λ told. told ≡ told_of output.now (walk_in walked.now)) }
+{
+    let mut report = Bytes::new(alloc);
+    walked.add_report(alloc, &mut report)?;
+    let saved = saved_as(alloc, output, walked)?;
+    Ok(Told {
+        report,
+        end: walk_end(walked.errors()),
+        saved,
+    })
+}
+
+// What setfiles and restorecon tell.
+#[tactic(auto, unfolding(crate::specs::Answer::told_by_walk))]
+fn tell_walk(
+    alloc: Global,
+    words: &RelabelWords,
+    policy: &Policy,
+    tree: &Tree,
+) -> Result<Told, OutOfMemory>
+    requires tree { length tree.now < 2 ^ 31 }
+    requires words { length words.now.choice.operands < 2 ^ 31 }
+    ensures { IfOk result (λ told. told ≡ told_by_walk words.now policy.now tree.now) }
+{
+    let chosen = tree.select(alloc, &words.choice)?;
+    let stored = Stored::new(alloc, tree, &policy.kept)?;
+    let input = walk_input(
+        tree,
+        &words.choice,
+        &chosen,
+        &policy.rules,
+        words.options,
+        &stored,
+    );
+    let walked = walk_uncounted(alloc, &input)?;
+    tell(alloc, &words.output, &walked)
+}
+
+fn tell_found(alloc: Global, words: &LookupWords, policy: &Policy) -> Result<Told, OutOfMemory>
+    ensures { IfOk result (λ told. told ≡ told_by_looking_up words.now policy.now) }
+{
+    let mut report = Bytes::new(alloc);
+    add_found_report(
+        alloc,
+        &policy.rules,
+        words.paths.as_slice(),
+        words.asked,
+        words.bare,
+        &mut report,
+    )?;
+    Ok(Told {
+        report,
+        end: End::Done,
+        saved: None,
+    })
+}
+
+fn tell_verified(
+    alloc: Global,
+    words: &LookupWords,
+    policy: &Policy,
+    tree: &Tree,
+) -> Result<Told, OutOfMemory>
+    requires { length words.now.paths < 2 ^ 31 }
+    ensures { IfOk result (λ told. told ≡ told_by_verifying words.now policy.now tree.now) }
+{
+    let mut report = Bytes::new(alloc);
+    let count = add_verified_report(
+        alloc,
+        &policy.rules,
+        tree,
+        words.paths.as_slice(),
+        words.asked,
+        &mut report,
+    )?;
+    Ok(Told {
+        report,
+        end: lookup_end(count),
+        saved: None,
+    })
+}
+
+// What matchpathcon tells.
+#[tactic(auto, unfolding(crate::specs::Answer::told_by_lookup))]
+fn tell_lookup(
+    alloc: Global,
+    words: &LookupWords,
+    policy: &Policy,
+    tree: &Tree,
+) -> Result<Told, OutOfMemory>
+    requires { length words.now.paths < 2 ^ 31 }
+    ensures { IfOk result (λ told. told ≡ told_by_lookup words.now policy.now tree.now) }
+{
+    if words.verify {
+        return tell_verified(alloc, words, policy, tree);
+    }
+    tell_found(alloc, words, policy)
+}
+
+/// What a command tells. All texts are made here; none is written.
+pub fn tell_command(
+    alloc: Global,
+    command: &Command,
+    policy: &Policy,
+    tree: &Tree,
+) -> Result<Told, OutOfMemory>
+    requires tree { length tree.now < 2 ^ 31 }
+    requires words { length (paths_in command.now) < 2 ^ 31 }
+    ensures { IfOk result (λ told. told ≡ told_by command.now policy.now tree.now) }
+{
+    match command {
+        Command::Relabel(words) => tell_walk(alloc, words, policy, tree),
+        Command::Lookup(words) => tell_lookup(alloc, words, policy, tree),
+    }
+}
