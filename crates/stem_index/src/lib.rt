@@ -2,10 +2,12 @@
 #![tactic(auto)]
 
 mod candidates;
+mod laws;
 mod stem;
 mod stem_index;
 
 pub use candidates::Candidates;
+pub use laws::candidates_fit;
 pub use stem_index::StemIndex;
 
 #[cfg(test)]

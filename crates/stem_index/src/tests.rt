@@ -1,4 +1,4 @@
-use crate::StemIndex;
+use crate::{StemIndex, candidates_fit};
 use label_base::NormPath;
 use std::alloc::Global;
 use std::test::Fail;
@@ -31,6 +31,7 @@ fn has_candidates(alloc: Global, index: &StemIndex, path: &[u8], wanted: &[u32])
 
 #[test]
 fn tells_candidates(rt: HostRuntime) -> Result<(), Fail> {
+    candidates_fit();
     let index = small_index(rt.alloc())?;
     assert!(rt; has_candidates(rt.alloc(), &index, b"/usr/lib", [4, 3, 1, 0].as_slice()));
     assert!(rt; has_candidates(rt.alloc(), &index, b"/etc", [3, 2, 1].as_slice()));
