@@ -1,8 +1,10 @@
 -- What the tests of the numbers below a bound tell.
-use Rattle.std.proofs.Common.{ap₂, sym, refl, subst, ℕ, zero, suc, ◌<◌, Bool, true, false, ◌⊎◌, ◌||◌, Option, Some, None, inl, inr, arith}
+use Rattle.std.proofs.Common.{ap₂, sym, refl, subst, ℕ, zero, suc, ◌<◌, ◌≤◌, cond, Bool, true, false, ◌⊎◌, ◌||◌, Option, Some, None, inl, inr, arith}
 use Rattle.std.proofs.lemmas.Bool.{and_parts, or_cases, or_parts, or_from, or_left, or_right, cases_lt}
+use Rattle.std.specs.Prelude.{IfSome, nat_lt}
+use Rattle.std.proofs.lemmas.Bool.Decides.{nat_tests}
 use Rattle.std.proofs.Common.{◌≡◌, ◌∙◌, ap, [], ◌∷◌, length, length-append, ◌&&◌}
-use Rattle.label_base.specs.Bounded.{all_below, all_numbers, any_below, found_or, greatest_below, last_or_found, least_below, implies}
+use Rattle.label_base.specs.Bounded.{all_below, all_numbers, any_below, found_or, greater, greatest_below, last_or_found, least_below, implies}
 
 pub implies_at : (a b : Bool) → implies a b ≡ true → a ≡ true → b ≡ true
 implies_at true b h e = h
@@ -111,6 +113,79 @@ greatest_is (suc n) p k l h f =
       | inl lt ↦ ap₂ (λ o b. last_or_found o n b) (greatest_is n p k lt h (λ j a b. f j a (omega arith))) (f n lt (omega arith))
       | inr same ↦ ap (λ b. last_or_found (greatest_below n p) n b) (subst (λ i. p i ≡ true) (sym same) h) ∙ ap Some same
     ]
+
+-- what the greatest number is: it passes, and none behind it does; without one, none does
+abbrev pub IsGreatest : ℕ → (ℕ → Bool) → Option ℕ → Type 0
+IsGreatest n p None = (j : ℕ) → j < n → p j ≡ false
+IsGreatest n p (Some k) = (k < n) × (p k ≡ true) × ((j : ℕ) → k < j → j < n → p j ≡ false)
+
+one_more_greatest : (n : ℕ) (p : ℕ → Bool) (found : Option ℕ) (b : Bool) → p n ≡ b → IsGreatest n p found → IsGreatest (suc n) p (last_or_found found n b)
+one_more_greatest n p found true e r = (omega arith, e, λ j a b. absurd (omega arith))
+one_more_greatest n p (Some i) false e r = (
+  omega (arith, r.0),
+  r.1,
+  λ j a b. elim (at_or_below n j b) [ inl lt ↦ r.2 j a lt | inr same ↦ subst (λ i. p i ≡ false) same e ],
+)
+one_more_greatest n p None false e r = λ j l. elim (at_or_below n j l) [ inl lt ↦ r j lt | inr same ↦ subst (λ i. p i ≡ false) same e ]
+
+pub greatest_told : (n : ℕ) (p : ℕ → Bool) → IsGreatest n p (greatest_below n p)
+greatest_told zero p = λ j l. absurd (omega arith)
+greatest_told (suc n) p = one_more_greatest n p (greatest_below n p) (p n) refl (greatest_told n p)
+
+bound_of : (n : ℕ) (p : ℕ → Bool) (found : Option ℕ) → IsGreatest n p found → IfSome found (λ k. k < n)
+bound_of n p None r = tt
+bound_of n p (Some k) r = r.0
+
+pub greatest_bound : (n : ℕ) (p : ℕ → Bool) → IfSome (greatest_below n p) (λ k. k < n)
+greatest_bound n p = bound_of n p (greatest_below n p) (greatest_told n p)
+
+passes_of : (n : ℕ) (p : ℕ → Bool) (found : Option ℕ) → IsGreatest n p found → IfSome found (λ k. p k ≡ true)
+passes_of n p None r = tt
+passes_of n p (Some k) r = r.1
+
+pub greatest_passes : (n : ℕ) (p : ℕ → Bool) → IfSome (greatest_below n p) (λ k. p k ≡ true)
+greatest_passes n p = passes_of n p (greatest_below n p) (greatest_told n p)
+
+above_of : (n : ℕ) (p : ℕ → Bool) (found : Option ℕ) → IsGreatest n p found → IfSome found (λ k. (j : ℕ) → k < j → j < n → p j ≡ false)
+above_of n p None r = tt
+above_of n p (Some k) r = r.2
+
+pub greatest_above : (n : ℕ) (p : ℕ → Bool) → IfSome (greatest_below n p) (λ k. (j : ℕ) → k < j → j < n → p j ≡ false)
+greatest_above n p = above_of n p (greatest_below n p) (greatest_told n p)
+
+pub greatest_agree : (n : ℕ) (p q : ℕ → Bool) → ((k : ℕ) → k < n → p k ≡ q k) → greatest_below n p ≡ greatest_below n q
+greatest_agree zero p q h = refl
+greatest_agree (suc n) p q h = ap₂ (λ o b. last_or_found o n b) (greatest_agree n p q (λ k l. h k (omega (arith, l)))) (h n (omega arith))
+
+is_less : (a b : ℕ) → a < b → nat_lt a b ≡ true
+is_less a b h = grind (arith, nat_tests)
+
+not_less : (a b : ℕ) → b ≤ a → nat_lt a b ≡ false
+not_less a b h = grind (arith, nat_tests)
+
+greater_case : (n : ℕ) (a b : Option ℕ) (p q : Bool) → IfSome a (λ k. k < n) → IfSome b (λ k. k < n)
+    → greater (last_or_found a n p) (last_or_found b n q) ≡ last_or_found (greater a b) n (p || q)
+greater_case n a b false false h k = refl
+greater_case n a b true true h k = ap (λ t. cond t (Some n) (Some n)) (not_less n n (omega arith))
+greater_case n a None true false h k = refl
+greater_case n a (Some j) true false h k = ap (λ t. cond t (Some j) (Some n)) (not_less n j (omega (arith, k)))
+greater_case n None b false true h k = refl
+greater_case n (Some i) b false true h k = ap (λ t. cond t (Some n) (Some i)) (is_less i n h)
+
+-- the greater of two is the greatest that passes either test
+pub greater_below : (n : ℕ) (p q : ℕ → Bool) → greater (greatest_below n p) (greatest_below n q) ≡ greatest_below n (λ i. p i || q i)
+greater_below zero p q = refl
+greater_below (suc n) p q =
+    greater_case n (greatest_below n p) (greatest_below n q) (p n) (q n) (greatest_bound n p) (greatest_bound n q)
+    ∙ ap (λ o. last_or_found o n (p n || q n)) (greater_below n p q)
+
+-- none passes from a place on
+pub greatest_shrinks : (n k : ℕ) (p : ℕ → Bool) → k ≤ n → ((j : ℕ) → k ≤ j → j < n → p j ≡ false) → greatest_below n p ≡ greatest_below k p
+greatest_shrinks zero k p l h = let same : zero ≡ k = omega (arith, l) in ap (λ m. greatest_below m p) same
+greatest_shrinks (suc n) k p l h = elim (cases_lt n k) [
+  | inl lt ↦ (let same : suc n ≡ k = omega (arith, l, lt) in ap (λ m. greatest_below m p) same)
+  | inr ge ↦ ap (λ b. last_or_found (greatest_below n p) n b) (h n ge (omega arith)) ∙ greatest_shrinks n k p ge (λ j a b. h j a (omega (arith, b)))
+]
 
 pub count_numbers : (n : ℕ) → length (all_numbers n) ≡ n
 count_numbers zero = refl

@@ -1,5 +1,5 @@
 -- Tests of the numbers below a bound.
-use Rattle.std.specs.Prelude.{ℕ, zero, suc, Bool, true, false, ◌&&◌, ◌||◌, Option, Some, None, List, [], ◌∷◌, ◌++◌}
+use Rattle.std.specs.Prelude.{ℕ, zero, suc, Bool, true, false, ◌&&◌, ◌||◌, nat_lt, Option, Some, None, List, [], ◌∷◌, ◌++◌, if◌then◌else◌}
 
 -- every number below n passes
 abbrev pub all_below : ℕ → (ℕ → Bool) → Bool
@@ -31,6 +31,12 @@ last_or_found found n false = found
 abbrev pub greatest_below : ℕ → (ℕ → Bool) → Option ℕ
 greatest_below zero p = None
 greatest_below (suc n) p = last_or_found (greatest_below n p) n (p n)
+
+-- the greater of two numbers, where there are two
+abbrev pub greater : Option ℕ → Option ℕ → Option ℕ
+greater None b = b
+greater (Some a) None = Some a
+greater (Some a) (Some b) = if nat_lt a b then Some b else Some a
 
 -- the numbers below n, in ascending order
 abbrev pub all_numbers : ℕ → List ℕ

@@ -95,8 +95,9 @@ fn octal(b: u8) -> bool
     b >= b'0' && b <= b'7'
 }
 
-// The byte that three octal digits stand for.
-fn byte_of(x: u8, y: u8, z: u8) -> Option<u8>
+/// The byte that three octal digits stand for, none where one is no such digit or the value is above
+/// 255.
+pub fn octal_byte(x: u8, y: u8, z: u8) -> Option<u8>
     ensures { result ≡ octal_byte x y z }
 {
     if !(octal(x) && octal(y) && octal(z)) {
@@ -116,7 +117,7 @@ fn read_piece<'a>(text: &'a [u8], read: &mut Bytes) -> Result<Option<&'a [u8]>, 
     let [x, y, z, rest @ ..] = text else {
         return Err(EscapeFault::BadEscape);
     };
-    let Some(b) = byte_of(*x, *y, *z) else {
+    let Some(b) = octal_byte(*x, *y, *z) else {
         return Err(EscapeFault::BadEscape);
     };
     let (plain, left) = cut_at(BACKSLASH, rest);
@@ -162,5 +163,10 @@ mod tests {
             let fault = read_escaped(rt.alloc(), text).err();
             assert_eq!(rt; fault, Some(EscapeFault::BadEscape));
         }
+    }
+
+    #[test]
+    fn three_digits_are_a_byte(rt: HostRuntime) {
+        assert_eq!(rt; octal_byte(b'1', b'3', b'4'), Some(b'\\'));
     }
 }

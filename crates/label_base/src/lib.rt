@@ -31,7 +31,7 @@ pub use bytes::Bytes;
 pub use cut::{
     BLANK, LINE_FEED, TAB, cut_at, cut_at_blank, cuts_follow_grammar, next_field, next_line,
 };
-pub use escape::{EscapeFault, read_escaped, write_escaped};
+pub use escape::{EscapeFault, octal_byte, read_escaped, write_escaped};
 pub use fault::Fault;
 pub use file_store::FileStore;
 pub use kind::{Asked, EntryKind, Part};

@@ -13,54 +13,14 @@ use Rattle.std.proofs.lemmas.List.{take_more, take-append-drop, take_all}
 use Rattle.std.proofs.lemmas.Option.{get_or_from_slice_get, slice_get-get_or, slice_get_within}
 use Rattle.std.proofs.Math.Seq.{take-append_seam}
 use Rattle.std.specs.declared.vec.Vec.{Vec}
-use Rattle.label_base.specs.Bounded.{greatest_below, last_or_found}
+use Rattle.label_base.specs.Bounded.{greater, greatest_below, last_or_found}
 use Rattle.label_base.specs.Path.{Path, are_names, at_or_below, is_name, path_text, same_bytes, with_slashes}
-use Rattle.label_base.proofs.BoundedLemmas.{greatest_none}
+use Rattle.label_base.proofs.BoundedLemmas.{greater_below, greatest_agree, greatest_bound, greatest_none, greatest_passes}
 use Rattle.label_base.proofs.PathTexts.{same_texts}
 use Rattle.label_base.proofs.PathLemmas.{text_pushed}
-use Rattle.path_subs.specs.Listed.{IsListed, covers_to, greater, has_text, last_covering, last_with, number_under, sub_at, no_sub}
+use Rattle.path_subs.specs.Listed.{IsListed, covers_to, has_text, last_covering, last_with, number_under, sub_at, no_sub}
 use Rattle.path_subs.specs.Subs.{SubValue, covering, covers, is_root}
 use Rattle.path_subs.proofs.Covering.{last_found, last_passed}
-
--- ---- numbers below a bound
-
-greatest_agree : (n : ℕ) (p q : ℕ → Bool) → ((k : ℕ) → k < n → p k ≡ q k) → greatest_below n p ≡ greatest_below n q
-greatest_agree zero p q h = refl
-greatest_agree (suc n) p q h = ap₂ (λ o b. last_or_found o n b) (greatest_agree n p q (λ k l. h k (omega (arith, l)))) (h n (omega arith))
-
-if_some_more : (n : ℕ) (o : Option ℕ) → IfSome o (λ k. k < n) → IfSome o (λ k. k < suc n)
-if_some_more n None h = tt
-if_some_more n (Some k) h = omega (arith, h)
-
-bound_case : (n : ℕ) (o : Option ℕ) (b : Bool) → IfSome o (λ k. k < n) → IfSome (last_or_found o n b) (λ k. k < suc n)
-bound_case n o true h = omega arith
-bound_case n o false h = if_some_more n o h
-
-greatest_bound : (n : ℕ) (p : ℕ → Bool) → IfSome (greatest_below n p) (λ k. k < n)
-greatest_bound zero p = tt
-greatest_bound (suc n) p = bound_case n (greatest_below n p) (p n) (greatest_bound n p)
-
-is_less : (a b : ℕ) → a < b → nat_lt a b ≡ true
-is_less a b h = grind (arith, nat_tests)
-
-not_less : (a b : ℕ) → b ≤ a → nat_lt a b ≡ false
-not_less a b h = grind (arith, nat_tests)
-
-greater_case : (n : ℕ) (a b : Option ℕ) (p q : Bool) → IfSome a (λ k. k < n) → IfSome b (λ k. k < n)
-    → greater (last_or_found a n p) (last_or_found b n q) ≡ last_or_found (greater a b) n (p || q)
-greater_case n a b false false h k = refl
-greater_case n a b true true h k = ap (λ t. cond t (Some n) (Some n)) (not_less n n (omega arith))
-greater_case n a None true false h k = refl
-greater_case n a (Some j) true false h k = ap (λ t. cond t (Some j) (Some n)) (not_less n j (omega (arith, k)))
-greater_case n None b false true h k = refl
-greater_case n (Some i) b false true h k = ap (λ t. cond t (Some n) (Some i)) (is_less i n h)
-
--- the greater of two is the greatest that passes either test
-greater_below : (n : ℕ) (p q : ℕ → Bool) → greater (greatest_below n p) (greatest_below n q) ≡ greatest_below n (λ i. p i || q i)
-greater_below zero p q = refl
-greater_below (suc n) p q =
-    greater_case n (greatest_below n p) (greatest_below n q) (p n) (q n) (greatest_bound n p) (greatest_bound n q)
-    ∙ ap (λ o. last_or_found o n (p n || q n)) (greater_below n p q)
 
 -- ---- fronts of a path
 
@@ -273,14 +233,6 @@ covering_some subs path i sub g h = covering_is subs path ∙ ap (option_map (su
 
 pub index_within : (subs : List SubValue) (path : Path) (i : ℕ) → Some i ≡ last_covering subs path → i < length subs
 index_within subs path i h = subst (λ o. IfSome o (λ k. k < length subs)) (sym h) (greatest_bound (length subs) (λ i. covers path (sub_at subs i)))
-
-passes_case : (n : ℕ) (p : ℕ → Bool) (o : Option ℕ) (b : Bool) → p n ≡ b → IfSome o (λ k. p k ≡ true) → IfSome (last_or_found o n b) (λ k. p k ≡ true)
-passes_case n p o true e h = e
-passes_case n p o false e h = h
-
-greatest_passes : (n : ℕ) (p : ℕ → Bool) → IfSome (greatest_below n p) (λ k. p k ≡ true)
-greatest_passes zero p = tt
-greatest_passes (suc n) p = passes_case n p (greatest_below n p) (p n) refl (greatest_passes n p)
 
 pub covered_by : (subs : List SubValue) (path : Path) (i : ℕ) (sub : SubValue) → slice_get subs i ≡ Some sub → Some i ≡ last_covering subs path → covers path sub ≡ true
 covered_by subs path i sub g h =

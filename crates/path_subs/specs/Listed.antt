@@ -1,5 +1,5 @@
 -- What finds the last line that covers a path.
-use Rattle.std.specs.Prelude.{◌≡◌, ℕ, ◌<◌, ◌≤◌, Bool, true, ◌&&◌, nat_le, nat_lt, List, [], length, get_or, Option, Some, None, if◌then◌else◌}
+use Rattle.std.specs.Prelude.{◌≡◌, ℕ, ◌<◌, ◌≤◌, Bool, true, ◌&&◌, nat_le, List, [], length, get_or, Option}
 use Rattle.std.specs.Map.{lookup}
 use Rattle.std.specs.declared.vec.Vec.{Vec}
 use Rattle.label_base.specs.Bounded.{greatest_below}
@@ -32,12 +32,6 @@ pub record IsListed {A : Type 0} (subs : List SubValue) (n : ℕ) (entries : Lis
   pub some : (i : ℕ) → i < n → 0 < length (sub_at subs i).source
   pub named : (i : ℕ) → i < n → are_names (sub_at subs i).source ≡ true
   pub shallow : (i : ℕ) → i < n → length (sub_at subs i).source ≤ deepest
-
--- the greater of two numbers
-abbrev pub greater : Option ℕ → Option ℕ → Option ℕ
-greater None b = b
-greater (Some a) None = Some a
-greater (Some a) (Some b) = if nat_lt a b then Some b else Some a
 
 -- the line covers the path, and its source has so many names at most
 abbrev pub covers_to : Path → ℕ → SubValue → Bool

@@ -1,14 +1,14 @@
 ghost use Rattle.std.specs.Prelude.{◌≡◌, ◌+◌, ◌<◌, ◌≤◌, [], get_or, length, true, IfErr, IfNone, IfOk, IfSome, None, Some};
 ghost use Rattle.std.specs.Option.{option_copied};
 ghost use Rattle.label_base.specs.Answers.{Answers, Explains, cause_of};
-ghost use Rattle.label_base.specs.Escape.{in_front, is_octal, led_by, octal_byte};
+ghost use Rattle.label_base.specs.Escape.{in_front, led_by, octal_byte};
 ghost use Rattle.label_base.specs.Pieces.{turns_left};
 ghost use Rattle.setfattr_dump.specs.Values as value;
 ghost use Rattle.setfattr_dump.specs.Values.{behind_zero, digit_value, digits_read, is_digits_mark, is_escapable, pair_value, text_left, text_read, value_or_bad, value_read};
 
 use crate::fault::DumpWhy;
 use crate::marks::{BACKSLASH, QUOTE, ZERO};
-use label_base::{Bytes, Fault};
+use label_base::{Bytes, Fault, octal_byte};
 use memchr::memchr2;
 use std::alloc::Global;
 
@@ -16,23 +16,6 @@ fn is_escapable(b: u8) -> bool
     ensures { result ≡ is_escapable b }
 {
     b == QUOTE || b == BACKSLASH
-}
-
-fn is_octal(b: u8) -> bool
-    ensures { result ≡ is_octal b }
-{
-    b >= b'0' && b <= b'7'
-}
-
-// The byte that three octal digits stand for.
-fn octal_byte(x: u8, y: u8, z: u8) -> Option<u8>
-    ensures { result ≡ octal_byte x y z }
-{
-    if !(is_octal(x) && is_octal(y) && is_octal(z)) {
-        return None;
-    }
-    let byte = u16::from(x - b'0') * 64 + u16::from(y - b'0') * 8 + u16::from(z - b'0');
-    u8::try_from(byte).ok()
 }
 
 // The byte of the escape that a text behind a backslash begins with, and what stands behind it.

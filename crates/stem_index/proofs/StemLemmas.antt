@@ -8,80 +8,11 @@ use Rattle.std.proofs.Math.Seq.{get_or-append_seam}
 use Rattle.std.proofs.lemmas.Slice.Eq.{bytes_eq-Decides}
 use Rattle.std.specs.declared.vec.Vec.{Vec}
 use Rattle.indexmap.specs.IndexMap.{insert_entry}
-use Rattle.label_base.specs.Bounded.{greatest_below, last_or_found}
+use Rattle.label_base.specs.Bounded.{greater, greatest_below, last_or_found}
 use Rattle.label_base.specs.Path.{same_bytes}
-use Rattle.label_base.proofs.BoundedLemmas.{greatest_none}
-use Rattle.stem_index.specs.Kept.{AreHeads, IsKept, greater, last_with, number_under}
+use Rattle.label_base.proofs.BoundedLemmas.{greater_below, greatest_above, greatest_agree, greatest_bound, greatest_none, greatest_passes, greatest_shrinks}
+use Rattle.stem_index.specs.Kept.{AreHeads, IsKept, last_with, number_under}
 use Rattle.stem_index.specs.Stems.{candidates_below, fits, is_none, is_stem, stem_at}
-
--- ---- numbers below a bound
-
-greatest_agree : (n : ℕ) (p q : ℕ → Bool) → ((k : ℕ) → k < n → p k ≡ q k) → greatest_below n p ≡ greatest_below n q
-greatest_agree zero p q h = refl
-greatest_agree (suc n) p q h = ap₂ (λ o b. last_or_found o n b) (greatest_agree n p q (λ k l. h k (omega (arith, l)))) (h n (omega arith))
-
-if_some_more : (n : ℕ) (o : Option ℕ) → IfSome o (λ k. k < n) → IfSome o (λ k. k < suc n)
-if_some_more n None h = tt
-if_some_more n (Some k) h = omega (arith, h)
-
-bound_case : (n : ℕ) (o : Option ℕ) (b : Bool) → IfSome o (λ k. k < n) → IfSome (last_or_found o n b) (λ k. k < suc n)
-bound_case n o true h = omega arith
-bound_case n o false h = if_some_more n o h
-
-greatest_bound : (n : ℕ) (p : ℕ → Bool) → IfSome (greatest_below n p) (λ k. k < n)
-greatest_bound zero p = tt
-greatest_bound (suc n) p = bound_case n (greatest_below n p) (p n) (greatest_bound n p)
-
-is_less : (a b : ℕ) → a < b → nat_lt a b ≡ true
-is_less a b h = grind (arith, nat_tests)
-
-not_less : (a b : ℕ) → b ≤ a → nat_lt a b ≡ false
-not_less a b h = grind (arith, nat_tests)
-
-greater_case : (n : ℕ) (a b : Option ℕ) (p q : Bool) → IfSome a (λ k. k < n) → IfSome b (λ k. k < n)
-    → greater (last_or_found a n p) (last_or_found b n q) ≡ last_or_found (greater a b) n (p || q)
-greater_case n a b false false h k = refl
-greater_case n a b true true h k = ap (λ t. cond t (Some n) (Some n)) (not_less n n (omega arith))
-greater_case n a None true false h k = refl
-greater_case n a (Some j) true false h k = ap (λ t. cond t (Some j) (Some n)) (not_less n j (omega (arith, k)))
-greater_case n None b false true h k = refl
-greater_case n (Some i) b false true h k = ap (λ t. cond t (Some n) (Some i)) (is_less i n h)
-
--- the greater of two is the greatest that passes either test
-greater_below : (n : ℕ) (p q : ℕ → Bool) → greater (greatest_below n p) (greatest_below n q) ≡ greatest_below n (λ i. p i || q i)
-greater_below zero p q = refl
-greater_below (suc n) p q =
-    greater_case n (greatest_below n p) (greatest_below n q) (p n) (q n) (greatest_bound n p) (greatest_bound n q)
-    ∙ ap (λ o. last_or_found o n (p n || q n)) (greater_below n p q)
-
-passes_case : (n : ℕ) (p : ℕ → Bool) (o : Option ℕ) (b : Bool) → p n ≡ b → IfSome o (λ k. p k ≡ true) → IfSome (last_or_found o n b) (λ k. p k ≡ true)
-passes_case n p o true e h = e
-passes_case n p o false e h = h
-
-greatest_passes : (n : ℕ) (p : ℕ → Bool) → IfSome (greatest_below n p) (λ k. p k ≡ true)
-greatest_passes zero p = tt
-greatest_passes (suc n) p = passes_case n p (greatest_below n p) (p n) refl (greatest_passes n p)
-
-last_case : (n i : ℕ) → i < suc n → (i < n) ⊎ (i ≡ n)
-last_case n i l = elim (cases_lt i n) [ inl lt ↦ inl lt | inr ge ↦ inr (omega (arith, ge, l)) ]
-
-above_case : (n : ℕ) (p : ℕ → Bool) (o : Option ℕ) (b : Bool) → p n ≡ b → IfSome o (λ k. (j : ℕ) → k < j → j < n → p j ≡ false)
-    → IfSome (last_or_found o n b) (λ k. (j : ℕ) → k < j → j < suc n → p j ≡ false)
-above_case n p o true e h = λ j a b. absurd (omega (arith, a, b))
-above_case n p None false e h = tt
-above_case n p (Some k) false e h = λ j a b. elim (last_case n j b) [ inl lt ↦ h j a lt | inr same ↦ subst (λ i. p i ≡ false) (sym same) e ]
-
-greatest_above : (n : ℕ) (p : ℕ → Bool) → IfSome (greatest_below n p) (λ k. (j : ℕ) → k < j → j < n → p j ≡ false)
-greatest_above zero p = tt
-greatest_above (suc n) p = above_case n p (greatest_below n p) (p n) refl (greatest_above n p)
-
--- none passes from a place on
-greatest_shrinks : (n k : ℕ) (p : ℕ → Bool) → k ≤ n → ((j : ℕ) → k ≤ j → j < n → p j ≡ false) → greatest_below n p ≡ greatest_below k p
-greatest_shrinks zero k p l h = let same : zero ≡ k = omega (arith, l) in ap (λ m. greatest_below m p) same
-greatest_shrinks (suc n) k p l h = elim (cases_lt n k) [
-  | inl lt ↦ (let same : suc n ≡ k = omega (arith, l, lt) in ap (λ m. greatest_below m p) same)
-  | inr ge ↦ ap (λ b. last_or_found (greatest_below n p) n b) (h n ge (omega arith)) ∙ greatest_shrinks n k p ge (λ j a b. h j a (omega (arith, b)))
-]
 
 -- ---- candidates
 
@@ -170,6 +101,9 @@ module _ (stems : List (List ℕ)) (name : List ℕ) (bound : ℕ) (free own : O
     }
 
 -- ---- a text more
+
+last_case : (n i : ℕ) → i < suc n → (i < n) ⊎ (i ≡ n)
+last_case n i l = elim (cases_lt i n) [ inl lt ↦ inl lt | inr ge ↦ inr (omega (arith, ge, l)) ]
 
 under_case : (n : ℕ) (found : Option ℕ) (b : Bool) → cond b (Some n) found ≡ last_or_found found n b
 under_case n found true = refl

@@ -1,5 +1,5 @@
 -- What finds the texts of a stem.
-use Rattle.std.specs.Prelude.{◌≡◌, ℕ, ◌<◌, ◌≤◌, ◌^◌, nat_lt, List, length, get_or, Option, Some, None, if◌then◌else◌}
+use Rattle.std.specs.Prelude.{◌≡◌, ℕ, ◌<◌, ◌≤◌, ◌^◌, List, length, get_or, Option}
 use Rattle.std.specs.Map.{lookup}
 use Rattle.std.specs.declared.vec.Vec.{Vec}
 use Rattle.label_base.specs.Bounded.{greatest_below}
@@ -27,9 +27,3 @@ pub record AreHeads (stems : List (List ℕ)) (name : List ℕ) (bound : ℕ) (f
   pub within : bound ≤ length stems
   pub free_is : free ≡ greatest_below bound (λ i. is_none (stem_at stems i))
   pub own_is : own ≡ greatest_below bound (λ i. is_stem name (stem_at stems i))
-
--- the greater of two numbers
-abbrev pub greater : Option ℕ → Option ℕ → Option ℕ
-greater None b = b
-greater (Some a) None = Some a
-greater (Some a) (Some b) = if nat_lt a b then Some b else Some a

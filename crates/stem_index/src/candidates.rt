@@ -1,6 +1,7 @@
 ghost use Rattle.std.specs.Prelude.{◌≡◌, ◌<◌, [], List, ℕ, Some, length};
 ghost use Rattle.std.specs.Iterator.{YieldsFirst, item_count};
-ghost use Rattle.stem_index.specs.Kept.{AreHeads, greater, last_with};
+ghost use Rattle.label_base.specs.Bounded.{greater};
+ghost use Rattle.stem_index.specs.Kept.{AreHeads, last_with};
 ghost use Rattle.stem_index.specs.Stems.{candidates_below};
 
 use crate::stem_index::StemIndex;
@@ -22,7 +23,8 @@ pub struct Candidates<'a> {
 
 impl<'a> Model for Candidates<'a> {
     ghost use Rattle.std.specs.Prelude.{List, ℕ};
-    ghost use Rattle.stem_index.specs.Kept.{AreHeads};
+    ghost use Rattle.label_base.specs.Bounded.{greater};
+ghost use Rattle.stem_index.specs.Kept.{AreHeads};
     ghost use Rattle.stem_index.specs.Stems.{candidates_below};
 
     ghost Value = { List ℕ };

@@ -5,13 +5,12 @@ use Rattle.std.proofs.lemmas.Bool.{cases_lt, and_parts, eq-eqb, ne_eqb, true≢f
 use Rattle.std.proofs.lemmas.List.{ext_get_or, get_or-map, length-map, get_or_append_left}
 use Rattle.std.proofs.Math.Seq.{get_or-append_seam}
 use Rattle.label_base.specs.Bounded.{all_below, all_numbers, implies, greatest_below}
-use Rattle.label_base.proofs.BoundedLemmas.{all_at, all_from, count_numbers, implies_at}
+use Rattle.label_base.proofs.BoundedLemmas.{IsGreatest, all_at, all_from, count_numbers, greatest_told, implies_at}
 use Rattle.std.specs.Prelude.{Option, Some, None}
 use Rattle.find_records.specs.Record.{Record}
 use Rattle.tree_model.specs.Extents.{extent_of, in_extent, one_behind}
 use Rattle.tree_model.specs.LiveLists.{AreDead, AreFlags, IsDead, live_from, live_of}
 use Rattle.tree_model.proofs.ClosedLemmas.{both, implied, one_answer}
-use Rattle.tree_model.proofs.ExtentLemmas.{IsGreatest, greatest_told}
 
 length_live : (dead : List ℕ) (place : ℕ) → length (live_from place dead) ≡ length dead
 length_live [] place = refl

@@ -7,33 +7,12 @@ use Rattle.std.specs.Prelude.{Option, Some, None, ◌&&◌, nat_le, nat_lt}
 use Rattle.std.specs.declared.cmp.Ordering.TheVariants.{Less}
 use Rattle.label_base.specs.Bounded.{greatest_below, last_or_found}
 use Rattle.label_base.specs.Path.{Path, path_cmp}
-use Rattle.label_base.proofs.BoundedLemmas.{greatest_is}
+use Rattle.label_base.proofs.BoundedLemmas.{IsGreatest, greatest_is, greatest_told}
 use Rattle.find_records.specs.Record.{Record}
 use Rattle.tree_model.specs.Extents.{entry_at, extent_of, in_extent, one_behind}
 use Rattle.find_records.specs.Places.{no_record}
 use Rattle.tree_model.specs.Tree.{ByPath}
 use Rattle.tree_model.proofs.AboveLemmas.{below_itself, below_chain, between, not_before}
-
--- what the greatest number is: it passes, and none behind it does; without one, none does
-abbrev pub IsGreatest : ℕ → (ℕ → Bool) → Option ℕ → Type 0
-IsGreatest n p None = (j : ℕ) → j < n → p j ≡ false
-IsGreatest n p (Some k) = (k < n) × (p k ≡ true) × ((j : ℕ) → k < j → j < n → p j ≡ false)
-
-last_case : (n j : ℕ) → j < suc n → (j < n) ⊎ (n ≡ j)
-last_case n j l = elim (cases_lt j n) [ inl lt ↦ inl lt | inr ge ↦ inr (omega arith) ]
-
-one_more_greatest : (n : ℕ) (p : ℕ → Bool) (found : Option ℕ) (b : Bool) → p n ≡ b → IsGreatest n p found → IsGreatest (suc n) p (last_or_found found n b)
-one_more_greatest n p found true e r = (omega arith, e, λ j a b. absurd (omega arith))
-one_more_greatest n p (Some i) false e r = (
-  omega (arith, r.0),
-  r.1,
-  λ j a b. elim (last_case n j b) [ inl lt ↦ r.2 j a lt | inr same ↦ subst (λ i. p i ≡ false) same e ],
-)
-one_more_greatest n p None false e r = λ j l. elim (last_case n j l) [ inl lt ↦ r j lt | inr same ↦ subst (λ i. p i ≡ false) same e ]
-
-pub greatest_told : (n : ℕ) (p : ℕ → Bool) → IsGreatest n p (greatest_below n p)
-greatest_told zero p = λ j l. absurd (omega arith)
-greatest_told (suc n) p = one_more_greatest n p (greatest_below n p) (p n) refl (greatest_told n p)
 
 pub less_from : (a b : ℕ) → nat_lt a b ≡ true → a < b
 less_from a b h = grind (arith, nat_tests)

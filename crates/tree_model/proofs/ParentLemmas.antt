@@ -4,12 +4,12 @@ use Rattle.std.proofs.lemmas.Bool.{cases_lt, le-leb, lt-ltb}
 use Rattle.std.specs.Prelude.{Option, Some, None, IfSome, ◌&&◌, nat_lt}
 use Rattle.std.specs.Cmp.{first_so, second_so}
 use Rattle.label_base.specs.Path.{strictly_below}
-use Rattle.label_base.proofs.BoundedLemmas.{greatest_is, greatest_none}
+use Rattle.label_base.proofs.BoundedLemmas.{IsGreatest, greatest_is, greatest_none, greatest_told}
 use Rattle.find_records.specs.Record.{Record}
 use Rattle.tree_model.specs.Extents.{EndsFrom, before, entry_at, extent_of, in_extent, is_above, is_directory, one_behind, parent_of}
 use Rattle.tree_model.specs.Tree.{ByPath}
 use Rattle.tree_model.proofs.AboveLemmas.{longer}
-use Rattle.tree_model.proofs.ExtentLemmas.{IsGreatest, extent_law, false_unless, greatest_told, in_behind, in_between, less_from, rise}
+use Rattle.tree_model.proofs.ExtentLemmas.{extent_law, false_unless, in_behind, in_between, less_from, rise}
 
 -- no directory above the entry stands behind these
 abbrev pub UpTo : List Record → ℕ → Option ℕ → Type 0

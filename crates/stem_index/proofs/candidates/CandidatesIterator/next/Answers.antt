@@ -1,6 +1,6 @@
 use Rattle.std.proofs.Common.{◌≡◌, ◌∙◌, ◌<◌, ap, sym, length, ◌∷◌, [], arith}
 use Rattle.std.specs.Prelude.{Some, None}
-use Rattle.stem_index.specs.Kept.{greater}
+use Rattle.label_base.specs.Bounded.{greater}
 use Rattle.stem_index.specs.Stems.{candidates_below}
 use Rattle.stem_index.proofs.StemLemmas.{none_left, one_left, within}
 use Rattle.stem_index.proofs.candidates.CandidatesIterator.next.Goals as goal
