@@ -10,7 +10,7 @@ use Rattle.std.proofs.lemmas.List.Sums.{position_or_len_is}
 use Rattle.std.proofs.Math.Seq.{get_or-append_seam}
 use Rattle.label_base.specs.Bounded.{all_numbers}
 use Rattle.label_base.specs.Path.{strictly_below}
-use Rattle.label_base.proofs.BoundedLemmas.{count_numbers}
+use Rattle.label_base.proofs.BoundedLemmas.{IsGreatest, count_numbers, greatest_told}
 use Rattle.find_records.specs.Record.{Record}
 use Rattle.walk_steps.specs.Shaped.{IsValid}
 use Rattle.walk_steps.specs.declared.shape.Shape.{Shape}
@@ -19,7 +19,6 @@ use Rattle.tree_model.specs.Groups.{group_of, groups_in}
 use Rattle.tree_model.specs.Jobs.{AreJobs, directories_below, directories_in, home_of, job_for, job_of, shape_of}
 use Rattle.tree_model.specs.Tree.{ByPath}
 use Rattle.tree_model.proofs.DeadLemmas.{number_at}
-use Rattle.tree_model.proofs.ExtentLemmas.{IsGreatest, greatest_told}
 use Rattle.tree_model.proofs.GroupLemmas.{group_at, group_inside}
 use Rattle.tree_model.proofs.ParentLemmas.{parent_before}
 
