@@ -149,18 +149,15 @@ mod tests {
 
     #[test]
     fn order_of_keys(rt: HostRuntime) -> Result<(), Fail> {
-        let alloc = rt.alloc();
-        assert_eq!(rt; compared(alloc, b"/", b"/a")?, Ordering::Less);
-        assert_eq!(rt; compared(alloc, b"/a/b", b"/a-b")?, Ordering::Less);
-        assert_eq!(rt; compared(alloc, b"/usr/bin", b"/usr/bin")?, Ordering::Equal);
-        assert_eq!(rt;
-            compared(alloc, b"/usr/lib/b", b"/usr/lib/a")?,
-            Ordering::Greater
-        );
-        assert_eq!(rt;
-            compared(alloc, b"/usr/share/doc/b", b"/usr/share/doc-a")?,
-            Ordering::Less
-        );
+        for (path, other, wanted) in [
+            (b"/".as_slice(), b"/a".as_slice(), Ordering::Less),
+            (b"/a/b", b"/a-b", Ordering::Less),
+            (b"/usr/bin", b"/usr/bin", Ordering::Equal),
+            (b"/usr/lib/b", b"/usr/lib/a", Ordering::Greater),
+            (b"/usr/share/doc/b", b"/usr/share/doc-a", Ordering::Less),
+        ] {
+            assert_eq!(rt; compared(rt.alloc(), path, other)?, wanted);
+        }
         Ok(())
     }
 
