@@ -1,5 +1,5 @@
 -- Rows and the texts of their paths, laid anew in another order.
-use Rattle.std.proofs.Common.{◌≡◌, ◌∙◌, ap, sym, refl, subst, ℕ, zero, suc, ◌+◌, ◌-◌, ◌<◌, ◌≤◌, List, [], ◌∷◌, ◌++◌, length, take, drop, get_or, arith}
+use Rattle.std.proofs.Common.{◌≡◌, ◌∙◌, ap, sym, refl, subst, ℕ, zero, suc, ◌+◌, ◌<◌, ◌≤◌, List, [], ◌∷◌, ◌++◌, length, take, drop, get_or, arith}
 use Rattle.std.specs.Prelude.{Some, slice_get, unwrap_or}
 use Rattle.std.proofs.lemmas.List.{length-append, length-drop, length-map, length-take-le, map-append, take_more}
 use Rattle.std.proofs.lemmas.Option.{get_or_from_slice_get}
@@ -9,7 +9,7 @@ use Rattle.find_records.specs.Labels.{Extends}
 use Rattle.find_records.specs.Marks.{Mark, no_mark}
 use Rattle.find_records.specs.Places.{ArePlaces, no_record, records_at}
 use Rattle.find_records.specs.Record.{Record}
-use Rattle.find_records.specs.Rows.{AreLaid, AreWithin, Fit, IsWithin, moved_to, record_in, records_in, text_in}
+use Rattle.find_records.specs.Rows.{AreLaid, AreWithin, Fit, moved_to, record_in, records_in, text_in}
 use Rattle.find_records.specs.declared.row.RecordRow.{RecordRow}
 use Rattle.find_records.proofs.LabelLemmas.{extends_by, extends_self}
 use Rattle.find_records.proofs.RowLemmas.{all_kept, one_more_within, record_at, records_kept, text_added, within_at}

@@ -1,5 +1,6 @@
 pub mod DistinctLabels
 pub mod LabelLemmas
+pub mod LabelledLemmas
 pub mod LayLemmas
 pub mod MarkLemmas
 pub mod NulCuts

@@ -1,15 +1,15 @@
 -- Devices and labels that are kept as pairs of numbers.
-use Rattle.std.proofs.Common.{◌≡◌, ◌∙◌, ap, sym, refl, subst, ℕ, zero, suc, ◌+◌, ◌<◌, ◌≤◌, ◌^◌, ◌==◌, Bool, true, false, List, [], ◌∷◌, ◌++◌, ◌⊎◌, inl, inr, length, take, drop, get_or, arith}
+use Rattle.std.proofs.Common.{◌≡◌, ◌∙◌, ap, sym, refl, subst, ℕ, zero, suc, ◌<◌, ◌≤◌, ◌^◌, ◌==◌, Bool, true, false, List, [], ◌∷◌, ◌++◌, inl, inr, length, drop, get_or, arith}
 use Rattle.std.specs.Prelude.{Some, slice_get, ◌&&◌, Result, Ok, Err, OnErr}
 use Rattle.std.specs.List.{AllByRecursion}
 use Rattle.std.specs.Option.{option_map}
 use Rattle.std.proofs.lemmas.Bool.{eqb-true}
 use Rattle.std.proofs.lemmas.List.{get_or_append_left, length-append, map-append}
-use Rattle.std.proofs.lemmas.Option.{get_or_from_slice_get, slice_get-map, slice_get_within}
+use Rattle.std.proofs.lemmas.Option.{get_or_from_slice_get, slice_get-map}
 use Rattle.context_syntax.specs.declared.label.Label.{Label}
 use Rattle.context_syntax.specs.declared.label.Label.TheVariants.{Absent}
 use Rattle.find_records.specs.Labels.{Extends}
-use Rattle.find_records.specs.Marks.{AreMarks, IsWithPair, Mark, mark_in, mark_of, marks_in}
+use Rattle.find_records.specs.Marks.{AreMarks, IsWithPair, mark_in, mark_of, marks_in}
 use Rattle.find_records.proofs.LabelLemmas.{extends_by, extends_self, longer}
 
 no_shorter : {X : Type 0} (xs ys : List X) → Extends xs ys → length xs ≤ length ys
@@ -49,11 +49,11 @@ known_with m pair (p ∷ ps) h k = (h.0, known_with m pair ps h.1 k)
 
 -- ---- a pair more
 
-known_by : (m : List Label) (pair : ℕ × ℕ) (old new : List (ℕ × ℕ)) → AllByRecursion (λ p. p.1 < length m) old → pair.1 < length m → IsWithPair old pair new → AllByRecursion (λ p. p.1 < length m) new
+pub known_by : (m : List Label) (pair : ℕ × ℕ) (old new : List (ℕ × ℕ)) → AllByRecursion (λ p. p.1 < length m) old → pair.1 < length m → IsWithPair old pair new → AllByRecursion (λ p. p.1 < length m) new
 known_by m pair old new h k (inl same) = subst (AllByRecursion (λ p. p.1 < length m)) (sym same) h
 known_by m pair old new h k (inr more) = subst (AllByRecursion (λ p. p.1 < length m)) (sym more) (known_with m pair old h k)
 
-extends_with : (m : List Label) (pair : ℕ × ℕ) (old new : List (ℕ × ℕ)) → IsWithPair old pair new → Extends (marks_in m old) (marks_in m new)
+pub extends_with : (m : List Label) (pair : ℕ × ℕ) (old new : List (ℕ × ℕ)) → IsWithPair old pair new → Extends (marks_in m old) (marks_in m new)
 extends_with m pair old new (inl same) = extends_self (marks_in m old) (marks_in m new) (ap (marks_in m) same)
 extends_with m pair old new (inr more) = extends_by (marks_in m old) (marks_in m new) (mark_in m pair ∷ []) (ap (marks_in m) more ∙ map-append (mark_in m) old (pair ∷ []))
 

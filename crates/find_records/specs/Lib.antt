@@ -1,6 +1,7 @@
 pub mod Cause
 pub mod Entry
 pub mod Grammar
+pub mod Labelled
 pub mod Labels
 pub mod Marks
 pub mod Places

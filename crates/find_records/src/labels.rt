@@ -134,6 +134,13 @@ impl Labels {
         }
     }
 
+    // How many labels there are.
+    pub fn len(&self) -> usize
+        ensures { result ≡ length self.now }
+    {
+        self.labels.len()
+    }
+
     // The label with a number.
     pub fn get(&self, number: u32) -> &Label
         requires { number < length self.now }
@@ -162,6 +169,7 @@ impl Labels {
         ensures extends { Extends self.old self.new }
         ensures same { OnErr result (self.new ≡ self.old) }
         ensures few { length self.new < 2 ^ 32 }
+        ensures one_more { length self.new ≤ length self.old + 1 }
     {
         if let Some(number) = number_in(&self.spelled, self.last, bytes) {
             self.last = number as u32;

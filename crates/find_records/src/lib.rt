@@ -1,8 +1,10 @@
 //! The records of a tree, as `find -printf '%y %D %i %Z %p\0'` writes them.
 #![tactic(auto)]
 
+mod all_labels;
 mod entry;
 mod fault;
+mod labelled;
 mod labels;
 mod lay;
 mod marks;

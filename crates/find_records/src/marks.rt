@@ -3,7 +3,7 @@ ghost use Rattle.context_syntax.specs.Label.{label_of, same_label};
 ghost use Rattle.find_records.specs.Labels.{Extends};
 ghost use Rattle.find_records.specs.Marks.{AreMarks, IsWithPair, mark_of, marks_in, no_mark};
 
-use crate::labels::Labels;
+use crate::all_labels::AllLabels;
 use context_syntax::Label;
 use indexmap::IndexSet;
 use label_base::OutOfMemory;
@@ -11,13 +11,13 @@ use std::alloc::Global;
 use std::marker::Model;
 
 // A device, and the number of a label.
-type Pair = (u64, u32);
+pub type Pair = (u64, u32);
 
 // The devices and labels of records, each two of them kept once, seen as their list. They are found by
 // their number, from 0 on.
 #[derive(Drop)]
 pub struct Marks {
-    labels: Labels,
+    labels: AllLabels,
     pairs: IndexSet<Pair>,
     // The number that was last asked for: often the next one is the same.
     last: u32,
@@ -67,7 +67,7 @@ fn add_pair(pairs: &mut IndexSet<Pair>, pair: Pair) -> Result<(usize, bool), Out
 }
 
 // The number of a pair, which is added if it is new. There is no memory for more than there are numbers.
-fn number_of(pairs: &mut IndexSet<Pair>, last: u32, pair: Pair) -> Result<u32, OutOfMemory>
+pub fn number_of(pairs: &mut IndexSet<Pair>, last: u32, pair: Pair) -> Result<u32, OutOfMemory>
     requires { length pairs.old.keys < 2 ^ 32 }
     ensures number { IfOk result (λ number. slice_get pairs.new.keys number ≡ Some pair) }
     ensures with { IsWithPair pairs.old.keys pair pairs.new.keys }
@@ -87,7 +87,7 @@ fn number_of(pairs: &mut IndexSet<Pair>, last: u32, pair: Pair) -> Result<u32, O
 // The number of a device and a label, which are added if they are new.
 fn mark_number(
     alloc: Global,
-    labels: &mut Labels,
+    labels: &mut AllLabels,
     pairs: &mut IndexSet<Pair>,
     last: u32,
     device: u64,
@@ -112,8 +112,20 @@ impl Marks {
         ensures { result ≡ [] }
     {
         Marks {
-            labels: Labels::new(alloc),
+            labels: AllLabels::new(alloc),
             pairs: IndexSet::new(alloc),
+            last: 0,
+        }
+    }
+
+    // The marks of these pairs, whose labels are these.
+    pub fn of_pairs(alloc: Global, labels: Vec<Label>, pairs: IndexSet<Pair>) -> Marks
+        requires { AreMarks labels.items pairs.keys }
+        ensures { result ≡ marks_in labels.items pairs.keys }
+    {
+        Marks {
+            labels: AllLabels::of_given(alloc, labels),
+            pairs,
             last: 0,
         }
     }

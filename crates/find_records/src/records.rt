@@ -6,15 +6,18 @@ ghost use Rattle.label_base.specs.PathRef.{path_of};
 ghost use Rattle.context_syntax.specs.Label.{same_label};
 ghost use Rattle.find_records.specs.Record.{Record};
 ghost use Rattle.find_records.specs.Entry.{entry_of, record_told};
+ghost use Rattle.find_records.specs.Labelled.{with_labels};
 ghost use Rattle.find_records.specs.Labels.{Extends};
 ghost use Rattle.find_records.specs.Places.{ArePlaces, records_at};
 ghost use Rattle.find_records.specs.Rows.{IsWithin, record_in, text_in};
 
 use crate::entry::{Entry, Told};
+use crate::labelled::{copy_labels, pair_rows};
 use crate::lay::{is_given, lay};
 use crate::marks::Marks;
 use crate::row::{RecordRow, text_at};
-use label_base::{Fault, OutOfMemory, PathFault, PathRef, add_path};
+use context_syntax::Label;
+use label_base::{Fault, OutOfMemory, PathFault, PathRef, Row, add_path};
 use std::alloc::Global;
 use std::marker::Model;
 
@@ -147,6 +150,30 @@ impl Records {
         ensures { option_map (λ r. r.path) (slice_get self.now i) ≡ Some (path_of result) }
     {
         self.entry(i).path
+    }
+
+    /// The records as they are, but for their labels: each has a copy of the one among these, counted
+    /// from 0, whose number stands at its place.
+    pub fn with_labels(
+        &self,
+        alloc: Global,
+        numbers: &[u32],
+        labels: &Row<Label>,
+    ) -> Result<Records, OutOfMemory>
+        requires counted { length numbers.now ≡ length self.now }
+        requires known { ArePlaces (length labels.now) numbers.now }
+        requires few { length labels.now < 2 ^ 32 }
+        ensures { IfOk result (λ records.
+            records ≡ with_labels labels.now numbers.now self.now) }
+    {
+        let copies = copy_labels(alloc, labels)?;
+        let paired = pair_rows(alloc, &self.marks, self.rows.as_slice(), numbers)?;
+        let texts = Vec::from_slice(alloc, self.texts.as_slice())?;
+        Ok(Records {
+            texts,
+            marks: Marks::of_pairs(alloc, copies, paired.pairs),
+            rows: paired.rows,
+        })
     }
 
     /// The records at these places, counted from 0, in the order of the places: their texts are laid

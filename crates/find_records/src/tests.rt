@@ -3,7 +3,7 @@ use crate::{
     records_follow_grammar,
 };
 use context_syntax::Label;
-use label_base::{Bytes, EntryKind, MemSource, ReadSource, Row};
+use label_base::{Bytes, EntryKind, MemSource, OutOfMemory, ReadSource, Row};
 use std::alloc::Global;
 use std::test::Fail;
 
@@ -114,6 +114,39 @@ fn lays_records_in_order(rt: HostRuntime) {
     assert!(rt; stand_in_order(rt.alloc(), bytes, [1, 0], [a, b]));
     assert!(rt; stand_in_order(rt.alloc(), bytes, [0, 1], [b, a]));
     assert!(rt; stand_in_order(rt.alloc(), bytes, [1, 1], [a, a]));
+}
+
+fn two_labels(alloc: Global) -> Result<Row<Label>, OutOfMemory> {
+    let mut labels = Row::new(alloc);
+    labels.push(Label::Absent)?;
+    labels.push(Label::Odd(Bytes::copy_of(alloc, b"?")?))?;
+    Ok(labels)
+}
+
+// Whether the first of two records gets the second label, and the second none.
+fn take_labels(alloc: Global, records: &Records, labels: &Row<Label>) -> bool {
+    if records.len() != 2 || labels.len() != 2 {
+        return false;
+    }
+    match records.with_labels(alloc, &[1, 0], labels) {
+        Ok(changed) => {
+            changed.len() == 2
+                && matches!(changed.entry(0).label, Label::Odd(_))
+                && matches!(changed.entry(1).label, Label::Absent)
+        }
+        Err(_) => false,
+    }
+}
+
+#[test]
+fn takes_other_labels(rt: HostRuntime) -> Result<(), Fail> {
+    let records = read(
+        rt.alloc(),
+        b"f 1 5 system_u:object_r:t:s0 /a\0f 2 6 odd /b\0",
+    )?;
+    let labels = two_labels(rt.alloc())?;
+    assert!(rt; take_labels(rt.alloc(), &records, &labels));
+    Ok(())
 }
 
 #[test]

@@ -1,4 +1,4 @@
-use Rattle.std.proofs.Common.{◌≡◌, ◌<◌, List, take, length, subst, get_or, arith}
+use Rattle.std.proofs.Common.{◌<◌, length, subst, get_or, arith}
 use Rattle.std.proofs.lemmas.List.{take_all}
 use Rattle.std.proofs.lemmas.Option.{slice_get-get_or}
 use Rattle.find_records.specs.Rows.{AreLaid}

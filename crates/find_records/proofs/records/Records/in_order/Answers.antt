@@ -1,7 +1,6 @@
-use Rattle.std.proofs.Common.{◌≡◌, ◌≤◌, ◌∙◌, ap, sym, subst, length, arith}
-use Rattle.std.proofs.lemmas.List.{length-map}
+use Rattle.std.proofs.Common.{◌∙◌, ap, arith}
 use Rattle.find_records.specs.Places.{records_at}
-use Rattle.find_records.specs.Rows.{AreLaid, Fit}
+use Rattle.find_records.specs.Rows.{AreLaid}
 use Rattle.find_records.proofs.LayLemmas.{all_fit, laid_count}
 use Rattle.find_records.proofs.records.Records.in_order.Goals as goal
 

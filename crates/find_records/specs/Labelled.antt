@@ -1,0 +1,39 @@
+-- Records with other labels.
+use Rattle.std.specs.Prelude.{◌≡◌, ℕ, ◌<◌, ◌^◌, List, [], ◌∷◌, length, get_or}
+use Rattle.std.specs.List.{AllByRecursion}
+use Rattle.context_syntax.specs.declared.label.Label.{Label}
+use Rattle.context_syntax.specs.declared.label.Label.TheVariants.{Absent}
+use Rattle.find_records.specs.Marks.{Mark, marks_in}
+use Rattle.find_records.specs.Record.{Record}
+use Rattle.find_records.specs.Rows.{AreWithin, records_in}
+use Rattle.find_records.specs.declared.row.RecordRow.{RecordRow}
+
+-- the record with this label
+abbrev pub with_label : Label → Record → Record
+with_label label r = record {
+  kind = r.kind;
+  device = r.device;
+  inode = r.inode;
+  label = label;
+  path = r.path;
+}
+
+-- the records, each with the label whose number stands at its place
+abbrev pub with_labels : List Label → List ℕ → List Record → List Record
+with_labels labels [] records = []
+with_labels labels (number ∷ numbers) [] = []
+with_labels labels (number ∷ numbers) (r ∷ rs) =
+    with_label (get_or labels number Absent) r ∷ with_labels labels numbers rs
+
+-- ---- how they are kept
+
+-- the new rows stand for the records of the rows with these labels, by these pairs
+pub record ArePaired (texts : List ℕ) (marks : List Mark) (rows : List RecordRow)
+    (numbers : List ℕ) (labels : List Label) (pairs : List (ℕ × ℕ)) (new : List RecordRow)
+    : Type 0 where
+  pub known : AllByRecursion (λ pair. pair.1 < length labels) pairs
+  pub few : length pairs < 2 ^ 32
+  pub counted : length new ≡ length rows
+  pub same : records_in texts (marks_in labels pairs) new
+      ≡ with_labels labels numbers (records_in texts marks rows)
+  pub within : AreWithin texts (marks_in labels pairs) new
