@@ -30,3 +30,4 @@ pub mod KeptLemmas
 pub mod ParentLemmas
 pub mod GroupLaws
 pub mod AbsentLaws
+pub mod LabelledLemmas

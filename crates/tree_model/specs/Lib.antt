@@ -15,3 +15,4 @@ pub mod Kept
 pub mod Selection
 pub mod Jobs
 pub mod LiveLists
+pub mod Labelled

@@ -195,6 +195,25 @@ pub struct Groups {
     pub closed: Vec<bool>,
 }
 
+impl Groups {
+    /// A copy.
+    pub fn copy(&self, alloc: Global) -> Result<Groups, OutOfMemory>
+        ensures total { IfOk result (λ copy. copy.total ≡ self.now.total) }
+        ensures group_of { IfOk result (λ copy. copy.group_of.items ≡ self.now.group_of.items) }
+        ensures names { IfOk result (λ copy. copy.names.items ≡ self.now.names.items) }
+        ensures starts { IfOk result (λ copy. copy.starts.items ≡ self.now.starts.items) }
+        ensures closed { IfOk result (λ copy. copy.closed.items ≡ self.now.closed.items) }
+    {
+        Ok(Groups {
+            total: self.total,
+            group_of: Vec::from_slice(alloc, self.group_of.as_slice())?,
+            names: Vec::from_slice(alloc, self.names.as_slice())?,
+            starts: Vec::from_slice(alloc, self.starts.as_slice())?,
+            closed: Vec::from_slice(alloc, self.closed.as_slice())?,
+        })
+    }
+}
+
 /// The groups of entries, as they are numbered, by the extents of the entries.
 pub fn make_groups(
     alloc: Global,

@@ -4,6 +4,8 @@ ghost use Rattle.label_base.specs.Answers.{Answers};
 ghost use Rattle.label_base.specs.PathRef.{path_of};
 ghost use Rattle.find_records.specs.Entry.{entry_of};
 ghost use Rattle.find_records.specs.Record.{Record};
+ghost use Rattle.find_records.specs.Labelled.{with_labels};
+ghost use Rattle.find_records.specs.Places.{ArePlaces};
 ghost use Rattle.tree_model.specs.Entries.{tree_of};
 ghost use Rattle.tree_model.specs.Extents.{entry_at, in_extent, is_directory};
 ghost use Rattle.tree_model.specs.Tree.{ByPath, IsFrom, tree_cause, find_in};
@@ -11,8 +13,9 @@ ghost use Rattle.tree_model.specs.Tree.{ByPath, IsFrom, tree_cause, find_in};
 use crate::building::put_in_order;
 use crate::fault::TreeFault;
 use crate::search::{first_from, stands_at};
+use context_syntax::Label;
 use find_records::{Entry, Records};
-use label_base::{EntryKind, PathRef};
+use label_base::{EntryKind, OutOfMemory, PathRef, Row};
 use std::alloc::Global;
 use std::marker::Model;
 
@@ -45,6 +48,23 @@ impl Sorted {
             → Contains sorted r ↔ Contains records r) }
     {
         let records = put_in_order(alloc, records)?;
+        Ok(Sorted { records })
+    }
+
+    /// The same entries with other labels: each has the one among these whose number stands at its
+    /// place.
+    pub fn with_labels(
+        &self,
+        alloc: Global,
+        numbers: &[u32],
+        labels: &Row<Label>,
+    ) -> Result<Sorted, OutOfMemory>
+        requires counted { length numbers.now ≡ length self.now }
+        requires known { ArePlaces (length labels.now) numbers.now }
+        requires few { length labels.now < 2 ^ 32 }
+        ensures { IfOk result (λ sorted. sorted ≡ with_labels labels.now numbers.now self.now) }
+    {
+        let records = self.records.with_labels(alloc, numbers, labels)?;
         Ok(Sorted { records })
     }
 

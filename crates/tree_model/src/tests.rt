@@ -232,6 +232,26 @@ fn takes_the_first_label(rt: HostRuntime) -> Result<(), Fail> {
     Ok(())
 }
 
+// The tree of names of one inode, without its label.
+fn unlabelled(alloc: Global, all: &[Told<'_>]) -> Result<Tree, TreeFault> {
+    let tree = tree_from(alloc, all)?;
+    let mut labels = Row::new(alloc);
+    labels.push(Label::Absent)?;
+    if tree.groups() != 1 {
+        return Err(TreeFault::OutOfMemory);
+    }
+    Ok(tree.with_labels(alloc, &labels)?)
+}
+
+#[test]
+fn takes_other_labels(rt: HostRuntime) -> Result<(), Fail> {
+    let all = [file(5, b"/a"), file(5, b"/b")];
+    let tree = unlabelled(rt.alloc(), all.as_slice())?;
+    assert!(rt; has_inodes(&tree, [5, 5].as_slice()));
+    assert!(rt; !has_context(&tree, 0) && !has_context(&tree, 1));
+    Ok(())
+}
+
 fn row_of(alloc: Global, paths: &[&[u8]]) -> Result<Row<NormPath>, TreeFault> {
     let mut row = Row::new(alloc);
     for path in paths {

@@ -8,6 +8,7 @@ ghost use Rattle.tree_model.specs.Entries.{tree_of};
 ghost use Rattle.tree_model.specs.Extents.{extent_of, in_extent, parent_of};
 ghost use Rattle.tree_model.specs.Groups.{closed_at, group_of, groups_in, label_in, names_in};
 ghost use Rattle.tree_model.specs.Jobs.{shape_of};
+ghost use Rattle.tree_model.specs.Labelled.{DifferInLabels, labelled};
 ghost use Rattle.tree_model.specs.Selection.{selected_by};
 ghost use Rattle.tree_model.specs.Tree.{ByPath, tree_cause, find_in};
 ghost use Rattle.walk_steps.specs.Shaped.{IsValid};
@@ -20,7 +21,7 @@ use crate::selection::{Choice, Selected, select_in};
 use crate::sorted::Sorted;
 use context_syntax::Label;
 use find_records::{Entry, Records};
-use label_base::{OutOfMemory, PathRef};
+use label_base::{OutOfMemory, PathRef, Row};
 use std::alloc::Global;
 use std::marker::Model;
 use walk_steps::Shape;
@@ -71,6 +72,32 @@ impl Tree {
             ends,
             parents,
             groups,
+        })
+    }
+
+    /// A law: the path of each entry is before those of the entries behind it. It does nothing.
+    pub fn rises(&self)
+        ensures { ByPath self.now }
+    {
+        let _ = &self.sorted;
+    }
+
+    /// The same tree with other labels, one for each group: every entry has that of its group.
+    ///
+    /// What was made of the one tree serves the other: the number of an entry or a group, what was
+    /// selected, and what is kept for an entry.
+    pub fn with_labels(&self, alloc: Global, labels: &Row<Label>) -> Result<Tree, OutOfMemory>
+        requires { length labels.now ≡ groups_in self.now }
+        ensures value { IfOk result (λ tree. tree ≡ labelled labels.now self.now) }
+        ensures same { IfOk result (λ tree. DifferInLabels self.now tree) }
+    {
+        let _count = self.groups();
+        let numbers = self.groups.group_of.as_slice();
+        Ok(Tree {
+            sorted: self.sorted.with_labels(alloc, numbers, labels)?,
+            ends: Vec::from_slice(alloc, self.ends.as_slice())?,
+            parents: Vec::from_slice(alloc, self.parents.as_slice())?,
+            groups: self.groups.copy(alloc)?,
         })
     }
 
