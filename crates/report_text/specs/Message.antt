@@ -16,6 +16,7 @@ pub data MessageValue : Type 0 where
   Customized : (path : Path) (label : ContextValue) → MessageValue
   Conflict : (first second : Path) (used : ContextValue) → MessageValue
   NoDefault : (path : Path) → MessageValue
+  Skipped : (path : Path) → MessageValue
   Absent : (path : Path) → MessageValue
   NoMatches : (text : List ℕ) (kind : Option EntryKind) (context : Option ContextValue)
       → MessageValue
@@ -31,6 +32,7 @@ message_of (lent.Relabel path was becomes dry) =
 message_of (lent.Customized path label) = Customized (path_of path) label.now
 message_of (lent.Conflict first second used) = Conflict (path_of first) (path_of second) used.now
 message_of (lent.NoDefault path) = NoDefault (path_of path)
+message_of (lent.Skipped path) = Skipped (path_of path)
 message_of (lent.Absent path) = Absent (path_of path)
 message_of (lent.NoMatches text kind context) = NoMatches text.now kind (option_copied context)
 message_of (lent.Found path context bare) = Found (path_of path) (option_copied context) bare

@@ -9,8 +9,8 @@ use Rattle.context_syntax.specs.declared.label.Label.{Label}
 use Rattle.context_syntax.specs.declared.label.Label.TheVariants as label
 use Rattle.spec_reader.specs.TypeField.{type_field}
 use Rattle.spec_reader.specs.declared.line.TheConstants.{NO_CONTEXT}
-use Rattle.report_text.specs.declared.words.TheConstants.{AND, CLOSE, COMMA, CONFLICTING, FROM, FULL_STOP, HAS_CONTEXT, HAS_NO_RECORD, LINE_FEED, NO_DEFAULT, NO_LABEL, NO_MATCHES, NO_RECORD_FOR, NOT_RESET, RELABELED, SHOULD_BE, TAB, TO, USING, VERIFIED, WOULD_RELABEL}
-use Rattle.report_text.specs.Message.{MessageValue, Relabel, Customized, Conflict, NoDefault, Absent, NoMatches, Found, Verified, Differs, NoRecord}
+use Rattle.report_text.specs.declared.words.TheConstants.{AND, CLOSE, COMMA, CONFLICTING, FROM, FULL_STOP, HAS_CONTEXT, HAS_NO_RECORD, LINE_FEED, NO_DEFAULT, NO_LABEL, NO_MATCHES, NO_RECORD_FOR, NOT_RESET, RELABELED, SHOULD_BE, SKIPPING, TAB, TO, USING, VERIFIED, WOULD_RELABEL}
+use Rattle.report_text.specs.Message.{MessageValue, Relabel, Customized, Conflict, NoDefault, Skipped, Absent, NoMatches, Found, Verified, Differs, NoRecord}
 
 -- a context in its spelling, another label escaped
 abbrev pub label_text : Label → List ℕ
@@ -50,6 +50,7 @@ message_text (Conflict first second used) =
     CONFLICTING.now ++ shown_path first ++ AND.now ++ shown_path second ++ USING.now
     ++ context_text used ++ FULL_STOP.now
 message_text (NoDefault path) = NO_DEFAULT.now ++ shown_path path
+message_text (Skipped path) = SKIPPING.now ++ shown_path path ++ CLOSE.now
 message_text (Absent path) = NO_RECORD_FOR.now ++ shown_path path
 message_text (NoMatches text kind given) =
     NO_MATCHES.now ++ text ++ COMMA.now ++ kind_words kind ++ given_text given ++ CLOSE.now

@@ -90,6 +90,13 @@ fn add_behind(
     add(words, text)
 }
 
+fn add_skipped(alloc: Global, path: &PathRef<'_>, text: &mut Bytes) -> Result<(), OutOfMemory>
+    ensures { OnOk result (text.new ≡ text.old ++ message_text (value.Skipped (path_of path.now))) }
+{
+    add_before(alloc, SKIPPING, path, text)?;
+    add(CLOSE, text)
+}
+
 fn add_no_matches(
     pattern: &[u8],
     kind: Option<EntryKind>,
@@ -155,6 +162,7 @@ fn add_message(alloc: Global, message: &Message<'_>, text: &mut Bytes) -> Result
             used,
         } => add_conflict(alloc, first, second, used, text),
         Message::NoDefault { path } => add_before(alloc, NO_DEFAULT, path, text),
+        Message::Skipped { path } => add_skipped(alloc, path, text),
         Message::Absent { path } => add_before(alloc, NO_RECORD_FOR, path, text),
         Message::NoMatches {
             text: pattern,

@@ -28,6 +28,10 @@ pub enum Message<'a> {
     NoDefault {
         path: PathRef<'a>,
     },
+    /// The directory is skipped with all that lies below it, since its stored digest is the one that it has.
+    Skipped {
+        path: PathRef<'a>,
+    },
     /// The tree has no entry for a path that was asked for.
     Absent {
         path: PathRef<'a>,

@@ -162,6 +162,7 @@ fn lines_of_paths_alone(rt: HostRuntime) -> Result<(), Fail> {
     let path = path.path();
     let messages = [
         Message::NoDefault { path },
+        Message::Skipped { path },
         Message::Absent { path },
         Message::Verified { path },
     ];
@@ -169,7 +170,7 @@ fn lines_of_paths_alone(rt: HostRuntime) -> Result<(), Fail> {
     add_line(rt.alloc(), &Message::NoRecord { path }, &mut text)?;
     assert_eq!(rt;
         text.as_slice(),
-        b"Warning no default label for /\nno record for /\n/ verified.\n/ has no record\n".as_slice()
+        b"Warning no default label for /\nSkipping restorecon on directory(/)\nno record for /\n/ verified.\n/ has no record\n".as_slice()
     );
     Ok(())
 }

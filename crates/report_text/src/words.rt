@@ -31,6 +31,8 @@ pub(crate) const FULL_STOP: &str = ".";
 
 pub(crate) const NO_DEFAULT: &str = "Warning no default label for ";
 
+pub(crate) const SKIPPING: &str = "Skipping restorecon on directory(";
+
 pub(crate) const NO_RECORD_FOR: &str = "no record for ";
 
 pub(crate) const NO_MATCHES: &str = "Warning! No matches for (";
