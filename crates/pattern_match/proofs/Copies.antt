@@ -1,8 +1,8 @@
 -- The copies of a piece that a repeat stands for, from left to right.
-use Rattle.std.proofs.Common.{◌≡◌, refl, sym, ◌∙◌, ap, ℕ, zero, suc, pred, ◌+◌, ◌-◌, ◌<◌, ◌≤◌, ◌==◌, List, [], ◌∷◌, ◌++◌, length, map, Bool, true, arith, append_assoc, length-append}
+use Rattle.std.proofs.Common.{◌≡◌, refl, sym, ◌∙◌, ap, ℕ, zero, suc, pred, ◌+◌, ◌-◌, ◌<◌, ◌==◌, List, [], ◌∷◌, ◌++◌, length, map, Bool, arith, append_assoc, length-append}
 use Rattle.std.specs.Prelude.{◌||◌}
-use Rattle.std.proofs.lemmas.List.{length-map, map-append, append-nil}
-use Rattle.pattern_match.specs.Automaton.{Place, Automaton, moved, followed, up, bare, copies, endless}
+use Rattle.std.proofs.lemmas.List.{length-map, map-append}
+use Rattle.pattern_match.specs.Automaton.{Place, Automaton, moved, followed, up, copies, endless}
 
 up_up : (a b : ℕ) (ns : List ℕ) → up a (up b ns) ≡ up (a + b) ns
 up_up a b [] = refl

@@ -1,6 +1,6 @@
 -- A pattern's language is its literal start, and behind it the language of the rest.
-use Rattle.std.proofs.Common.{◌≡◌, refl, sym, ◌∙◌, ap, subst, ℕ, zero, suc, ◌+◌, ◌<◌, ◌≤◌, ◌==◌, Bool, true, false, List, [], ◌∷◌, ◌++◌, length, Option, Some, None, ◌⊎◌, inl, inr, arith, append_assoc, append-nil, length-append}
-use Rattle.std.specs.Prelude.{◌&&◌, ◌||◌, unwrap_or, fold}
+use Rattle.std.proofs.Common.{◌≡◌, refl, sym, ◌∙◌, ap, subst, ℕ, ◌+◌, ◌≤◌, ◌==◌, Bool, true, false, List, [], ◌∷◌, ◌++◌, length, Option, Some, None, arith, append_assoc, append-nil, length-append}
+use Rattle.std.specs.Prelude.{◌||◌, unwrap_or, fold}
 use Rattle.std.specs.List.{list_any}
 use Rattle.pattern_syntax.specs.ByteSet.{only_of}
 use Rattle.pattern_syntax.specs.Tree.{Tree, tree_from, Set, Nothing, Both, Either, Repeat}
@@ -11,7 +11,7 @@ use Rattle.pattern_syntax.specs.Parts.{with_byte, bytes_tree}
 use Rattle.pattern_syntax.specs.Nodes.{after_node, after_nodes, tree_of}
 use Rattle.pattern_syntax.specs.declared.node.Node.{Node}
 use Rattle.pattern_syntax.specs.declared.node.Node.TheVariants as node
-use Rattle.pattern_match.specs.Starts.{unless_literal, behind_start, in_front, with_start, Parts}
+use Rattle.pattern_match.specs.Starts.{unless_literal, behind_start, in_front, Parts}
 use Rattle.pattern_match.proofs.Language.{and_first, and_second}
 
 -- a text that goes on behind a front into a language

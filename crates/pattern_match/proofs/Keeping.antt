@@ -1,9 +1,8 @@
 -- The bits of a word whose classes have a byte.
-use Rattle.std.proofs.Common.{◌≡◌, refl, sym, ◌∙◌, ap, ℕ, ◌+◌, ◌-◌, ◌*◌, ◌/◌, ◌%◌, ◌^◌, ◌<◌, ◌==◌, ◌≢◌, Bool, true, false, List, get_or, ◌⊎◌, inl, inr, arith, w64}
+use Rattle.std.proofs.Common.{◌≡◌, refl, sym, ◌∙◌, ap, ℕ, ◌-◌, ◌^◌, ◌<◌, ◌==◌, ◌≢◌, Bool, true, false, ◌⊎◌, inl, inr, arith, w64}
 use Rattle.std.specs.Prelude.{◌||◌, ◌&&◌, bit_and}
 use Rattle.std.specs.Int.{bit_at, trailing_zeros}
 use Rattle.std.proofs.lemmas.Nat.Bits.{bit_at-trailing_zeros, bit_at-zero}
-use Rattle.pattern_match.specs.States.{bit}
 use Rattle.pattern_match.proofs.LowestBits.{lowest_gone, others_stay, equal_or_not}
 
 at_lowest : (old test now left all same : Bool) → left ≡ true → now ≡ false → same ≡ true → (old || (left && test)) ≡ all → ((old || (test && same)) || (now && test)) ≡ all

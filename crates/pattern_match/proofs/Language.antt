@@ -5,6 +5,7 @@ use Rattle.std.specs.List.{list_any}
 use Rattle.pattern_syntax.specs.Tree.{Tree, Set, Nothing, Both, Either, Repeat}
 use Rattle.pattern_syntax.specs.Language.{In, Joined, AtMost}
 use Rattle.pattern_match.specs.Residuals.{has_texts, is_count, is_some_list}
+use Rattle.pattern_match.specs.Quotients.{nullable}
 
 pub and_first : (x y : Bool) → (x && y) ≡ true → x ≡ true
 and_first true y h = refl
@@ -29,14 +30,6 @@ or_left false y h = cc
 pub or_right : (x y : Bool) → y ≡ true → (x || y) ≡ true
 or_right true y h = refl
 or_right false y h = h
-
--- the empty text is in the language
-abbrev pub nullable : Tree → Bool
-nullable (Set bytes) = false
-nullable Nothing = true
-nullable (Both first second) = nullable first && nullable second
-nullable (Either left right) = nullable left || nullable right
-nullable (Repeat least most piece) = is_count least most && ((least == 0) || nullable piece)
 
 pub at_most : (k : ℕ) (most : Option ℕ) → is_count k most ≡ true → AtMost k most
 at_most k None h = tt

@@ -2,6 +2,7 @@ pub mod Language
 pub mod Cutting
 pub mod Running
 pub mod Holding
+pub mod Quotients
 pub mod Classes
 pub mod Lists
 pub mod Stacks

@@ -1,13 +1,12 @@
 -- Words taken apart at their lowest bit.
-use Rattle.std.proofs.Common.{◌≡◌, refl, sym, ◌∙◌, ap, subst, ℕ, zero, suc, ◌+◌, ◌-◌, ◌*◌, ◌/◌, ◌%◌, ◌^◌, ◌<◌, ◌≤◌, ◌==◌, ◌≢◌, Bool, true, false, List, length, set, get_or, ◌⊎◌, inl, inr, arith, w64, min, max}
-use Rattle.std.specs.Prelude.{◌||◌, ◌&&◌, bit_and, bit_or}
+use Rattle.std.proofs.Common.{◌≡◌, refl, sym, ◌∙◌, ap, subst, ℕ, zero, suc, ◌+◌, ◌-◌, ◌*◌, ◌/◌, ◌%◌, ◌^◌, ◌<◌, ◌≤◌, ◌==◌, ◌≢◌, Bool, true, false, List, length, set, get_or, ◌⊎◌, inl, inr, arith, w64, min}
+use Rattle.std.specs.Prelude.{◌||◌, ◌&&◌, bit_and}
 use Rattle.std.specs.Int.{bit_at, trailing_zeros}
 use native.Mathlib.Numerals.{unary_clauses}
 use Rattle.std.proofs.Math.Nat.{le-mul_of_pos_right}
 use Rattle.std.proofs.lemmas.Nat.{and_le_r}
-use Rattle.std.proofs.lemmas.Nat.Bits.{bit_at_and, bit_at_or, bit_at-zero, bit_at-lt, bit_at-suc, bit_at_lowest, bit_at-trailing_zeros}
+use Rattle.std.proofs.lemmas.Nat.Bits.{bit_at_and, bit_at-zero, bit_at-suc, bit_at_lowest, bit_at-trailing_zeros}
 use Rattle.std.proofs.lemmas.List.{get_or-set_same}
-use Rattle.pattern_match.proofs.WordBits.{word_both}
 use Rattle.pattern_match.specs.States.{bit}
 use Rattle.pattern_match.specs.Tables.{any_below, any_bit}
 

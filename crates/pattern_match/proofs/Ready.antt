@@ -1,15 +1,15 @@
 -- An automaton made ready: marks, and what they leave, where it has tables and where it needs none.
-use Rattle.std.proofs.Common.{◌≡◌, refl, sym, ◌∙◌, ap, subst, ℕ, zero, suc, ◌+◌, ◌-◌, ◌*◌, ◌<◌, ◌≤◌, ◌==◌, Bool, true, false, List, [], ◌∷◌, ◌++◌, length, take, drop, get_or, arith, append_assoc, append-nil}
-use Rattle.std.specs.Prelude.{◌&&◌, not, nat_lt, slice_get}
+use Rattle.std.proofs.Common.{◌≡◌, refl, sym, ◌∙◌, ap, subst, ℕ, suc, ◌+◌, ◌-◌, ◌*◌, ◌<◌, ◌≤◌, ◌==◌, Bool, true, false, List, [], ◌∷◌, ◌++◌, length, take, drop, get_or, arith, append_assoc, append-nil}
+use Rattle.std.specs.Prelude.{◌&&◌, not, nat_lt}
 use Rattle.std.proofs.lemmas.List.{take_more, take_all, take-append-drop}
 use Rattle.pattern_syntax.specs.Tree.{Tree}
 use Rattle.pattern_syntax.specs.Language.{In}
 use Rattle.pattern_match.specs.Residuals.{residuals, is_some_list}
-use Rattle.pattern_match.specs.Automaton.{Place, automaton, all_places}
-use Rattle.pattern_match.specs.States.{bit, width_of, is_bare, AreMarks, IsMarked, AreMarksBy, IsBehindBy, AreMarksOf, IsBehind, IsRead}
+use Rattle.pattern_match.specs.Automaton.{automaton, all_places}
+use Rattle.pattern_match.specs.States.{bit, is_bare, AreMarks, IsMarked, AreMarksBy, IsBehindBy, AreMarksOf, IsBehind, IsRead}
 use Rattle.pattern_match.specs.Tables.{AreTables}
 use Rattle.pattern_match.specs.declared.class.Class.{Class}
-use Rattle.pattern_match.proofs.Language.{and_first, and_second, in_empty, empty_in}
+use Rattle.pattern_match.proofs.Language.{and_first, and_second, empty_in}
 use Rattle.pattern_match.proofs.Running.{Runs, automaton_runs, no_first}
 use Rattle.pattern_match.proofs.Stepping.{IsStep, IsEnd, IsAny, step_onto, step_from, end_from, end_onto, any_left, left_any}
 use Rattle.pattern_match.proofs.RunTables.{IsMachine, start_made, start_stands, wide, stepped_states}

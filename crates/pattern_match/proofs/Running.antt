@@ -7,7 +7,8 @@ use Rattle.pattern_syntax.specs.Tree.{Tree, Set, Nothing, Both, Either, Repeat}
 use Rattle.pattern_syntax.specs.Language.{In}
 use Rattle.pattern_match.specs.Residuals.{has_texts, is_count, is_some_list, Residual, and_then, of_copies, of_endless, residuals}
 use Rattle.pattern_match.specs.Automaton.{Place, Automaton, bare, single, up, moved, same_numbers, added, followed, in_turn, both, either, copy_before, looped, copies, endless, repeat_places, repeated, automaton}
-use Rattle.pattern_match.proofs.Language.{nullable, Steps, both_onto, both_from, both_skip, repeat_onto, repeat_from, fewer, has_more, and_both, or_right, in_empty, empty_in, has_text, text_of}
+use Rattle.pattern_match.specs.Quotients.{nullable}
+use Rattle.pattern_match.proofs.Language.{Steps, both_onto, both_from, both_skip, repeat_onto, repeat_from, fewer, has_more, and_both, or_right, in_empty, empty_in, has_text, text_of}
 
 -- the place may take the byte, and the text is left behind it
 abbrev pub Takes : List Residual → ℕ → ℕ → List ℕ → Type 0

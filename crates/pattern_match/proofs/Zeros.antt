@@ -1,18 +1,18 @@
 -- Parts that are repeated zero times are found from left to right, and passed over.
-use Rattle.std.proofs.Common.{◌≡◌, ◌≢◌, refl, sym, ◌∙◌, ap, subst, ℕ, zero, suc, ◌+◌, ◌-◌, ◌<◌, ◌≤◌, ◌==◌, Bool, true, false, List, [], ◌∷◌, ◌++◌, length, take, set, get_or, ◌⊎◌, inl, inr, arith, length-append, append-nil}
+use Rattle.std.proofs.Common.{◌≡◌, ◌≢◌, refl, sym, ◌∙◌, ap, subst, ℕ, suc, ◌+◌, ◌-◌, ◌<◌, ◌==◌, Bool, true, false, List, [], ◌∷◌, ◌++◌, length, take, set, get_or, ◌⊎◌, inl, inr, arith, append-nil}
 use Rattle.std.proofs.lemmas.List.{length-set}
-use Rattle.std.specs.Prelude.{reverse, ◌&&◌, ◌||◌, nat_le, Option, Some, None, slice_index, slice_get}
+use Rattle.std.specs.Prelude.{reverse, Option, Some, None, slice_index, slice_get}
 use Rattle.std.specs.Option.{option_to_list}
-use Rattle.std.proofs.lemmas.List.{reverse-append, take_more, take_all, get_or-set_same, get_or-set_other}
+use Rattle.std.proofs.lemmas.List.{reverse-append, take_more, get_or-set_same, get_or-set_other}
 use Rattle.pattern_syntax.specs.Tree as tree
 use Rattle.pattern_syntax.specs.Tree.{Tree}
 use Rattle.pattern_syntax.specs.Nodes.{after_node, after_nodes}
 use Rattle.pattern_syntax.specs.declared.node.Node.{Node}
 use Rattle.pattern_syntax.specs.declared.node.Node.TheVariants.{Byte, Set, Nothing, Both, Either, Repeat}
 use Rattle.pattern_match.specs.Residuals.{is_some_list}
-use Rattle.pattern_match.specs.Automaton.{Place, Automaton, automaton, bare, repeated}
+use Rattle.pattern_match.specs.Automaton.{Automaton, automaton, bare, repeated}
 use Rattle.pattern_match.specs.Building.{HoldsTrees, Builds, IsPut}
-use Rattle.pattern_match.specs.Skipping.{is_zero_repeat, trees_before, IsSkip, AreSkips, AreStarts, IsNoted}
+use Rattle.pattern_match.specs.Skipping.{is_zero_repeat, trees_before, IsSkip, AreStarts, IsNoted}
 use Rattle.pattern_match.proofs.Stacks.{pushed, after_more}
 use Rattle.pattern_match.proofs.Language.{and_first, and_second, is_zero}
 

@@ -24,7 +24,9 @@ pub record AreMarks (tree : Tree) (marks : List ℕ) : Type 0 where
 
 -- the text is in what is left behind a marked state
 abbrev pub IsMarked : Tree → List ℕ → List ℕ → Type 0
-IsMarked tree marks text = (k : ℕ) × (residual : Residual) × (slice_get (all_residuals tree) k ≡ Some residual) × (bit marks k ≡ true) × In residual.1 text
+IsMarked tree marks text =
+    (k : ℕ) × (residual : Residual) × (slice_get (all_residuals tree) k ≡ Some residual)
+    × (bit marks k ≡ true) × In residual.1 text
 
 -- the pattern holds the empty text alone, so that it needs no marks
 abbrev pub is_bare : Tree → Bool
@@ -48,9 +50,12 @@ IsBehind tree marks text = IsBehindBy (is_bare tree) tree marks text
 
 -- the marks are those behind a text: what they leave is what completes it
 abbrev pub IsRead : Tree → List ℕ → List ℕ → Type 0
-IsRead tree marks text = (rest : List ℕ) → (IsBehind tree marks rest → In tree (text ++ rest)) × (In tree (text ++ rest) → IsBehind tree marks rest)
+IsRead tree marks text =
+    (rest : List ℕ) → (IsBehind tree marks rest → In tree (text ++ rest))
+    × (In tree (text ++ rest) → IsBehind tree marks rest)
 
--- how many bytes of the literal start were read, more than it has where another byte was met; and marks of what stands behind it
+-- how many bytes of the literal start were read, more than it has where another byte was met; and marks of what stands
+-- behind it
 pub record Progress : Type 0 where
   pub seen : ℕ
   pub marks : List ℕ
@@ -64,7 +69,10 @@ pub record AreStatesOf (tree : Tree) (states : Progress) : Type 0 where
 
 -- the text is in what the states leave: what the start still lacks, and then what is left behind the marks
 abbrev pub IsLeft : Tree → Progress → List ℕ → Type 0
-IsLeft tree states rest = (states.seen ≤ length (literal_start_of tree)) × (text : List ℕ) × (rest ≡ drop states.seen (literal_start_of tree) ++ text) × IsBehind (behind_start tree) states.marks text
+IsLeft tree states rest =
+    (states.seen ≤ length (literal_start_of tree)) × (text : List ℕ)
+    × (rest ≡ drop states.seen (literal_start_of tree) ++ text)
+    × IsBehind (behind_start tree) states.marks text
 
 -- the states stand for a text: what they leave is what completes the text to one of the language
 pub record StandsFor (tree : Tree) (states : Progress) (text : List ℕ) : Type 0 where
@@ -74,4 +82,5 @@ pub record StandsFor (tree : Tree) (states : Progress) (text : List ℕ) : Type 
 -- the language holds the path or something below it
 abbrev pub Below : Tree → Path → Type 0
 Below tree [] = Opens tree (47 ∷ [])
-Below tree (name ∷ names) = In tree (path_text (name ∷ names)) ⊎ Opens tree (path_text (name ∷ names) ++ 47 ∷ [])
+Below tree (name ∷ names) =
+    In tree (path_text (name ∷ names)) ⊎ Opens tree (path_text (name ∷ names) ++ 47 ∷ [])

@@ -244,6 +244,16 @@ impl Fragment {
         })
     }
 
+    // The first positions, as they are counted behind one copy.
+    fn first_behind_a_copy(&self, alloc: Global) -> Result<Vec<u32>, OutOfMemory>
+        ensures { IfOk result (λ first.
+            first.items ≡ up (length self.now.places) self.now.first) }
+    {
+        let by = count(self.positions.len())?;
+        let first = counted_up(alloc, self.first.as_slice(), by)?;
+        Ok(first)
+    }
+
     // The piece from `least` to `most` times.
     fn copies(self, alloc: Global, least: u32, most: u32) -> Result<Fragment, OutOfMemory>
         ensures { IfOk result (λ fragment. fragment ≡ copies least most self) }
@@ -251,14 +261,13 @@ impl Fragment {
         if most == 0 {
             return Ok(Fragment::bare(alloc, true));
         }
+        let later = self.first_behind_a_copy(alloc)?;
         let Fragment {
             positions: piece,
             first,
             holds_empty,
             is_live: _,
         } = self;
-        let by = count(piece.len())?;
-        let later = counted_up(alloc, first.as_slice(), by)?;
         let mut positions = Vec::new(alloc);
         'copies: for done in 0..most - 1 {
             let can_stop = may_stop(least.saturating_sub(done + 1), holds_empty);
@@ -286,14 +295,13 @@ impl Fragment {
         if least == 0 {
             return self.looped(true);
         }
+        let later = self.first_behind_a_copy(alloc)?;
         let Fragment {
             positions: piece,
             first,
             holds_empty,
             is_live: _,
         } = self;
-        let by = count(piece.len())?;
-        let later = counted_up(alloc, first.as_slice(), by)?;
         let mut positions = Vec::new(alloc);
         'copies: for _done in 0..least - 1 {
             append_copy(

@@ -5,6 +5,8 @@ ghost use Rattle.pattern_syntax.specs.Language.{In, Opens, holds};
 ghost use Rattle.pattern_syntax.specs.Literal.{literal_start_of};
 ghost use Rattle.pattern_syntax.specs.Nodes.{tree_of};
 ghost use Rattle.pattern_syntax.specs.declared.node.Node.TheVariants as node;
+ghost use Rattle.label_base.specs.Path.{Path};
+ghost use Rattle.pattern_match.specs.Quotients.{holds_below};
 ghost use Rattle.pattern_match.specs.Starts.{Parts};
 ghost use Rattle.pattern_match.specs.States.{AreStatesOf, StandsFor, Below};
 
@@ -58,7 +60,8 @@ fn sequence(alloc: Global, rest: &[Node]) -> Result<Vec<Node>, OutOfMemory>
 
 // The nodes of what stands behind the literal start.
 fn nodes_behind(alloc: Global, pattern: &Pattern) -> Result<Vec<Node>, OutOfMemory>
-    ensures { IfOk result (λ nodes. Parts pattern.now (literal_start_of pattern.now) (tree_of nodes.items)) }
+    ensures { IfOk result (λ nodes.
+        Parts pattern.now (literal_start_of pattern.now) (tree_of nodes.items)) }
 {
     pattern.has_no_empty_set();
     let (_start, rest) = pattern.parts();
@@ -128,7 +131,8 @@ impl Matcher {
     pub fn step(&self, states: &mut States, byte: u8)
         requires { AreStatesOf self.now states.old }
         ensures made { AreStatesOf self.now states.new }
-        ensures stands { (text : List ℕ) → StandsFor self.now states.old text → StandsFor self.now states.new (text ++ byte ∷ []) }
+        ensures stands { (text : List ℕ) → StandsFor self.now states.old text
+            → StandsFor self.now states.new (text ++ byte ∷ []) }
     {
         let seen = states.seen;
         let start = self.start.as_slice();
@@ -153,8 +157,10 @@ impl Matcher {
     /// Whether the text that was read is in the language.
     pub fn accepts(&self, states: &States) -> bool
         requires { AreStatesOf self.now states.now }
-        ensures language { (text : List ℕ) → StandsFor self.now states.now text → IsTrue result ↔ In self.now text }
-        ensures value { (text : List ℕ) → StandsFor self.now states.now text → result ≡ holds self.now text }
+        ensures language { (text : List ℕ) → StandsFor self.now states.now text
+            → IsTrue result ↔ In self.now text }
+        ensures value { (text : List ℕ) → StandsFor self.now states.now text
+            → result ≡ holds self.now text }
     {
         if states.seen != self.start.len() {
             return false;
@@ -165,7 +171,8 @@ impl Matcher {
     /// Whether some text of the language begins with the text that was read.
     pub fn alive(&self, states: &States) -> bool
         requires { AreStatesOf self.now states.now }
-        ensures { (text : List ℕ) → StandsFor self.now states.now text → IsTrue result ↔ Opens self.now text }
+        ensures { (text : List ℕ) → StandsFor self.now states.now text
+            → IsTrue result ↔ Opens self.now text }
     {
         if states.seen > self.start.len() {
             return false;
@@ -178,7 +185,8 @@ impl Matcher {
         requires from { AreStatesOf self.now from.now }
         requires to { AreStatesOf self.now to.old }
         ensures made { AreStatesOf self.now to.new }
-        ensures stands { (text : List ℕ) → StandsFor self.now from.now text → StandsFor self.now to.new text }
+        ensures stands { (text : List ℕ) → StandsFor self.now from.now text
+            → StandsFor self.now to.new text }
     {
         to.seen = from.seen;
         to.marks.copy_from(&from.marks);
@@ -222,6 +230,7 @@ impl Matcher {
         requires { AreStatesOf self.now states.old }
         ensures made { AreStatesOf self.now states.new }
         ensures below { IsTrue result ↔ Below self.now path.now }
+        ensures test { result ≡ holds_below self.now path.now }
     {
         if !self.read(states, path.as_text()) {
             return false;
@@ -240,6 +249,12 @@ impl Matcher {
 /// The law that the test by every cut, by which clauses compute, is membership in the language.
 pub fn every_cut_is_membership()
     ensures { (tree : Tree) (text : List ℕ) → IsTrue (holds tree text) ↔ In tree text }
+{}
+
+/// The law that the test by left quotients, by which clauses compute, tells whether the language holds the path or
+/// something below it.
+pub fn quotients_tell_what_is_below()
+    ensures { (tree : Tree) (path : Path) → IsTrue (holds_below tree path) ↔ Below tree path }
 {}
 
 #[cfg(test)]
@@ -353,6 +368,7 @@ mod tests {
         matcher.restart(&mut kept);
         assert!(rt; !matcher.accepts(&kept));
         every_cut_is_membership();
+        quotients_tell_what_is_below();
         Ok(())
     }
 }

@@ -1,4 +1,3 @@
-use Rattle.std.proofs.Common.{◌≡◌}
 use Rattle.pattern_match.proofs.WordBits.{word_bit}
 use Rattle.pattern_match.proofs.bits.with_bit_if.Goals as goal
 

@@ -1,4 +1,4 @@
-use Rattle.std.proofs.Common.{◌≡◌, ◌<◌, subst, sym, ℕ}
+use Rattle.std.proofs.Common.{◌<◌, subst, sym}
 use Rattle.pattern_match.specs.Skipping.{IsSkip}
 use Rattle.pattern_match.proofs.Zeros.{put_skip, put_node}
 use Rattle.pattern_match.proofs.compile.put_next.Goals as goal

@@ -1,8 +1,7 @@
 use Rattle.std.proofs.Common.{◌≡◌, ◌∙◌, sym, ap, subst, ◌∷◌, [], List, ℕ}
-use Rattle.pattern_syntax.specs.Nodes.{after_nodes, tree_of}
+use Rattle.pattern_syntax.specs.Nodes.{after_nodes}
 use Rattle.pattern_syntax.specs.Parts.{bytes_tree}
 use Rattle.pattern_syntax.specs.Literal.{literal_start_of}
-use Rattle.pattern_syntax.specs.Tree.{Tree}
 use Rattle.pattern_match.specs.Starts.{Parts}
 use Rattle.pattern_match.proofs.Cutting.{parts_are}
 use Rattle.pattern_match.proofs.matcher.nodes_behind.Goals as goal

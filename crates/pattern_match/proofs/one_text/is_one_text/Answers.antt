@@ -1,4 +1,4 @@
-use Rattle.std.proofs.Common.{◌≡◌, ◌∙◌, ap, sym, true, ℕ, List, length, ◌==◌, [], ◌∷◌}
+use Rattle.std.proofs.Common.{◌≡◌, ◌∙◌, ap, sym, ℕ, List, [], ◌∷◌}
 use Rattle.pattern_syntax.specs.Nodes.{after_nodes}
 use Rattle.pattern_syntax.specs.Parts.{bytes_tree}
 use Rattle.pattern_syntax.specs.Literal.{literal_start_of}

@@ -1,4 +1,4 @@
-use Rattle.std.proofs.Common.{◌≡◌, ◌∙◌, sym, ap, refl, length, false, true, [], arith}
+use Rattle.std.proofs.Common.{sym, ap, refl, length, true, []}
 use Rattle.pattern_syntax.specs.Literal.{literal_start_of}
 use Rattle.pattern_syntax.specs.Tree.{Nothing}
 use Rattle.pattern_match.proofs.OneText.{none_left}

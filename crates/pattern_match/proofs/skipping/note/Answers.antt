@@ -1,6 +1,5 @@
-use Rattle.std.proofs.Common.{◌≡◌, ◌∙◌, sym, ap, true}
-use Rattle.pattern_syntax.specs.declared.node.Node.TheVariants.{Byte, Nothing}
-use Rattle.pattern_match.specs.Skipping.{is_zero_repeat}
+use Rattle.std.proofs.Common.{sym}
+use Rattle.pattern_syntax.specs.declared.node.Node.TheVariants.{Byte}
 use Rattle.pattern_match.proofs.Zeros.{noted_byte, noted_set, noted_nothing, both_popped, either_popped, noted_repeat, pop_none}
 use Rattle.pattern_match.proofs.skipping.note.Goals as goal
 

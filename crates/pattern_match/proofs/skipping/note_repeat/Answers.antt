@@ -1,4 +1,3 @@
-use Rattle.std.proofs.Common.{◌≡◌}
 use Rattle.pattern_syntax.specs.declared.node.Node.TheVariants.{Nothing}
 use Rattle.pattern_match.proofs.Zeros.{noted_zero, last_start}
 use Rattle.pattern_match.proofs.skipping.note_repeat.Goals as goal

@@ -1,7 +1,4 @@
-use Rattle.std.proofs.Common.{◌≡◌, ◌+◌, ◌*◌, ◌<◌, ◌==◌, ◌/◌, ◌%◌, arith, length, get_or}
-use Rattle.std.specs.Prelude.{◌&&◌}
-use Rattle.std.specs.Int.{bit_at}
-use Rattle.pattern_match.specs.Class.{takes_at}
+use Rattle.std.proofs.Common.{◌≡◌, ◌+◌, ◌*◌, ◌<◌, ◌/◌, ◌%◌, arith}
 use Rattle.pattern_match.proofs.taking.keep_taking.Goals as goal
 
 pub returns-clause-bits : goal.returns-clause-bits

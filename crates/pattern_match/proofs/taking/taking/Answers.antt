@@ -1,4 +1,4 @@
-use Rattle.std.proofs.Common.{◌≡◌, ◌+◌, ◌∙◌, ◌==◌, ap, w64, arith}
+use Rattle.std.proofs.Common.{◌+◌, ◌∙◌, ◌==◌, ap, w64, arith}
 use Rattle.std.specs.Prelude.{◌||◌, ◌&&◌}
 use Rattle.std.specs.Int.{bit_at, trailing_zeros}
 use Rattle.pattern_match.specs.Class.{takes_at}

@@ -1,4 +1,4 @@
-use Rattle.std.proofs.Common.{◌≡◌, ◌∙◌, subst, sym, refl, List, ℕ, false}
+use Rattle.std.proofs.Common.{◌≡◌, ◌∙◌, subst, sym, List, ℕ, false}
 use Rattle.pattern_syntax.specs.Tree.{Tree}
 use Rattle.pattern_match.specs.States.{is_bare}
 use Rattle.pattern_match.proofs.Stepping.{IsAny}

@@ -1,4 +1,4 @@
-use Rattle.std.proofs.Common.{◌≡◌, ◌∙◌, ap, sym, true}
+use Rattle.std.proofs.Common.{◌∙◌, ap, sym}
 use Rattle.pattern_match.specs.States.{is_bare}
 use Rattle.pattern_match.proofs.Ready.{bare_matches}
 use Rattle.pattern_match.proofs.machine.Machine.matches.Goals as goal

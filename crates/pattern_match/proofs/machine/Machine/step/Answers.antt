@@ -1,4 +1,4 @@
-use Rattle.std.proofs.Common.{◌≡◌, ◌∙◌, ◌<◌, ap, subst, arith, length, List, ℕ, false}
+use Rattle.std.proofs.Common.{◌≡◌, ◌∙◌, ap, subst, arith, length, List, ℕ, false}
 use Rattle.pattern_syntax.specs.Tree.{Tree}
 use Rattle.pattern_match.proofs.RunTables.{marked_in, room, step_at}
 use Rattle.pattern_match.proofs.Ready.{IsReady, machine, some_marks, step_made, step_behind}

@@ -1,6 +1,5 @@
-use Rattle.std.proofs.Common.{◌≡◌, ◌∙◌, sym, ap, refl, length, false, true}
+use Rattle.std.proofs.Common.{◌≡◌, ◌∙◌, ap, false}
 use Rattle.pattern_syntax.specs.Literal.{literal_start_of}
-use Rattle.pattern_syntax.specs.Tree.{Tree}
 use Rattle.pattern_match.specs.Starts.{behind_start}
 use Rattle.pattern_match.proofs.Standing.{not_accepted, accepted, tells_holds}
 use Rattle.pattern_match.proofs.matcher.Matcher.accepts.Goals as goal

@@ -1,6 +1,5 @@
-use Rattle.std.proofs.Common.{◌≡◌, ◌∙◌, sym, ap, refl, length, false, true}
+use Rattle.std.proofs.Common.{◌≡◌, ◌∙◌, ap}
 use Rattle.pattern_syntax.specs.Literal.{literal_start_of}
-use Rattle.pattern_syntax.specs.Tree.{Tree}
 use Rattle.pattern_match.specs.Starts.{behind_start}
 use Rattle.pattern_match.proofs.Standing.{is_dead, is_alive}
 use Rattle.pattern_match.proofs.matcher.Matcher.alive.Goals as goal

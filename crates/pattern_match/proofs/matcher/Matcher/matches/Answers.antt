@@ -1,6 +1,5 @@
-use Rattle.std.proofs.Common.{◌≡◌, ◌∙◌, sym, ap, refl, length, false, true}
+use Rattle.std.proofs.Common.{◌≡◌, ◌∙◌, sym, ap, false}
 use Rattle.pattern_syntax.specs.Literal.{literal_start_of}
-use Rattle.pattern_syntax.specs.Tree.{Tree}
 use Rattle.pattern_match.specs.Starts.{behind_start}
 use Rattle.pattern_match.proofs.Standing.{matches_not, matches_rest, whole_rest, tells_holds}
 use Rattle.pattern_match.proofs.matcher.Matcher.matches.Goals as goal

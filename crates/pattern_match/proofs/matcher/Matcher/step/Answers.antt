@@ -1,7 +1,6 @@
-use Rattle.std.proofs.Common.{◌≡◌, ◌∙◌, sym, ap, refl, length, false, true, arith}
+use Rattle.std.proofs.Common.{◌≡◌, ◌∙◌, sym, ap, arith}
 use Rattle.pattern_syntax.specs.Literal.{literal_start_of}
 use Rattle.pattern_match.specs.Starts.{behind_start}
-use Rattle.pattern_match.specs.States.{is_bare}
 use Rattle.pattern_match.proofs.Standing.{steps_start, steps_other, steps_dead, steps_bare, steps_behind}
 use Rattle.pattern_match.proofs.matcher.Matcher.step.Goals as goal
 
