@@ -1,5 +1,5 @@
--- Lists of the specifications that are alive, a byte on.
-use Rattle.std.proofs.Common.{◌≡◌, ◌∙◌, refl, sym, ap, subst, ℕ, zero, suc, ◌+◌, ◌-◌, ◌<◌, ◌≤◌, ◌⊎◌, inl, inr, true, false, List, [], ◌∷◌, ◌++◌, length, length-append, get_or, take, drop, append_assoc, append-nil, add-one, arith}
+-- Lists of the specifications that are alive, some bytes on.
+use Rattle.std.proofs.Common.{◌≡◌, ◌∙◌, refl, sym, ap, subst, ℕ, zero, suc, ◌+◌, ◌<◌, ◌≤◌, ◌⊎◌, inl, inr, Bool, true, false, List, [], ◌∷◌, ◌++◌, length, get_or, take, drop, append_assoc, append-nil, arith}
 use Rattle.std.proofs.lemmas.Bool.{cases_lt}
 use Rattle.std.proofs.lemmas.List.Elements.{All-push}
 use Rattle.std.proofs.lemmas.List.{take_more, take-append-drop}
@@ -10,7 +10,7 @@ use Rattle.pattern_syntax.specs.Tree.{Tree}
 use Rattle.spec_match.specs.Alive.{Alive, AreAlive, IsOwn, Leads, NoneAlive, alive, alive_at, pattern_at}
 use Rattle.spec_match.specs.Stepping.{GoesOn, IsDropped, IsWritten}
 
-less_opens : (t : Tree) (text more : List ℕ) → Opens t (text ++ more) → Opens t text
+pub less_opens : (t : Tree) (text more : List ℕ) → Opens t (text ++ more) → Opens t text
 less_opens t text more (rest, i) = (more ++ rest, subst (λ w. In t w) (append_assoc text more rest) i)
 
 none_more : (ps : List Tree) (text more : List ℕ) (from below : ℕ) → NoneAlive ps text from below → NoneAlive ps (text ++ more) from below
@@ -63,15 +63,15 @@ none_left ps text bound list k l h = subst (λ rest. AreAlive ps text (bound_at 
     past (one ∷ list) zero l = absurd (omega (arith, l))
     past (one ∷ list) (suc k) l = past list k (omega (arith, l))
 
--- so many members were stepped: what is written, and whatever is right for the rest, is right behind the byte
-pub record IsStepped (ps : List Tree) (byte : ℕ) (list draft : List Alive) (k : ℕ) : Type 0 where
+-- so many members were stepped: what is written, and whatever is right for the rest, is right behind the bytes
+pub record IsStepped (ps : List Tree) (tail : List ℕ) (list draft : List Alive) (k : ℕ) : Type 0 where
   pub own : All (IsOwn ps) draft
   pub so_far : (text : List ℕ) → AreAlive ps text (length ps) list → (rest : List Alive)
-      → AreAlive ps (text ++ byte ∷ []) (bound_at (length ps) list k) rest
-      → AreAlive ps (text ++ byte ∷ []) (length ps) (draft ++ rest)
+      → AreAlive ps (text ++ tail) (bound_at (length ps) list k) rest
+      → AreAlive ps (text ++ tail) (length ps) (draft ++ rest)
 
-pub none_stepped : (ps : List Tree) (byte : ℕ) (list draft : List Alive) → draft ≡ [] → IsStepped ps byte list draft 0
-none_stepped ps byte list draft e = subst (λ d. IsStepped ps byte list d 0) (sym e) (record {
+pub none_stepped : (ps : List Tree) (tail : List ℕ) (list draft : List Alive) → draft ≡ [] → IsStepped ps tail list draft 0
+none_stepped ps tail list draft e = subst (λ d. IsStepped ps tail list d 0) (sym e) (record {
   own = λ k d l. absurd (omega (arith, l));
   so_far = λ text a rest r. r;
 })
@@ -86,44 +86,44 @@ none_from ps text n below d h i l m o = elim (from_or_past i n l) [
   | inr past ↦ h i past m o
 ]
 
-dropped_on : (ps : List Tree) (pattern : Tree) (byte : ℕ) (list old new : List Alive) (k : ℕ) → k < length list → pattern ≡ pattern_at ps (alive_at list k).index → IsDropped pattern byte (alive_at list k) old new → IsStepped ps byte list old k → IsStepped ps byte list new (suc k)
-dropped_on ps pattern byte list old new k l e d s = record {
+dropped_on : (ps : List Tree) (pattern : Tree) (tail : List ℕ) (list old new : List Alive) (k : ℕ) → k < length list → pattern ≡ pattern_at ps (alive_at list k).index → IsDropped pattern tail (alive_at list k) old new → IsStepped ps tail list old k → IsStepped ps tail list new (suc k)
+dropped_on ps pattern tail list old new k l e d s = record {
   own = subst (All (IsOwn ps)) (sym d.same) s.own;
   so_far = λ text a rest r.
       let one = alive_at list k in
       let m = member_at ps text (length ps) list k l a in
-      let dead : Opens (pattern_at ps one.index) (text ++ byte ∷ []) → ⊥ =
-      subst (λ t. Opens t (text ++ byte ∷ []) → ⊥) e (d.dead text (subst (λ t. StandsFor t one.states text) (sym e) m.stands)) in
-      let none = none_from ps (text ++ byte ∷ []) one.index (bound_at (length ps) list k) dead (none_more ps text (byte ∷ []) (one.index + 1) (bound_at (length ps) list k) m.none) in
-      let behind = subst (λ n. AreAlive ps (text ++ byte ∷ []) n rest) (bound_next (length ps) list k l) r in
-      subst (λ w. AreAlive ps (text ++ byte ∷ []) (length ps) (w ++ rest)) (sym d.same)
-      (s.so_far text a rest (widened ps (text ++ byte ∷ []) one.index (bound_at (length ps) list k) rest (omega (arith, m.below)) none behind));
+      let dead : Opens (pattern_at ps one.index) (text ++ tail) → ⊥ =
+      subst (λ t. Opens t (text ++ tail) → ⊥) e (d.dead text (subst (λ t. StandsFor t one.states text) (sym e) m.stands)) in
+      let none = none_from ps (text ++ tail) one.index (bound_at (length ps) list k) dead (none_more ps text tail (one.index + 1) (bound_at (length ps) list k) m.none) in
+      let behind = subst (λ n. AreAlive ps (text ++ tail) n rest) (bound_next (length ps) list k l) r in
+      subst (λ w. AreAlive ps (text ++ tail) (length ps) (w ++ rest)) (sym d.same)
+      (s.so_far text a rest (widened ps (text ++ tail) one.index (bound_at (length ps) list k) rest (omega (arith, m.below)) none behind));
 }
 
-written_on : (ps : List Tree) (pattern : Tree) (byte : ℕ) (list old new : List Alive) (k : ℕ) → k < length list → pattern ≡ pattern_at ps (alive_at list k).index → IsOwn ps (alive_at list k) → IsWritten pattern byte (alive_at list k) old new → IsStepped ps byte list old k → IsStepped ps byte list new (suc k)
-written_on ps pattern byte list old new k l e o d s =
+written_on : (ps : List Tree) (pattern : Tree) (tail : List ℕ) (list old new : List Alive) (k : ℕ) → k < length list → pattern ≡ pattern_at ps (alive_at list k).index → IsOwn ps (alive_at list k) → IsWritten pattern tail (alive_at list k) old new → IsStepped ps tail list old k → IsStepped ps tail list new (suc k)
+written_on ps pattern tail list old new k l e o d s =
     let one = alive_at list k in
     let next = alive one.index d.states in
     let own : IsOwn ps next = record { within = o.within; made = subst (λ t. AreStatesOf t d.states) e d.made } in record {
       own = subst (All (IsOwn ps)) (sym d.more) (All-push (IsOwn ps) old next s.own own);
       so_far = λ text a rest r.
           let m = member_at ps text (length ps) list k l a in
-          let stands : StandsFor (pattern_at ps one.index) d.states (text ++ byte ∷ []) =
-          subst (λ t. StandsFor t d.states (text ++ byte ∷ [])) e (d.stands text (subst (λ t. StandsFor t one.states text) (sym e) m.stands)) in
-          let behind = subst (λ n. AreAlive ps (text ++ byte ∷ []) n rest) (bound_next (length ps) list k l) r in
-          let all : AreAlive ps (text ++ byte ∷ []) (length ps) (old ++ next ∷ rest) =
-          s.so_far text a (next ∷ rest) (m.below, none_more ps text (byte ∷ []) (one.index + 1) (bound_at (length ps) list k) m.none, stands, behind) in
-          subst (λ w. AreAlive ps (text ++ byte ∷ []) (length ps) w) (sym (append_assoc old (next ∷ []) rest) ∙ ap (λ w. w ++ rest) (sym d.more)) all;
+          let stands : StandsFor (pattern_at ps one.index) d.states (text ++ tail) =
+          subst (λ t. StandsFor t d.states (text ++ tail)) e (d.stands text (subst (λ t. StandsFor t one.states text) (sym e) m.stands)) in
+          let behind = subst (λ n. AreAlive ps (text ++ tail) n rest) (bound_next (length ps) list k l) r in
+          let all : AreAlive ps (text ++ tail) (length ps) (old ++ next ∷ rest) =
+          s.so_far text a (next ∷ rest) (m.below, none_more ps text tail (one.index + 1) (bound_at (length ps) list k) m.none, stands, behind) in
+          subst (λ w. AreAlive ps (text ++ tail) (length ps) w) (sym (append_assoc old (next ∷ []) rest) ∙ ap (λ w. w ++ rest) (sym d.more)) all;
     }
 
-pub stepped_on : (ps : List Tree) (pattern : Tree) (byte : ℕ) (list old new : List Alive) (k : ℕ) → k < length list → pattern ≡ pattern_at ps (alive_at list k).index → IsOwn ps (alive_at list k) → GoesOn pattern byte (alive_at list k) old new → IsStepped ps byte list old k → IsStepped ps byte list new (suc k)
-stepped_on ps pattern byte list old new k l e o (inl d) s = dropped_on ps pattern byte list old new k l e d s
-stepped_on ps pattern byte list old new k l e o (inr d) s = written_on ps pattern byte list old new k l e o d s
+pub stepped_on : (ps : List Tree) (pattern : Tree) (tail : List ℕ) (list old new : List Alive) (k : ℕ) → k < length list → pattern ≡ pattern_at ps (alive_at list k).index → IsOwn ps (alive_at list k) → GoesOn pattern tail (alive_at list k) old new → IsStepped ps tail list old k → IsStepped ps tail list new (suc k)
+stepped_on ps pattern tail list old new k l e o (inl d) s = dropped_on ps pattern tail list old new k l e d s
+stepped_on ps pattern tail list old new k l e o (inr d) s = written_on ps pattern tail list old new k l e o d s
 
-pub all_stepped : (ps : List Tree) (byte : ℕ) (list draft : List Alive) (k : ℕ) → length list ≤ k → IsStepped ps byte list draft k → Leads ps byte list draft
-all_stepped ps byte list draft k l s text a =
-    subst (λ w. AreAlive ps (text ++ byte ∷ []) (length ps) w) (append-nil draft)
-    (s.so_far text a [] (none_more ps text (byte ∷ []) 0 (bound_at (length ps) list k) (none_left ps text (length ps) list k l a)))
+pub all_stepped : (ps : List Tree) (tail : List ℕ) (list draft : List Alive) (k : ℕ) → length list ≤ k → IsStepped ps tail list draft k → Leads ps tail list draft
+all_stepped ps tail list draft k l s text a =
+    subst (λ w. AreAlive ps (text ++ tail) (length ps) w) (append-nil draft)
+    (s.so_far text a [] (none_more ps text tail 0 (bound_at (length ps) list k) (none_left ps text (length ps) list k l a)))
 
 -- the specifications from one on are written, before the first byte
 pub record IsStarted (ps : List Tree) (draft : List Alive) (left : ℕ) : Type 0 where
@@ -153,6 +153,17 @@ all_started ps draft left l s =
 pub read_more : (ps : List Tree) (text : List ℕ) (i : ℕ) (list : List Alive) → i < length text → AreAlive ps (take i text ++ get_or text i 0 ∷ []) (length ps) list → AreAlive ps (take (i + 1) text) (length ps) list
 read_more ps text i list l h = subst (λ w. AreAlive ps w (length ps) list) (sym (take_more text i 0 l)) h
 
--- what is dead behind a front is dead behind the whole
-pub front_none : (ps : List Tree) (text : List ℕ) (i from below : ℕ) → NoneAlive ps (take i text) from below → NoneAlive ps text from below
-front_none ps text i from below h = subst (λ w. NoneAlive ps w from below) (take-append-drop i text) (none_more ps (take i text) (drop i text) from below h)
+-- where nothing is alive behind a front of the text, nothing is behind the text
+pub none_behind : (ps : List Tree) (text : List ℕ) (i : ℕ) (list : List Alive) → list ≡ [] → AreAlive ps (take i text) (length ps) list → AreAlive ps text (length ps) list
+none_behind ps text i list e h =
+    let none : NoneAlive ps (take i text) 0 (length ps) = subst (AreAlive ps (take i text) (length ps)) e h in
+    subst (AreAlive ps text (length ps)) (sym e) (subst (λ w. NoneAlive ps w 0 (length ps)) (take-append-drop i text) (none_more ps (take i text) (drop i text) 0 (length ps) none))
+
+-- where no text of a language begins with a front and some bytes of the text behind it, none begins with front and text
+pub read_dead : (t : Tree) (states : Progress) (front text : List ℕ) (i b : ℕ) (v : Bool) → i < length text → b ≡ get_or text i 0 → v ≡ false → ((x : List ℕ) → StandsFor t states x → Opens t x → v ≡ true) → StandsFor t states ((front ++ take i text) ++ b ∷ []) → Opens t (front ++ text) → ⊥
+read_dead t states front text i b v l e f alive s o =
+    let read : (front ++ take i text) ++ b ∷ [] ≡ front ++ take (i + 1) text = append_assoc front (take i text) (b ∷ []) ∙ ap (λ w. front ++ w) (ap (λ c. take i text ++ c ∷ []) e ∙ sym (take_more text i 0 l)) in
+    let whole : front ++ text ≡ ((front ++ take i text) ++ b ∷ []) ++ drop (i + 1) text =
+    ap (λ w. front ++ w) (sym (take-append-drop (i + 1) text)) ∙ sym (append_assoc front (take (i + 1) text) (drop (i + 1) text)) ∙ ap (λ w. w ++ drop (i + 1) text) (sym read) in
+    let u : true ≡ false = sym (alive ((front ++ take i text) ++ b ∷ []) s (less_opens t ((front ++ take i text) ++ b ∷ []) (drop (i + 1) text) (subst (λ w. Opens t w) whole o))) ∙ f in
+    cc

@@ -1,8 +1,8 @@
 -- The first of a list that fits is the last specification that does.
-use Rattle.std.proofs.Common.{◌≡◌, ◌∙◌, refl, sym, ap, subst, ℕ, zero, suc, ◌+◌, ◌<◌, ◌≤◌, ◌⊎◌, inl, inr, Bool, true, false, cond, List, [], ◌∷◌, length, get_or, take, drop, map, filter, Some, None, add-one, arith}
+use Rattle.std.proofs.Common.{◌≡◌, ◌∙◌, refl, sym, ap, subst, ℕ, zero, suc, ◌+◌, ◌<◌, ◌≤◌, inl, inr, Bool, true, false, cond, List, [], ◌∷◌, ◌++◌, length, get_or, drop, map, filter, Some, None, arith}
 use Rattle.std.specs.Prelude.{◌&&◌}
 use Rattle.std.proofs.lemmas.Bool.{cases_lt}
-use Rattle.std.proofs.lemmas.List.{length-map, take-append-drop}
+use Rattle.std.proofs.lemmas.List.{length-map}
 use Rattle.label_base.specs.Kind.{applies}
 use Rattle.label_base.specs.declared.kind.Asked.{Asked}
 use Rattle.pattern_match.proofs.Reading.{not_holds}
@@ -13,7 +13,7 @@ use Rattle.spec_match.specs.LastMatch.{fits}
 use Rattle.spec_match.specs.Remembering.{IsAnswer}
 use Rattle.spec_match.specs.StatesFor.{patterns_of, spec_in}
 use Rattle.spec_match.specs.declared.rule.Rule.{Rule}
-use Rattle.spec_match.proofs.AliveLemmas.{bound_at, bound_next, front_none, member_at, none_left}
+use Rattle.spec_match.proofs.AliveLemmas.{bound_at, bound_next, less_opens, member_at, none_left}
 use Rattle.spec_match.proofs.LastLemmas.{found_index, found_member, found_decides, none_index, none_member, none_decides}
 use Rattle.spec_reader.specs.SpecValue.{SpecValue}
 
@@ -29,6 +29,14 @@ pub both_false : (x y : Bool) → y ≡ false → (x && y) ≡ false
 both_false true y e = e
 both_false false y e = refl
 
+-- what is dead behind a text doesn't fit it
+pub dead_fits : (asked : Asked) (text : List ℕ) (spec : SpecValue) → (Opens spec.pattern text → ⊥) → fits asked text spec ≡ false
+dead_fits asked text spec h = both_false (applies spec.kind asked) (holds spec.pattern text) (sym (not_holds spec.pattern text (holds spec.pattern text) refl h))
+
+-- nor one that begins with it
+pub dead_behind : (asked : Asked) (front more : List ℕ) (spec : SpecValue) → (Opens spec.pattern front → ⊥) → fits asked (front ++ more) spec ≡ false
+dead_behind asked front more spec h = dead_fits asked (front ++ more) spec (λ o. h (less_opens spec.pattern front more o))
+
 module _ (asked : Asked) (text : List ℕ) where
   -- none of the specifications from one on fits
   abbrev pub NoneFits : List Rule → ℕ → Type 0
@@ -38,7 +46,7 @@ module _ (asked : Asked) (text : List ℕ) where
   passed true s kept e h = cc
   passed false s kept e h = h
 
-  none_back : (rules : List Rule) (from to : ℕ) (d : Rule) → from ≤ to → ((j : ℕ) → from ≤ j → j < to → j < length rules → fits asked text (spec_in (get_or rules j d)) ≡ false) → NoneFits rules to → NoneFits rules from
+  pub none_back : (rules : List Rule) (from to : ℕ) (d : Rule) → from ≤ to → ((j : ℕ) → from ≤ j → j < to → j < length rules → fits asked text (spec_in (get_or rules j d)) ≡ false) → NoneFits rules to → NoneFits rules from
   none_back [] zero to d l f h = refl
   none_back [] (suc from) to d l f h = refl
   none_back (r ∷ rules) zero zero d l f h = h
@@ -48,13 +56,6 @@ module _ (asked : Asked) (text : List ℕ) where
   none_back (r ∷ rules) (suc from) zero d l f h = absurd (omega (arith, l))
   none_back (r ∷ rules) (suc from) (suc to) d l f h =
       none_back rules from to d (omega (arith, l)) (λ j a b c. f (suc j) (omega (arith, a)) (omega (arith, b)) (omega (arith, c))) h
-
-  dead_fits : (spec : SpecValue) → (Opens spec.pattern text → ⊥) → fits asked text spec ≡ false
-  dead_fits spec h = both_false (applies spec.kind asked) (holds spec.pattern text) (sym (not_holds spec.pattern text (holds spec.pattern text) refl h))
-
-  dead_from : (rules : List Rule) (j : ℕ) (d : Rule) (from below : ℕ) → NoneAlive (patterns_of rules) text from below → from ≤ j → j < below → j < length rules → fits asked text (spec_in (get_or rules j d)) ≡ false
-  dead_from rules j d from below h a b c =
-      dead_fits (spec_in (get_or rules j d)) (λ o. h j a b (subst (λ t. Opens t text) (pattern_of_rule rules j d c) o))
 
   pub found_answer : (rules : List Rule) (i : ℕ) (d : Rule) → i < length rules → fits asked text (spec_in (get_or rules i d)) ≡ true → NoneFits rules (suc i) → IsAnswer asked text (map spec_in rules) (Some i)
   found_answer rules i d l t h = record {
@@ -72,65 +73,66 @@ module _ (asked : Asked) (text : List ℕ) where
     decides = none_decides asked text rules h;
   }
 
-  past : (rules : List Rule) (n : ℕ) → length rules ≤ n → NoneFits rules n
+  pub past : (rules : List Rule) (n : ℕ) → length rules ≤ n → NoneFits rules n
   past [] zero l = refl
   past [] (suc n) l = refl
   past (r ∷ rules) zero l = absurd (omega (arith, l))
   past (r ∷ rules) (suc n) l = past rules n (omega (arith, l))
 
-  pub none_alive_answer : (rules : List Rule) (d : Rule) (below : ℕ) → NoneAlive (patterns_of rules) text 0 below → NoneFits rules below → IsAnswer asked text (map spec_in rules) None
+-- so many members of a list that is right behind a front of the text don't fit the text
+abbrev pub IsPassed : Asked → List ℕ → List ℕ → List Rule → List Alive → ℕ → Type 0
+IsPassed asked front text rules list k =
+    AreAlive (patterns_of rules) front (length (patterns_of rules)) list → NoneFits asked text rules (bound_at (length (patterns_of rules)) list k)
+
+pub none_passed : (asked : Asked) (front text : List ℕ) (rules : List Rule) (list : List Alive) → IsPassed asked front text rules list 0
+none_passed asked front text rules list h = past asked text rules (length (patterns_of rules)) (omega (arith, count_rules rules))
+
+-- lists that are right behind a front of the text, so that what is dead there doesn't fit the text
+module _ (asked : Asked) (front text : List ℕ) (dead : (spec : SpecValue) → (Opens spec.pattern front → ⊥) → fits asked text spec ≡ false) where
+  dead_from : (rules : List Rule) (j : ℕ) (d : Rule) (from below : ℕ) → NoneAlive (patterns_of rules) front from below → from ≤ j → j < below → j < length rules → fits asked text (spec_in (get_or rules j d)) ≡ false
+  dead_from rules j d from below h a b c =
+      dead (spec_in (get_or rules j d)) (λ o. h j a b (subst (λ t. Opens t front) (pattern_of_rule rules j d c) o))
+
+  pub none_alive_answer : (rules : List Rule) (d : Rule) (below : ℕ) → NoneAlive (patterns_of rules) front 0 below → NoneFits asked text rules below → IsAnswer asked text (map spec_in rules) None
   none_alive_answer rules d below h n =
-      none_answer rules (none_back rules 0 below d (omega arith) (λ j a b c. dead_from rules j d 0 below h a b c) n)
+      none_answer asked text rules (none_back asked text rules 0 below d (omega arith) (λ j a b c. dead_from rules j d 0 below h a b c) n)
 
   abbrev right : List Rule → List Alive → Type 0
-  right rules list = AreAlive (patterns_of rules) text (length (patterns_of rules)) list
+  right rules list = AreAlive (patterns_of rules) front (length (patterns_of rules)) list
 
-  -- so many members of the list don't fit
-  abbrev pub IsPassed : List Rule → List Alive → ℕ → Type 0
-  IsPassed rules list k = AreAlive (patterns_of rules) text (length (patterns_of rules)) list → NoneFits rules (bound_at (length (patterns_of rules)) list k)
-
-  pub none_passed : (rules : List Rule) (list : List Alive) → IsPassed rules list 0
-  none_passed rules list h = past rules (length (patterns_of rules)) (omega (arith, count_rules rules))
-
-  one_fits : (rules : List Rule) (list : List Alive) (k : ℕ) (rule : Rule) (v : Bool) → k < length list → rule ≡ get_or rules (alive_at list k).index rule → ((alive_at list k).index < length rules) → right rules list → ((t : List ℕ) → StandsFor rule.spec.pattern (alive_at list k).states t → v ≡ fits asked t rule.spec) → v ≡ fits asked text (spec_in (get_or rules (alive_at list k).index rule))
+  one_fits : (rules : List Rule) (list : List Alive) (k : ℕ) (rule : Rule) (v : Bool) → k < length list → rule ≡ get_or rules (alive_at list k).index rule → ((alive_at list k).index < length rules) → right rules list → (StandsFor rule.spec.pattern (alive_at list k).states front → v ≡ fits asked text rule.spec) → v ≡ fits asked text (spec_in (get_or rules (alive_at list k).index rule))
   one_fits rules list k rule v l e w h f =
       let i = (alive_at list k).index in
-      let m = member_at (patterns_of rules) text (length (patterns_of rules)) list k l h in
+      let m = member_at (patterns_of rules) front (length (patterns_of rules)) list k l h in
       let p : rule.spec.pattern ≡ pattern_at (patterns_of rules) i = ap (λ (r : Rule). r.spec.pattern) e ∙ pattern_of_rule rules i rule w in
-      f text (subst (λ t. StandsFor t (alive_at list k).states text) (sym p) m.stands) ∙ ap (λ (r : Rule). fits asked text (spec_in r)) e
+      f (subst (λ t. StandsFor t (alive_at list k).states front) (sym p) m.stands) ∙ ap (λ (r : Rule). fits asked text (spec_in r)) e
 
-  pub passed_on : (rules : List Rule) (list : List Alive) (k : ℕ) (rule : Rule) (v : Bool) → k < length list → rule ≡ get_or rules (alive_at list k).index rule → (alive_at list k).index < length rules → ((t : List ℕ) → StandsFor rule.spec.pattern (alive_at list k).states t → v ≡ fits asked t rule.spec) → v ≡ false → IsPassed rules list k → IsPassed rules list (suc k)
+  pub passed_on : (rules : List Rule) (list : List Alive) (k : ℕ) (rule : Rule) (v : Bool) → k < length list → rule ≡ get_or rules (alive_at list k).index rule → (alive_at list k).index < length rules → (StandsFor rule.spec.pattern (alive_at list k).states front → v ≡ fits asked text rule.spec) → v ≡ false → IsPassed asked front text rules list k → IsPassed asked front text rules list (suc k)
   passed_on rules list k rule v l e w f z s h =
       let i = (alive_at list k).index in
       let n = bound_at (length (patterns_of rules)) list k in
-      let m = member_at (patterns_of rules) text (length (patterns_of rules)) list k l h in
+      let m = member_at (patterns_of rules) front (length (patterns_of rules)) list k l h in
       let misses : fits asked text (spec_in (get_or rules i rule)) ≡ false = sym (one_fits rules list k rule v l e w h f) ∙ z in
-      subst (λ b. NoneFits rules b) (sym (bound_next (length (patterns_of rules)) list k l))
-      (none_back rules i n rule (omega (arith, m.below)) (λ j a b c. at i j n rules rule a b c misses m.none) (s h))
+      subst (λ b. NoneFits asked text rules b) (sym (bound_next (length (patterns_of rules)) list k l))
+      (none_back asked text rules i n rule (omega (arith, m.below)) (λ j a b c. at i j n rules rule a b c misses m.none) (s h))
     where
-      at : (i j n : ℕ) (rules : List Rule) (rule : Rule) → i ≤ j → j < n → j < length rules → fits asked text (spec_in (get_or rules i rule)) ≡ false → NoneAlive (patterns_of rules) text (i + 1) n → fits asked text (spec_in (get_or rules j rule)) ≡ false
+      at : (i j n : ℕ) (rules : List Rule) (rule : Rule) → i ≤ j → j < n → j < length rules → fits asked text (spec_in (get_or rules i rule)) ≡ false → NoneAlive (patterns_of rules) front (i + 1) n → fits asked text (spec_in (get_or rules j rule)) ≡ false
       at i j n rules rule a b c misses none = elim (cases_lt i j) [
         | inl above ↦ dead_from rules j rule (i + 1) n none (omega (arith, above)) b c
         | inr here ↦ subst (λ q. fits asked text (spec_in (get_or rules q rule)) ≡ false) (omega (arith, here, a)) misses
       ]
 
-  pub first_found : (rules : List Rule) (list : List Alive) (k : ℕ) (rule : Rule) (v : Bool) → k < length list → rule ≡ get_or rules (alive_at list k).index rule → (alive_at list k).index < length rules → ((t : List ℕ) → StandsFor rule.spec.pattern (alive_at list k).states t → v ≡ fits asked t rule.spec) → v ≡ true → IsPassed rules list k → right rules list → IsAnswer asked text (map spec_in rules) (Some (alive_at list k).index)
+  pub first_found : (rules : List Rule) (list : List Alive) (k : ℕ) (rule : Rule) (v : Bool) → k < length list → rule ≡ get_or rules (alive_at list k).index rule → (alive_at list k).index < length rules → (StandsFor rule.spec.pattern (alive_at list k).states front → v ≡ fits asked text rule.spec) → v ≡ true → IsPassed asked front text rules list k → right rules list → IsAnswer asked text (map spec_in rules) (Some (alive_at list k).index)
   first_found rules list k rule v l e w f z s h =
       let i = (alive_at list k).index in
       let n = bound_at (length (patterns_of rules)) list k in
-      let m = member_at (patterns_of rules) text (length (patterns_of rules)) list k l h in
-      found_answer rules i rule w (sym (one_fits rules list k rule v l e w h f) ∙ z)
-      (none_back rules (suc i) n rule (omega (arith, m.below)) (λ j a b c. dead_from rules j rule (i + 1) n m.none (omega (arith, a)) b c) (s h))
+      let m = member_at (patterns_of rules) front (length (patterns_of rules)) list k l h in
+      found_answer asked text rules i rule w (sym (one_fits rules list k rule v l e w h f) ∙ z)
+      (none_back asked text rules (suc i) n rule (omega (arith, m.below)) (λ j a b c. dead_from rules j rule (i + 1) n m.none (omega (arith, a)) b c) (s h))
 
-  pub none_found : (rules : List Rule) (list : List Alive) (k : ℕ) → length list ≤ k → IsPassed rules list k → right rules list → IsAnswer asked text (map spec_in rules) None
+  pub none_found : (rules : List Rule) (list : List Alive) (k : ℕ) → length list ≤ k → IsPassed asked front text rules list k → right rules list → IsAnswer asked text (map spec_in rules) None
   none_found rules list k l s h = at rules refl
     where
       at : (rs : List Rule) → rules ≡ rs → IsAnswer asked text (map spec_in rules) None
-      at [] e = none_answer rules (ap (λ (w : List Rule). filter (fits asked text) (map spec_in w)) e)
-      at (r ∷ rs) e = none_alive_answer rules r (bound_at (length (patterns_of rules)) list k) (none_left (patterns_of rules) text (length (patterns_of rules)) list k l h) (s h)
-
--- where nothing is alive behind a front, nothing fits
-pub none_behind : (asked : Asked) (text : List ℕ) (rules : List Rule) (i : ℕ) (list : List Alive) → list ≡ [] → AreAlive (patterns_of rules) (take i text) (length (patterns_of rules)) list → IsAnswer asked text (map spec_in rules) None
-none_behind asked text rules i list e h =
-    none_found asked text rules [] 0 (omega arith) (none_passed asked text rules [])
-    (front_none (patterns_of rules) text i 0 (length (patterns_of rules)) (subst (AreAlive (patterns_of rules) (take i text) (length (patterns_of rules))) e h))
+      at [] e = none_answer asked text rules (ap (λ (w : List Rule). filter (fits asked text) (map spec_in w)) e)
+      at (r ∷ rs) e = none_alive_answer rules r (bound_at (length (patterns_of rules)) list k) (none_left (patterns_of rules) front (length (patterns_of rules)) list k l h) (s h)

@@ -4,5 +4,8 @@ pub mod MemberLemmas
 pub mod ListLemmas
 pub mod AliveLemmas
 pub mod AnswerLemmas
+pub mod RelevantLemmas
 pub mod TableLemmas
 pub mod TrailLemmas
+pub mod CarryLemmas
+pub mod ChainLemmas

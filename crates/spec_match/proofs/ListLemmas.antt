@@ -1,9 +1,9 @@
 -- Lists one behind the other, and the one that is being written.
-use Rattle.std.proofs.Common.{◌≡◌, ◌∙◌, refl, sym, ap, ap₂, ℕ, zero, suc, ◌+◌, ◌-◌, ◌<◌, ◌≤◌, Bool, true, false, cond, List, [], ◌∷◌, ◌++◌, length, length-append, length-drop, length-take, get_or, take, drop, map, arith}
+use Rattle.std.proofs.Common.{◌≡◌, ◌∙◌, refl, sym, ap, ap₂, ℕ, zero, suc, ◌+◌, ◌-◌, ◌<◌, ◌≤◌, Bool, true, false, cond, List, [], ◌∷◌, ◌++◌, length, length-drop, length-take, get_or, take, drop, map, arith}
 use Rattle.std.proofs.lemmas.List.{drop-append-le, take_all, take-append-drop}
 use Rattle.std.specs.List.{AllByRecursion}
 use Rattle.spec_match.specs.Alive.{Alive, list_of}
-use Rattle.spec_match.specs.Written.{Written, IsWithin, list_at, written}
+use Rattle.spec_match.specs.Written.{IsWithin, list_at, written}
 use Rattle.spec_match.specs.declared.lists.Span.{Span}
 use Rattle.spec_match.proofs.MemberLemmas.{kept}
 

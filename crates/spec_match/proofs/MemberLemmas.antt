@@ -1,9 +1,9 @@
 -- Members, and the words of their marks.
-use Rattle.std.proofs.Common.{◌≡◌, ◌∙◌, refl, sym, ap, ap₂, subst, ℕ, zero, suc, ◌+◌, ◌<◌, ◌≤◌, List, [], ◌∷◌, ◌++◌, length, length-append, length-drop, length-take, get_or, take, drop, map, arith}
+use Rattle.std.proofs.Common.{◌≡◌, ◌∙◌, refl, sym, ap, ap₂, subst, ℕ, zero, suc, ◌+◌, ◌<◌, ◌≤◌, List, [], ◌∷◌, ◌++◌, length, length-drop, length-take, get_or, take, drop, map, arith}
 use Rattle.std.proofs.Math.Seq.{drop-append_seam}
 use Rattle.std.proofs.lemmas.List.{take-append-le, drop-append-le, take_all, take-append-drop}
 use Rattle.pattern_match.specs.States.{progress}
-use Rattle.spec_match.specs.Alive.{Alive, alive, alive_at, no_alive}
+use Rattle.spec_match.specs.Alive.{alive}
 use Rattle.spec_match.specs.Members.{AreLaidOut, alive_in}
 use Rattle.spec_match.specs.declared.members.Member.{Member}
 

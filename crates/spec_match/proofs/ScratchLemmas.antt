@@ -8,7 +8,14 @@ use Rattle.pattern_syntax.specs.Tree.{Tree, Nothing}
 use Rattle.spec_match.specs.StatesFor.{AreStatesFor, no_progress, pattern_in, patterns_of, spec_in}
 use Rattle.spec_match.specs.Remembering.{IsTableOf}
 use Rattle.spec_match.specs.Trail.{IsTrail}
-use Rattle.spec_match.specs.Scratches.{IsScratchOf, Room}
+use Rattle.spec_match.specs.Scratches.{IsScratchOf}
+use Rattle.spec_match.specs.Alive.{AreAlive, IsOwn}
+use Rattle.spec_match.specs.Carrying.{Carrying, IsAliveAt, IsCarriedOf, StandsAt}
+use Rattle.spec_match.specs.Tables.{kept_in}
+use Rattle.spec_match.specs.Workspaces.{IsWorkspaceFor, room_in}
+use Rattle.spec_match.specs.declared.workspace.Workspace.{Workspace}
+use Rattle.std.specs.List.{All}
+use Rattle.label_base.specs.Path.{Path, path_text}
 use Rattle.spec_match.specs.declared.rule.Rule.{Rule}
 use Rattle.spec_reader.specs.SpecValue.{SpecValue}
 
@@ -16,32 +23,44 @@ patterns_by_specs : (rules : List Rule) → map pattern_in (map spec_in rules) �
 patterns_by_specs [] = refl
 patterns_by_specs (r ∷ rules) = ap (λ ps. r.spec.pattern ∷ ps) (patterns_by_specs rules)
 
-pub scratch_of : (rules : List Rule) (specs : List SpecValue) (room : Room) → map spec_in rules ≡ specs → AreStatesFor (patterns_of rules) room.states → IsTableOf (patterns_of rules) (map spec_in rules) room.table → room.draft ≡ [] → IsTrail (patterns_of rules) room.table.lists room.trail → IsScratchOf specs room
-unfolding IsScratchOf
-scratch_of rules specs room h states table draft trail =
-    let e : patterns_of rules ≡ map pattern_in specs = sym (patterns_by_specs rules) ∙ ap (map pattern_in) h in record {
-      states = subst (λ ps. AreStatesFor ps room.states) e states;
-      table = subst (λ ps. IsTableOf ps specs room.table) e (subst (λ ss. IsTableOf (patterns_of rules) ss room.table) h table);
-      draft = draft;
-      trail = subst (λ ps. IsTrail ps room.table.lists room.trail) e trail;
-    }
+-- the rules of a list of specifications, and the specifications
+module _ (rules : List Rule) (specs : List SpecValue) (same : map spec_in rules ≡ specs) where
+  pub patterns_same : patterns_of rules ≡ map pattern_in specs
+  patterns_same = sym (patterns_by_specs rules) ∙ ap (map pattern_in) same
 
--- a scratch of the specifications, by their rules
-pub record IsReadyBy (rules : List Rule) (room : Room) : Type 0 where
-  pub states : AreStatesFor (patterns_of rules) room.states
-  pub table : IsTableOf (patterns_of rules) (map spec_in rules) room.table
-  pub draft : room.draft ≡ []
-  pub trail : IsTrail (patterns_of rules) room.table.lists room.trail
+  pub scratch_of : (w : Workspace) → IsWorkspaceFor rules w → IsScratchOf specs (room_in w)
+  unfolding IsScratchOf
+  scratch_of w ready = record {
+    states = subst (λ ps. AreStatesFor ps w.states.items) patterns_same ready.states;
+    table = subst (λ ps. IsTableOf ps specs (kept_in w.table)) patterns_same (subst (λ ss. IsTableOf (patterns_of rules) ss (kept_in w.table)) same ready.table);
+    draft = ready.draft;
+    trail = subst (λ ps. IsTrail ps w.table.lists.lists w.table.trail.items) patterns_same ready.trail;
+  }
 
-pub ready_in : (rules : List Rule) (specs : List SpecValue) (room : Room) → map spec_in rules ≡ specs → IsScratchOf specs room → IsReadyBy rules room
-unfolding IsScratchOf
-ready_in rules specs room h own =
-    let e : map pattern_in specs ≡ patterns_of rules = sym (ap (map pattern_in) h) ∙ patterns_by_specs rules in record {
-      states = subst (λ ps. AreStatesFor ps room.states) e own.states;
-      table = subst (λ ss. IsTableOf (patterns_of rules) ss room.table) (sym h) (subst (λ ps. IsTableOf ps specs room.table) e own.table);
-      draft = own.draft;
-      trail = subst (λ ps. IsTrail ps room.table.lists room.trail) e own.trail;
-    }
+  pub ready_in : (w : Workspace) → IsScratchOf specs (room_in w) → IsWorkspaceFor rules w
+  unfolding IsScratchOf
+  ready_in w own = record {
+    states = subst (λ ps. AreStatesFor ps w.states.items) (sym patterns_same) own.states;
+    table = subst (λ ss. IsTableOf (patterns_of rules) ss (kept_in w.table)) (sym same) (subst (λ ps. IsTableOf ps specs (kept_in w.table)) (sym patterns_same) own.table);
+    draft = own.draft;
+    trail = subst (λ ps. IsTrail ps w.table.lists.lists w.table.trail.items) (sym patterns_same) own.trail;
+  }
+
+  pub carried_of : (carried : Carrying) → All (IsOwn (patterns_of rules)) carried.alive → IsCarriedOf specs carried
+  unfolding IsCarriedOf
+  carried_of carried own = subst (λ ps. All (IsOwn ps) carried.alive) patterns_same own
+
+  pub carried_by : (carried : Carrying) → IsCarriedOf specs carried → All (IsOwn (patterns_of rules)) carried.alive
+  unfolding IsCarriedOf
+  carried_by carried own = subst (λ ps. All (IsOwn ps) carried.alive) (sym patterns_same) own
+
+  pub stands_of : (carried : Carrying) (path : Path) → IsAliveAt rules carried.is_root carried.alive path → StandsAt specs carried path
+  unfolding StandsAt
+  stands_of carried path at = (at.0, subst (λ ps. AreAlive ps (path_text path) (length ps) carried.alive) patterns_same at.1)
+
+  pub stands_by : (carried : Carrying) (path : Path) → StandsAt specs carried path → IsAliveAt rules carried.is_root carried.alive path
+  unfolding StandsAt
+  stands_by carried path at = (at.0, subst (λ ps. AreAlive ps (path_text path) (length ps) carried.alive) (sym patterns_same) at.1)
 
 at_or_before : (k n : ℕ) → k < n + 1 → (k < n) ⊎ (n ≡ k)
 at_or_before k n h = elim (cases_lt k n) [ inl below ↦ inl below | inr above ↦ inr (omega arith) ]

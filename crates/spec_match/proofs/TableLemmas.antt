@@ -1,12 +1,11 @@
 -- What is remembered stays right while lists are added and entries are noted.
-use Rattle.std.proofs.Common.{◌≡◌, ◌≢◌, ◌∙◌, sym, refl, ap, subst, ℕ, zero, suc, ◌+◌, ◌-◌, ◌*◌, ◌/◌, ◌%◌, ◌<◌, ◌≤◌, ◌==◌, ◌⊎◌, inl, inr, Bool, true, false, List, [], ◌∷◌, ◌++◌, Option, None, Some, length, length-append, length-set, get_or, get_or-set_same, get_or-set_other, set, slice_index, replicate, eqb-true, eq-eqb, true≢false, arith}
+use Rattle.std.proofs.Common.{◌≡◌, ◌≢◌, ◌∙◌, sym, refl, ap, subst, ℕ, zero, suc, ◌+◌, ◌-◌, ◌*◌, ◌/◌, ◌%◌, ◌<◌, ◌≤◌, ◌==◌, ◌⊎◌, inl, inr, Bool, true, false, List, [], ◌∷◌, ◌++◌, Option, length, length-append, length-set, get_or, get_or-set_same, get_or-set_other, set, slice_index, replicate, eqb-true, eq-eqb, true≢false, arith}
 use Rattle.std.proofs.Math.ListN.{get_or-append}
 use Rattle.std.proofs.lemmas.Bool.{cases_lt}
 use Rattle.std.proofs.lemmas.List.{get_or_default, get_or_push, length-replicate}
 use Rattle.std.specs.List.{All}
 use Rattle.label_base.specs.declared.kind.Asked.{Asked}
 use Rattle.label_base.specs.declared.kind.Asked.TheVariants.{Any, Of}
-use Rattle.label_base.specs.declared.kind.EntryKind.{EntryKind}
 use Rattle.label_base.specs.declared.kind.EntryKind.TheVariants.{Regular, Directory, Link, Pipe, Socket, Block, Char, Other}
 use Rattle.pattern_syntax.specs.Tree.{Tree}
 use Rattle.spec_reader.specs.SpecValue.{SpecValue}
@@ -102,7 +101,7 @@ added ps specs k new t own first none = record {
   answers = longer (IsNoted ps specs (k.lists ++ new ∷ [])) k.answers 9 (answers_kept ps specs k.lists new k.answers t.answers);
 }
 
-pub step_noted : (ps : List Tree) (specs : List SpecValue) (k : Kept) (from byte to : ℕ) → IsTableOf ps specs k → from < length k.lists → byte < 256 → to < length k.lists → Leads ps byte (list_of k.lists from) (list_of k.lists to) → IsTableOf ps specs (kept k.lists (set k.next (256 * from + byte) to) k.answers)
+pub step_noted : (ps : List Tree) (specs : List SpecValue) (k : Kept) (from byte to : ℕ) → IsTableOf ps specs k → from < length k.lists → byte < 256 → to < length k.lists → Leads ps (byte ∷ []) (list_of k.lists from) (list_of k.lists to) → IsTableOf ps specs (kept k.lists (set k.next (256 * from + byte) to) k.answers)
 step_noted ps specs k from byte to t f b o leads = record {
   own = t.own;
   first = t.first;

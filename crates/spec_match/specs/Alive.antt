@@ -1,6 +1,6 @@
 -- Which specifications are alive behind a text: some text of their language begins with it.
-use Rattle.std.specs.Prelude.{◌≡◌, ℕ, ◌+◌, ◌<◌, ◌≤◌, List, [], ◌∷◌, ◌++◌, length}
-use Rattle.std.specs.List.{All, slice_index_or}
+use Rattle.std.specs.Prelude.{ℕ, ◌+◌, ◌<◌, ◌≤◌, List, [], ◌∷◌, ◌++◌, length}
+use Rattle.std.specs.List.{slice_index_or}
 use Rattle.pattern_syntax.specs.Language.{Opens}
 use Rattle.pattern_syntax.specs.Tree.{Tree, Nothing}
 use Rattle.pattern_match.specs.States.{AreStatesOf, Progress, StandsFor}
@@ -42,10 +42,11 @@ abbrev pub AreAlive : List Tree → List ℕ → ℕ → List Alive → Type 0
 AreAlive patterns text bound [] = NoneAlive patterns text 0 bound
 AreAlive patterns text bound (one ∷ list) =
     (one.index < bound) × NoneAlive patterns text (one.index + 1) bound
-    × StandsFor (pattern_at patterns one.index) one.states text × AreAlive patterns text one.index list
+    × StandsFor (pattern_at patterns one.index) one.states text
+    × AreAlive patterns text one.index list
 
--- a byte leads from one list to another, behind whatever text
-abbrev pub Leads : List Tree → ℕ → List Alive → List Alive → Type 0
-Leads patterns byte from to =
+-- some bytes lead from one list to another, behind whatever text
+abbrev pub Leads : List Tree → List ℕ → List Alive → List Alive → Type 0
+Leads patterns tail from to =
     (text : List ℕ) → AreAlive patterns text (length patterns) from
-    → AreAlive patterns (text ++ byte ∷ []) (length patterns) to
+    → AreAlive patterns (text ++ tail) (length patterns) to

@@ -20,7 +20,8 @@ last_match asked text specs = last_of (filter (fits asked text) specs)
 
 -- the index of the last member that fits
 unfoldable pub last_index : Asked → List ℕ → List SpecValue → Option ℕ
-last_index asked text specs = last_of (map (λ p. p.0) (filter (λ p. fits asked text p.1) (enumerate_from 0 specs)))
+last_index asked text specs =
+    last_of (map (λ p. p.0) (filter (λ p. fits asked text p.1) (enumerate_from 0 specs)))
 
 -- the same as a relation: it applies, and the text is in its language
 abbrev pub Fits : Asked → List ℕ → SpecValue → Type 0
@@ -31,9 +32,11 @@ pub record IsLast (asked : Asked) (text : List ℕ) (specs : List SpecValue) (i 
   pub spec : SpecValue
   pub found : slice_get specs i ≡ Some spec
   pub fits : Fits asked text spec
-  pub last : (j : ℕ) (later : SpecValue) → i < j → slice_get specs j ≡ Some later → Fits asked text later → ⊥
+  pub last : (j : ℕ) (later : SpecValue) → i < j → slice_get specs j ≡ Some later
+      → Fits asked text later → ⊥
 
 -- the index is that of the last specification that fits, or none does
 abbrev pub Decides : Asked → List ℕ → List SpecValue → Option ℕ → Type 0
-Decides asked text specs None = (j : ℕ) (spec : SpecValue) → slice_get specs j ≡ Some spec → Fits asked text spec → ⊥
+Decides asked text specs None =
+    (j : ℕ) (spec : SpecValue) → slice_get specs j ≡ Some spec → Fits asked text spec → ⊥
 Decides asked text specs (Some i) = IsLast asked text specs i

@@ -1,4 +1,5 @@
 pub mod LastMatch
+pub mod Relevant
 pub mod StatesFor
 pub mod PatternTests
 pub mod Alive
@@ -10,3 +11,5 @@ pub mod Trail
 pub mod Tables
 pub mod Scratches
 pub mod Workspaces
+pub mod Carrying
+pub mod Chains

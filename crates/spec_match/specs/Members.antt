@@ -11,4 +11,5 @@ alive_in words member =
 -- the marks of each member stand behind those of the one before, and no others do
 abbrev pub AreLaidOut : ℕ → ℕ → List Member → Type 0
 AreLaidOut end at [] = at ≡ end
-AreLaidOut end at (member ∷ members) = (member.start ≡ at) × AreLaidOut end (at + member.width) members
+AreLaidOut end at (member ∷ members) =
+    (member.start ≡ at) × AreLaidOut end (at + member.width) members

@@ -1,4 +1,5 @@
--- What look-ups remember. An entry that is 0 is not known, and any other is right behind every text for which its list is.
+-- What look-ups remember. An entry that is 0 is not known, and any other is right behind every text for which its list
+-- is.
 use Rattle.std.specs.Prelude.{◌≡◌, ℕ, zero, suc, ◌+◌, ◌*◌, ◌/◌, ◌%◌, ◌<◌, List, [], ◌∷◌, ◌++◌, Option, Some, None, IfSome, length, option_and_then, replicate, slice_get, slice_index}
 use Rattle.std.specs.List.{All}
 use Rattle.label_base.specs.declared.kind.Asked.{Asked}
@@ -11,8 +12,8 @@ use Rattle.spec_match.specs.Alive.{Alive, AreAlive, IsOwn, Leads, list_of}
 use Rattle.spec_match.specs.Written.{Written}
 use Rattle.spec_match.specs.LastMatch.{Decides, last_index, last_match}
 
--- the lists that were reached; for each of them and each byte the number of the list to which the byte leads; for each of them and
--- each kind that may be asked for one more than the code of the answer
+-- the lists that were reached; for each of them and each byte the number of the list to which the byte leads; for each of
+-- them and each kind that may be asked for one more than the code of the answer
 pub record Kept : Type 0 where
   pub lists : List (List Alive)
   pub next : List ℕ
@@ -30,10 +31,11 @@ with_list k list =
 pub record Remembers (IsRight : ℕ → ℕ → Type 0) (row : List ℕ) : Type 0 where
   pub entry : (p v : ℕ) → slice_index row p ≡ suc v → IsRight p v
 
-pub record HasStep (patterns : List Tree) (lists : List (List Alive)) (from byte to : ℕ) : Type 0 where
+pub record HasStep (patterns : List Tree) (lists : List (List Alive)) (from byte to : ℕ)
+    : Type 0 where
   pub from_within : from < length lists
   pub to_within : to < length lists
-  pub leads : Leads patterns byte (list_of lists from) (list_of lists to)
+  pub leads : Leads patterns (byte ∷ []) (list_of lists from) (list_of lists to)
 
 abbrev pub IsStep : List Tree → List (List Alive) → ℕ → ℕ → Type 0
 IsStep patterns lists p v = HasStep patterns lists (p / 256) (p % 256) (suc v)
@@ -54,7 +56,8 @@ asked_of (suc (suc (suc (suc (suc (suc (suc zero))))))) = Of kind.Char
 asked_of (suc (suc (suc (suc (suc (suc (suc (suc n)))))))) = Of kind.Other
 
 -- what a look-up answers
-pub record IsAnswer (asked : Asked) (text : List ℕ) (specs : List SpecValue) (found : Option ℕ) : Type 0 where
+pub record IsAnswer (asked : Asked) (text : List ℕ) (specs : List SpecValue) (found : Option ℕ)
+    : Type 0 where
   pub within : IfSome found (λ i. i < length specs)
   pub index : found ≡ last_index asked text specs
   pub member : option_and_then (slice_get specs) found ≡ last_match asked text specs
@@ -64,7 +67,8 @@ abbrev pub decoded : ℕ → Option ℕ
 decoded zero = None
 decoded (suc i) = Some i
 
-pub record HasAnswer (patterns : List Tree) (specs : List SpecValue) (lists : List (List Alive)) (number asked code : ℕ) : Type 0 where
+pub record HasAnswer (patterns : List Tree) (specs : List SpecValue) (lists : List (List Alive))
+    (number asked code : ℕ) : Type 0 where
   pub within : number < length lists
   pub told : (text : List ℕ) → AreAlive patterns text (length patterns) (list_of lists number)
       → IsAnswer (asked_of asked) text specs (decoded code)

@@ -13,7 +13,8 @@ no_progress = record { seen = 0; marks = [] }
 -- there are states for each pattern, at its place
 pub record AreStatesFor (patterns : List Tree) (states : List Progress) : Type 0 where
   pub count : length states ≡ length patterns
-  pub own : (i : ℕ) → i < length patterns → AreStatesOf (slice_index_or patterns i Nothing) (slice_index_or states i no_progress)
+  pub own : (i : ℕ) → i < length patterns
+      → AreStatesOf (slice_index_or patterns i Nothing) (slice_index_or states i no_progress)
 
 abbrev pub pattern_in : SpecValue → Tree
 pattern_in spec = spec.pattern

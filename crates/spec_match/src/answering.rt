@@ -50,7 +50,8 @@ fn does_fit(
     requires list { list < length lists.now.lists }
     requires within { k < length (list_of lists.now.lists list) }
     requires made { AreStatesOf rule.now.spec.pattern states.old }
-    requires kept { AreStatesOf rule.now.spec.pattern (alive_at (list_of lists.now.lists list) k).states }
+    requires kept { AreStatesOf rule.now.spec.pattern
+        (alive_at (list_of lists.now.lists list) k).states }
     ensures made { AreStatesOf rule.now.spec.pattern states.new }
     ensures value { (text : List ℕ)
         → StandsFor rule.now.spec.pattern (alive_at (list_of lists.now.lists list) k).states text
@@ -73,7 +74,8 @@ pub fn first_fit(
     requires list { list < length lists.now.lists }
     ensures states { AreStatesFor (patterns_of rules.now) states.new.items }
     ensures told { (text : List ℕ)
-        → AreAlive (patterns_of rules.now) text (length (patterns_of rules.now)) (list_of lists.now.lists list)
+        → AreAlive (patterns_of rules.now) text (length (patterns_of rules.now))
+        (list_of lists.now.lists list)
         → IsAnswer asked text (map spec_in rules.now) result }
 {
     'alive: for k in 0..lists.list_len(list) {
@@ -85,8 +87,8 @@ pub fn first_fit(
     None
 }
 
-// Whether a specification fits. It counts as tried where its states are looked at.
-fn is_fit(rule: &Rule, states: &mut States, text: &[u8], asked: Asked, tried: &mut u64) -> bool
+/// Whether a specification fits. It counts as tried where its states are looked at.
+pub fn is_fit(rule: &Rule, states: &mut States, text: &[u8], asked: Asked, tried: &mut u64) -> bool
     requires { AreStatesOf rule.now.spec.pattern states.old }
     ensures made { AreStatesOf rule.now.spec.pattern states.new }
     ensures value { result ≡ fits asked text.now rule.now.spec }
@@ -96,28 +98,4 @@ fn is_fit(rule: &Rule, states: &mut States, text: &[u8], asked: Asked, tried: &m
     }
     *tried = tried.saturating_add(1);
     rule.does_fit(states, text, asked)
-}
-
-/// The last of all specifications that fits, each tried by itself.
-pub fn last_fit(
-    rules: &[Rule],
-    states: &mut Vec<States>,
-    text: &[u8],
-    asked: Asked,
-    tried: &mut u64,
-) -> Option<usize>
-    requires { AreStatesFor (patterns_of rules.now) states.old.items }
-    ensures states { AreStatesFor (patterns_of rules.now) states.new.items }
-    ensures told { IsAnswer asked text.now (map spec_in rules.now) result }
-{
-    let mut left = rules.len();
-    'rules: while left > 0 {
-        left -= 1;
-        let rule = &rules[left];
-        let own = &mut states[left];
-        if is_fit(rule, own, text, asked, tried) {
-            return Some(left);
-        }
-    }
-    None
 }

@@ -2,12 +2,18 @@
 #![tactic(auto)]
 
 mod answering;
+mod carried;
+#[cfg(test)]
+mod carried_tests;
+mod carrying;
 mod lists;
 mod members;
 mod pattern_test;
+mod relevant;
 mod rule;
 mod rule_set;
 mod scratch;
+mod starts;
 mod stepping;
 mod table;
 #[cfg(test)]
@@ -15,5 +21,6 @@ mod tests;
 mod trail;
 mod workspace;
 
+pub use carried::Carried;
 pub use rule_set::RuleSet;
 pub use scratch::Scratch;

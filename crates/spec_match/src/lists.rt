@@ -73,6 +73,11 @@ impl Lists {
         self.spans.len()
     }
 
+    /// How many members all lists have.
+    pub fn members(&self) -> usize {
+        self.members.len()
+    }
+
     /// How many specifications a list has.
     pub fn list_len(&self, i: usize) -> usize
         requires { i < length self.now.lists }

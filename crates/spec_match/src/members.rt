@@ -1,4 +1,4 @@
-ghost use Rattle.std.specs.Prelude.{◌≡◌, ◌<◌, ◌≤◌, ◌+◌, ◌++◌, ◌∷◌, [], true, IfOk, IfSome, drop, length, take, if◌then◌else◌};
+ghost use Rattle.std.specs.Prelude.{◌≡◌, ◌<◌, ◌≤◌, ◌+◌, ◌++◌, ◌∷◌, [], true, IfOk, IfSome, OnOk, drop, length, take, if◌then◌else◌};
 ghost use Rattle.spec_match.specs.Alive.{alive, alive_at};
 
 use label_base::OutOfMemory;
@@ -60,6 +60,16 @@ impl Members {
             words: Vec::with_capacity(alloc, words)?,
             members: Vec::with_capacity(alloc, members)?,
         })
+    }
+
+    /// No members, with no room.
+    pub fn empty(alloc: Global) -> Members
+        ensures { result ≡ [] }
+    {
+        Members {
+            words: Vec::new(alloc),
+            members: Vec::new(alloc),
+        }
     }
 
     /// How many members there are.
@@ -126,6 +136,19 @@ impl Members {
             unreachable!()
         };
         true
+    }
+
+    /// Adds a specification, and takes memory for it where there is no room. It may have none for an index or a number
+    /// of words past 32 bits.
+    pub fn add(&mut self, index: usize, states: &States) -> Result<(), OutOfMemory>
+        ensures { OnOk result (self.new ≡ self.old ++ alive index states.now ∷ []) }
+    {
+        self.members.reserve(1)?;
+        self.words.reserve(states.marks().len())?;
+        if !self.push(index, states) {
+            return Err(OutOfMemory);
+        }
+        Ok(())
     }
 
     /// Leaves the first of so many members alone. The room for the others stays.

@@ -1,12 +1,16 @@
-ghost use Rattle.std.specs.Prelude.{◌≡◌, ◌↔◌, ◌++◌, ◌∷◌, ℕ, List, [], false, IfOk, IsTrue};
+ghost use Rattle.std.specs.Prelude.{◌≡◌, ◌↔◌, ◌++◌, ◌∷◌, ℕ, List, [], false, true, IfOk, IsTrue};
 ghost use Rattle.label_base.specs.Kind.{applies, same_kind};
 ghost use Rattle.pattern_syntax.specs.Language.{Opens, holds};
+ghost use Rattle.pattern_syntax.specs.Literal.{literal_start_of};
 ghost use Rattle.pattern_match.specs.States.{AreStatesOf, StandsFor};
 ghost use Rattle.spec_match.specs.LastMatch.{fits};
+ghost use Rattle.label_base.specs.Path.{Path, path_text};
+ghost use Rattle.label_base.specs.PathRef.{path_of};
 ghost use Rattle.spec_match.specs.PatternTests.{IsTestOf, is_fact};
+ghost use Rattle.spec_match.specs.Relevant.{can_decide, is_root_path};
 
 use crate::pattern_test::PatternTest;
-use label_base::{Asked, EntryKind, OutOfMemory};
+use label_base::{Asked, EntryKind, OutOfMemory, PathRef};
 use pattern_match::{States, may_hold};
 use spec_reader::Spec;
 use std::alloc::Global;
@@ -49,6 +53,13 @@ impl Rule {
         ensures { IfOk result (λ states. AreStatesOf self.now.spec.pattern states) }
     {
         self.test.states(alloc, &self.spec.pattern)
+    }
+
+    /// The bytes that every text of the pattern begins with.
+    pub fn start(&self) -> &[u8]
+        ensures { result.now ≡ literal_start_of self.now.spec.pattern }
+    {
+        self.spec.pattern.start()
     }
 
     /// Whether the text begins with the pattern's literal start. Where it doesn't, its language doesn't hold it.
@@ -108,5 +119,83 @@ impl Rule {
             return false;
         }
         self.test.accepts(&self.spec.pattern, states)
+    }
+    /// Whether the language holds the text that was read.
+    pub fn accepts(&self, states: &States) -> bool
+        requires { AreStatesOf self.now.spec.pattern states.now }
+        ensures { (text : List ℕ) → StandsFor self.now.spec.pattern states.now text
+            → result ≡ holds self.now.spec.pattern text }
+    {
+        self.test.accepts(&self.spec.pattern, states)
+    }
+
+    /// Reads on. Where no text of the language begins with all that is read, it may stop early and say false.
+    pub fn read_on(&self, states: &mut States, text: &[u8]) -> bool
+        requires { AreStatesOf self.now.spec.pattern states.old }
+        ensures made { AreStatesOf self.now.spec.pattern states.new }
+        ensures stands { result ≡ true → (front : List ℕ)
+            → StandsFor self.now.spec.pattern states.old front
+            → StandsFor self.now.spec.pattern states.new (front ++ text.now) }
+        ensures dead { result ≡ false → (front : List ℕ)
+            → StandsFor self.now.spec.pattern states.old front
+            → Opens self.now.spec.pattern (front ++ text.now) → ⊥ }
+    {
+        'text: for byte in text {
+            self.step(states, *byte);
+            if !self.alive(states) {
+                return false;
+            }
+        }
+        true
+    }
+
+    /// Reads on from a path's text to that of a child of the path. Where no text of the language begins with it, it may
+    /// stop early and say false.
+    pub fn read_child(&self, states: &mut States, is_root: bool, name: &[u8]) -> bool
+        requires { AreStatesOf self.now.spec.pattern states.old }
+        ensures made { AreStatesOf self.now.spec.pattern states.new }
+        ensures stands { result ≡ true → (path : Path) → is_root ≡ is_root_path path
+            → StandsFor self.now.spec.pattern states.old (path_text path)
+            → StandsFor self.now.spec.pattern states.new (path_text (path ++ name.now ∷ [])) }
+        ensures dead { result ≡ false → (path : Path) → is_root ≡ is_root_path path
+            → StandsFor self.now.spec.pattern states.old (path_text path)
+            → Opens self.now.spec.pattern (path_text (path ++ name.now ∷ [])) → ⊥ }
+    {
+        if is_root {
+            return self.read_on(states, name);
+        }
+        self.step(states, b'/');
+        self.read_on(states, name)
+    }
+
+    /// Whether the language holds the path or something below it, where the states stand for the path's text.
+    pub fn can_decide_behind(&self, states: &mut States, is_root: bool) -> bool
+        requires { AreStatesOf self.now.spec.pattern states.old }
+        ensures made { AreStatesOf self.now.spec.pattern states.new }
+        ensures value { (path : Path) → is_root ≡ is_root_path path
+            → StandsFor self.now.spec.pattern states.old (path_text path)
+            → result ≡ can_decide path self.now.spec }
+    {
+        if is_root {
+            return self.alive(states);
+        }
+        if self.accepts(states) {
+            return true;
+        }
+        self.step(states, b'/');
+        self.alive(states)
+    }
+
+    /// Whether the language holds the path or something below it.
+    pub fn can_decide(&self, states: &mut States, path: &PathRef<'_>) -> bool
+        requires { AreStatesOf self.now.spec.pattern states.old }
+        ensures made { AreStatesOf self.now.spec.pattern states.new }
+        ensures value { result ≡ can_decide (path_of path.now) self.now.spec }
+    {
+        self.restart(states);
+        if !self.read_on(states, path.as_text()) {
+            return false;
+        }
+        self.can_decide_behind(states, path.names() == 0)
     }
 }

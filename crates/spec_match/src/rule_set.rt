@@ -2,11 +2,13 @@ ghost use Rattle.std.specs.Prelude.{◌≡◌, ◌+◌, ◌<◌, ◌^◌, [], If
 ghost use Rattle.label_base.specs.Path.{path_text};
 ghost use Rattle.label_base.specs.PathRef.{path_of};
 ghost use Rattle.spec_match.specs.LastMatch.{Decides, last_index, last_match};
+ghost use Rattle.spec_match.specs.Relevant.{relevant_at};
 ghost use Rattle.spec_match.specs.StatesFor.{AreStatesFor, pattern_in, patterns_of, spec_in};
 ghost use Rattle.spec_match.specs.Scratches.{IsScratchOf};
 
 use crate::rule::Rule;
 use crate::scratch::Scratch;
+use crate::starts::Starts;
 use crate::table::Table;
 use crate::workspace::Workspace;
 use label_base::{Asked, OutOfMemory, PathRef, Row, Steps};
@@ -27,7 +29,9 @@ const MOST_WORDS: usize = 1_048_576;
 /// A list of specifications in which the last match is looked for, seen as that list.
 #[derive(Debug, Drop)]
 pub struct RuleSet {
-    rules: Vec<Rule>,
+    pub(crate) rules: Vec<Rule>,
+    // Where those are found whose literal start a text begins with.
+    starts: Starts,
 }
 
 impl Model for RuleSet {
@@ -41,10 +45,14 @@ impl Model for RuleSet {
     ghost coded = { Prim.hlevel (codes, tree_code) };
 
     ghost use Rattle.spec_match.specs.StatesFor.{spec_in};
+    ghost use Rattle.spec_match.specs.Chains.{AreStartsOf};
 
     ghost view = { λ s. map spec_in s.rules.items };
 
-    ghost invariant = { λ s. length s.rules.items < 2 ^ 32 };
+    ghost invariant = { λ s. record {
+      count : length s.rules.items < 2 ^ 32;
+      starts : AreStartsOf s.rules.items s.starts;
+    } };
 }
 
 fn rules_of(alloc: Global, specs: Vec<Spec>) -> Result<Vec<Rule>, OutOfMemory>
@@ -73,9 +81,9 @@ impl RuleSet {
         requires { length specs < 2 ^ 32 }
         ensures { IfOk result (λ rules. rules ≡ specs) }
     {
-        Ok(RuleSet {
-            rules: rules_of(alloc, specs.into_vec())?,
-        })
+        let rules = rules_of(alloc, specs.into_vec())?;
+        let starts = Starts::new(alloc, rules.as_slice())?;
+        Ok(RuleSet { rules, starts })
     }
 
     /// How many specifications there are.
@@ -108,7 +116,7 @@ impl RuleSet {
     {
         match scratch
             .room
-            .look_up(self.rules.as_slice(), path.as_text(), asked)
+            .look_up(self.rules.as_slice(), &self.starts, path.as_text(), asked)
         {
             Some(i) => Some(i as u32),
             None => None,
@@ -134,6 +142,22 @@ impl RuleSet {
     {
         steps.tick();
         self.find_last(scratch, path, asked)
+    }
+
+    /// The indices of the specifications that can decide at or below a path, in ascending order: those whose language
+    /// holds the path's text or a text that begins with it and a slash, and for `/` a text that begins with a slash.
+    pub fn relevant(
+        &self,
+        alloc: Global,
+        scratch: &mut Scratch,
+        path: &PathRef<'_>,
+    ) -> Result<Vec<u32>, OutOfMemory>
+        requires { IsScratchOf self.now scratch.old }
+        ensures own { IsScratchOf self.now scratch.new }
+        ensures value { IfOk result (λ found.
+            found.items ≡ relevant_at (path_of path.now) self.now) }
+    {
+        scratch.room.relevant(alloc, self.rules.as_slice(), path)
     }
 }
 

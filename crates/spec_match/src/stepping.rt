@@ -22,10 +22,11 @@ fn step_one(
     requires list { from < length lists.old.lists }
     requires within { k < length (list_of lists.old.lists from) }
     requires made { AreStatesOf rule.now.spec.pattern states.old }
-    requires kept { AreStatesOf rule.now.spec.pattern (alive_at (list_of lists.old.lists from) k).states }
+    requires kept { AreStatesOf rule.now.spec.pattern
+        (alive_at (list_of lists.old.lists from) k).states }
     ensures made { AreStatesOf rule.now.spec.pattern states.new }
     ensures lists { lists.new.lists ≡ lists.old.lists }
-    ensures goes { result ≡ true → GoesOn rule.now.spec.pattern byte
+    ensures goes { result ≡ true → GoesOn rule.now.spec.pattern (byte ∷ [])
         (alive_at (list_of lists.old.lists from) k) lists.old.draft lists.new.draft }
 {
     let index = lists.index(from, k);
@@ -56,7 +57,7 @@ pub fn step_all(
     ensures lists { lists.new.lists ≡ lists.old.lists }
     ensures own { result ≡ true → All (IsOwn (patterns_of rules.now)) lists.new.draft }
     ensures leads { result ≡ true
-        → Leads (patterns_of rules.now) byte (list_of lists.old.lists from) lists.new.draft }
+        → Leads (patterns_of rules.now) (byte ∷ []) (list_of lists.old.lists from) lists.new.draft }
 {
     'alive: for k in 0..lists.list_len(from) {
         let i = lists.index(from, k);

@@ -6,7 +6,7 @@ ghost use Rattle.spec_reader.specs.SpecValue.{SpecValue};
 ghost use Rattle.spec_match.specs.Alive.{AreAlive, IsOwn, Leads, list_of};
 ghost use Rattle.spec_match.specs.Remembering.{CanBeAdded, IsAnswer, IsGrown, IsTableOf, decoded, kept, with_list};
 ghost use Rattle.spec_match.specs.StatesFor.{AreStatesFor, patterns_of, spec_in};
-ghost use Rattle.spec_match.specs.Tables.{kept_in};
+ghost use Rattle.spec_match.specs.Tables.{IsTableFor, kept_in};
 ghost use Rattle.spec_match.specs.Trail.{IsTrail};
 
 use crate::answering::{asked_number, first_fit};
@@ -27,7 +27,8 @@ const NONE_ALIVE: usize = 1;
 // After how many look-ups the lists are begun. Fewer are found sooner without them.
 const FIRST_LOOK_UPS: u64 = 32;
 
-// How many look-ups there are for each list at least, before all lists are forgotten.
+// How many look-ups there are for each list at least, before all lists are forgotten. There is another for each of
+// their members, since to write them anew takes as long.
 const LOOK_UPS_A_LIST: u64 = 16;
 
 // How many bytes of the last text are kept.
@@ -200,13 +201,15 @@ impl Table {
     fn number_of(&mut self) -> Option<usize>
         requires begun { 1 < length self.old.lists.lists }
         ensures table { (patterns : List Tree) (specs : List SpecValue)
-            → IsTableOf patterns specs (kept_in self.old) → All (IsOwn patterns) self.old.lists.draft
+            → IsTableOf patterns specs (kept_in self.old)
+            → All (IsOwn patterns) self.old.lists.draft
             → IsTableOf patterns specs (kept_in self.new) }
         ensures draft { self.new.lists.draft ≡ [] }
         ensures trail { self.new.trail.items ≡ self.old.trail.items }
         ensures grown { IsGrown self.old.lists.lists self.new.lists.lists }
         ensures within { IfSome result (λ number. number < length self.new.lists.lists) }
-        ensures found { IfSome result (λ number. list_of self.new.lists.lists number ≡ self.old.lists.draft) }
+        ensures found { IfSome result (λ number.
+            list_of self.new.lists.lists number ≡ self.old.lists.draft) }
     {
         match find(&self.lists, self.slots.as_slice()) {
             Ok(number) => {
@@ -227,7 +230,8 @@ impl Table {
         ensures trail { self.new.trail.items ≡ self.old.trail.items }
     {
         self.is_full = true;
-        self.due = (self.lists.len() as u64).saturating_mul(LOOK_UPS_A_LIST);
+        let lists = (self.lists.len() as u64).saturating_mul(LOOK_UPS_A_LIST);
+        self.due = lists.saturating_add(self.lists.members() as u64);
     }
 
     // The list that a byte leads to, where there is room for it.
@@ -239,18 +243,18 @@ impl Table {
         byte: u8,
     ) -> Option<usize>
         requires states { AreStatesFor (patterns_of rules.now) states.old.items }
-        requires table { IsTableOf (patterns_of rules.now) (map spec_in rules.now) (kept_in self.old) }
+        requires table { IsTableFor rules.now self.old }
         requires draft { self.old.lists.draft ≡ [] }
         requires begun { 1 < length self.old.lists.lists }
         requires from { from < length self.old.lists.lists }
         ensures states { AreStatesFor (patterns_of rules.now) states.new.items }
-        ensures table { IsTableOf (patterns_of rules.now) (map spec_in rules.now) (kept_in self.new) }
+        ensures table { IsTableFor rules.now self.new }
         ensures draft { self.new.lists.draft ≡ [] }
         ensures begun { 1 < length self.new.lists.lists }
         ensures grown { IsGrown self.old.lists.lists self.new.lists.lists }
         ensures trail { self.new.trail.items ≡ self.old.trail.items }
         ensures within { IfSome result (λ to. to < length self.new.lists.lists) }
-        ensures leads { IfSome result (λ to. Leads (patterns_of rules.now) byte
+        ensures leads { IfSome result (λ to. Leads (patterns_of rules.now) (byte ∷ [])
             (list_of self.old.lists.lists from) (list_of self.new.lists.lists to)) }
     {
         if self.is_full {
@@ -287,18 +291,18 @@ impl Table {
         byte: u8,
     ) -> Option<usize>
         requires states { AreStatesFor (patterns_of rules.now) states.old.items }
-        requires table { IsTableOf (patterns_of rules.now) (map spec_in rules.now) (kept_in self.old) }
+        requires table { IsTableFor rules.now self.old }
         requires draft { self.old.lists.draft ≡ [] }
         requires begun { 1 < length self.old.lists.lists }
         requires from { from < length self.old.lists.lists }
         ensures states { AreStatesFor (patterns_of rules.now) states.new.items }
-        ensures table { IsTableOf (patterns_of rules.now) (map spec_in rules.now) (kept_in self.new) }
+        ensures table { IsTableFor rules.now self.new }
         ensures draft { self.new.lists.draft ≡ [] }
         ensures begun { 1 < length self.new.lists.lists }
         ensures grown { IsGrown self.old.lists.lists self.new.lists.lists }
         ensures trail { self.new.trail.items ≡ self.old.trail.items }
         ensures within { IfSome result (λ to. to < length self.new.lists.lists) }
-        ensures leads { IfSome result (λ to. Leads (patterns_of rules.now) byte
+        ensures leads { IfSome result (λ to. Leads (patterns_of rules.now) (byte ∷ [])
             (list_of self.old.lists.lists from) (list_of self.new.lists.lists to)) }
     {
         let known = self.next[256 * from + byte as usize];
@@ -317,16 +321,17 @@ impl Table {
         asked: Asked,
     ) -> Option<usize>
         requires states { AreStatesFor (patterns_of rules.now) states.old.items }
-        requires table { IsTableOf (patterns_of rules.now) (map spec_in rules.now) (kept_in self.old) }
+        requires table { IsTableFor rules.now self.old }
         requires draft { self.old.lists.draft ≡ [] }
         requires list { list < length self.old.lists.lists }
         ensures states { AreStatesFor (patterns_of rules.now) states.new.items }
-        ensures table { IsTableOf (patterns_of rules.now) (map spec_in rules.now) (kept_in self.new) }
+        ensures table { IsTableFor rules.now self.new }
         ensures draft { self.new.lists.draft ≡ [] }
         ensures lists { self.new.lists.lists ≡ self.old.lists.lists }
         ensures trail { self.new.trail.items ≡ self.old.trail.items }
         ensures told { (text : List ℕ)
-            → AreAlive (patterns_of rules.now) text (length (patterns_of rules.now)) (list_of self.old.lists.lists list)
+            → AreAlive (patterns_of rules.now) text (length (patterns_of rules.now))
+            (list_of self.old.lists.lists list)
             → IsAnswer asked text (map spec_in rules.now) result }
     {
         let place = 9 * list + asked_number(asked);
@@ -362,7 +367,7 @@ impl Table {
         requires kept { kept_in self.old ≡ kept [] [] [] }
         requires draft { self.old.lists.draft ≡ [] }
         ensures states { AreStatesFor (patterns_of rules.now) states.new.items }
-        ensures table { IsTableOf (patterns_of rules.now) (map spec_in rules.now) (kept_in self.new) }
+        ensures table { IsTableFor rules.now self.new }
         ensures draft { self.new.lists.draft ≡ [] }
         ensures trail { self.new.trail.items ≡ self.old.trail.items }
     {
@@ -379,11 +384,11 @@ impl Table {
     // Begins anew where it is full and was asked often enough.
     fn prepare(&mut self, rules: &[Rule], states: &mut Vec<States>)
         requires states { AreStatesFor (patterns_of rules.now) states.old.items }
-        requires table { IsTableOf (patterns_of rules.now) (map spec_in rules.now) (kept_in self.old) }
+        requires table { IsTableFor rules.now self.old }
         requires draft { self.old.lists.draft ≡ [] }
         requires trail { IsTrail (patterns_of rules.now) self.old.lists.lists self.old.trail.items }
         ensures states { AreStatesFor (patterns_of rules.now) states.new.items }
-        ensures table { IsTableOf (patterns_of rules.now) (map spec_in rules.now) (kept_in self.new) }
+        ensures table { IsTableFor rules.now self.new }
         ensures draft { self.new.lists.draft ≡ [] }
         ensures trail { IsTrail (patterns_of rules.now) self.new.lists.lists self.new.trail.items }
     {
@@ -401,23 +406,19 @@ impl Table {
         }
     }
 
-    /// The last match of a text, or `None` where there is no room to find it out.
-    pub fn look_up(
-        &mut self,
-        rules: &[Rule],
-        states: &mut Vec<States>,
-        text: &[u8],
-        asked: Asked,
-    ) -> Option<Option<usize>>
+    /// The number of the list behind a text, or `None` where there is no room to find it out.
+    pub fn reach(&mut self, rules: &[Rule], states: &mut Vec<States>, text: &[u8]) -> Option<usize>
         requires states { AreStatesFor (patterns_of rules.now) states.old.items }
-        requires table { IsTableOf (patterns_of rules.now) (map spec_in rules.now) (kept_in self.old) }
+        requires table { IsTableFor rules.now self.old }
         requires draft { self.old.lists.draft ≡ [] }
         requires trail { IsTrail (patterns_of rules.now) self.old.lists.lists self.old.trail.items }
         ensures states { AreStatesFor (patterns_of rules.now) states.new.items }
-        ensures table { IsTableOf (patterns_of rules.now) (map spec_in rules.now) (kept_in self.new) }
+        ensures table { IsTableFor rules.now self.new }
         ensures draft { self.new.lists.draft ≡ [] }
         ensures trail { IsTrail (patterns_of rules.now) self.new.lists.lists self.new.trail.items }
-        ensures told { IfSome result (λ found. IsAnswer asked text.now (map spec_in rules.now) found) }
+        ensures within { IfSome result (λ list. list < length self.new.lists.lists) }
+        ensures alive { IfSome result (λ list. AreAlive (patterns_of rules.now) text.now
+            (length (patterns_of rules.now)) (list_of self.new.lists.lists list)) }
     {
         self.prepare(rules, states);
         if self.lists.len() < 2 {
@@ -428,7 +429,7 @@ impl Table {
         self.trail.truncate(start);
         'text: for i in start..text.len() {
             if list == NONE_ALIVE {
-                return Some(None);
+                return Some(NONE_ALIVE);
             }
             match self.step(rules, states, list, text[i]) {
                 Some(next) => {
@@ -438,6 +439,31 @@ impl Table {
                 None => return None,
             }
         }
-        Some(self.answer(rules, states, list, asked))
+        Some(list)
+    }
+
+    /// The last match of a text, or `None` where there is no room to find it out.
+    pub fn look_up(
+        &mut self,
+        rules: &[Rule],
+        states: &mut Vec<States>,
+        text: &[u8],
+        asked: Asked,
+    ) -> Option<Option<usize>>
+        requires states { AreStatesFor (patterns_of rules.now) states.old.items }
+        requires table { IsTableFor rules.now self.old }
+        requires draft { self.old.lists.draft ≡ [] }
+        requires trail { IsTrail (patterns_of rules.now) self.old.lists.lists self.old.trail.items }
+        ensures states { AreStatesFor (patterns_of rules.now) states.new.items }
+        ensures table { IsTableFor rules.now self.new }
+        ensures draft { self.new.lists.draft ≡ [] }
+        ensures trail { IsTrail (patterns_of rules.now) self.new.lists.lists self.new.trail.items }
+        ensures told { IfSome result (λ found.
+            IsAnswer asked text.now (map spec_in rules.now) found) }
+    {
+        match self.reach(rules, states, text) {
+            Some(list) => Some(self.answer(rules, states, list, asked)),
+            None => None,
+        }
     }
 }

@@ -144,6 +144,20 @@ fn found_in(alloc: Global, rules: &RuleSet, scratch: &mut Scratch, path: &[u8]) 
     }
 }
 
+// How many specifications can decide at or below a path, or 99 where it can't be read.
+fn count_relevant(alloc: Global, rules: &RuleSet, scratch: &mut Scratch, path: &[u8]) -> usize
+    requires { IsScratchOf rules.now scratch.old }
+    ensures { IsScratchOf rules.now scratch.new }
+{
+    let Ok(path) = NormPath::read(alloc, path) else {
+        return 99;
+    };
+    let Ok(found) = rules.relevant(alloc, scratch, &path.path()) else {
+        return 99;
+    };
+    found.len()
+}
+
 // Whether one path after the other has its last match.
 fn is_round_right(alloc: Global, rules: &RuleSet, scratch: &mut Scratch) -> bool
     requires { IsScratchOf rules.now scratch.old }
@@ -156,6 +170,9 @@ fn is_round_right(alloc: Global, rules: &RuleSet, scratch: &mut Scratch) -> bool
         return false;
     }
     if found_in(alloc, rules, scratch, b"/") != None {
+        return false;
+    }
+    if count_relevant(alloc, rules, scratch, b"/b") != 2 {
         return false;
     }
     found_in(alloc, rules, scratch, b"/b/cd") == Some(2)
@@ -215,4 +232,29 @@ fn tried(alloc: Global, specs: &[u8], path: &[u8]) -> Option<u64>
 fn specifications_that_begin_otherwise_are_not_tried(rt: HostRuntime) {
     let specs = b"/s4/.* <<none>>\n/s5/.* <<none>>\n/s6/.* <<none>>\n".as_slice();
     assert_eq!(rt; tried(rt.alloc(), specs, b"/s5/x"), Some(2));
+}
+
+// The specifications that can decide at or below a path.
+fn relevant(alloc: Global, specs: &[u8], path: &[u8]) -> Option<Vec<u32>>
+    requires { length specs.now < 2 ^ 32 }
+{
+    let specs = read_specs(alloc, specs, Part::Base, 9).ok()?;
+    let rules = RuleSet::new(alloc, specs).ok()?;
+    let path = NormPath::read(alloc, path).ok()?;
+    let mut scratch = Scratch::new(alloc, &rules).ok()?;
+    rules.relevant(alloc, &mut scratch, &path.path()).ok()
+}
+
+#[test]
+fn specifications_at_or_below_a_path(rt: HostRuntime) {
+    let specs =
+        b"/a <<none>>\n/ab <<none>>\n/a/.*x <<none>>\nb <<none>>\n/.* <<none>>\n".as_slice();
+    for (path, want) in [
+        (b"/a".as_slice(), [0u32, 2, 4].as_slice()),
+        (b"/", [0, 1, 2, 4].as_slice()),
+        (b"/ab/c", [4].as_slice()),
+    ] {
+        let found = relevant(rt.alloc(), specs, path);
+        assert!(rt; found.is_some_and(|found| found.as_slice() == want));
+    }
 }

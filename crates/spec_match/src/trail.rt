@@ -37,7 +37,8 @@ pub fn list_behind(trail: &[Passed], k: usize) -> usize
 /// Notes the list behind a byte, where all bytes before it are noted and there is room.
 pub fn note_passed(trail: &mut Vec<Passed>, at: usize, byte: u8, list: usize) -> bool
     ensures trail { trail.new.items
-        ≡ (if result then trail.old.items ++ record { byte = byte; list = list } ∷ [] else trail.old.items) }
+        ≡ (if result then trail.old.items ++ record { byte = byte; list = list } ∷ []
+        else trail.old.items) }
     ensures at { result ≡ true → length trail.old.items ≡ at }
 {
     if trail.len() != at {

@@ -1,14 +1,24 @@
-ghost use Rattle.std.specs.Prelude.{◌≡◌, [], map};
-ghost use Rattle.spec_match.specs.Remembering.{IsAnswer, IsTableOf};
-ghost use Rattle.spec_match.specs.StatesFor.{AreStatesFor, patterns_of, spec_in};
-ghost use Rattle.spec_match.specs.Tables.{kept_in};
-ghost use Rattle.spec_match.specs.Trail.{IsTrail};
+ghost use Rattle.std.specs.Prelude.{◌≡◌, ◌<◌, ◌^◌, ◌++◌, ◌∷◌, [], IfOk, IfSome, length, map};
+ghost use Rattle.std.specs.List.{All};
+ghost use Rattle.label_base.specs.Path.{Path, path_text};
+ghost use Rattle.label_base.specs.PathRef.{path_of};
+ghost use Rattle.spec_match.specs.Alive.{IsOwn};
+ghost use Rattle.spec_match.specs.Carrying.{IsAliveAt};
+ghost use Rattle.spec_match.specs.Chains.{AreStartsOf};
+ghost use Rattle.spec_match.specs.Relevant.{relevant_at};
+ghost use Rattle.spec_match.specs.Remembering.{IsAnswer};
+ghost use Rattle.spec_match.specs.StatesFor.{patterns_of, spec_in};
+ghost use Rattle.spec_match.specs.Workspaces.{IsWorkspaceFor};
 
-use crate::answering::last_fit;
+use crate::carrying::first_child_fit;
+use crate::members::Members;
+use crate::relevant::{all_relevant, listed_relevant};
 use crate::rule::Rule;
+use crate::starts::Starts;
 use crate::table::Table;
-use label_base::Asked;
+use label_base::{Asked, OutOfMemory, PathRef};
 use pattern_match::States;
+use std::alloc::Global;
 
 /// The states in which patterns are matched, and what earlier look-ups found out.
 #[derive(Debug, Drop)]
@@ -20,21 +30,75 @@ pub struct Workspace {
 }
 
 impl Workspace {
-    /// The last match, by the table where it has room, else by each specification.
-    pub fn look_up(&mut self, rules: &[Rule], text: &[u8], asked: Asked) -> Option<usize>
-        requires states { AreStatesFor (patterns_of rules.now) self.old.states.items }
-        requires table { IsTableOf (patterns_of rules.now) (map spec_in rules.now) (kept_in self.old.table) }
-        requires draft { self.old.table.lists.draft ≡ [] }
-        requires trail { IsTrail (patterns_of rules.now) self.old.table.lists.lists self.old.table.trail.items }
-        ensures states { AreStatesFor (patterns_of rules.now) self.new.states.items }
-        ensures table { IsTableOf (patterns_of rules.now) (map spec_in rules.now) (kept_in self.new.table) }
-        ensures draft { self.new.table.lists.draft ≡ [] }
-        ensures trail { IsTrail (patterns_of rules.now) self.new.table.lists.lists self.new.table.trail.items }
+    /// The last match, by the table where it has room, else by the starts of the patterns.
+    pub fn look_up(
+        &mut self,
+        rules: &[Rule],
+        starts: &Starts,
+        text: &[u8],
+        asked: Asked,
+    ) -> Option<usize>
+        requires ready { IsWorkspaceFor rules.now self.old }
+        requires starts { AreStartsOf rules.now starts.now }
+        ensures ready { IsWorkspaceFor rules.now self.new }
         ensures told { IsAnswer asked text.now (map spec_in rules.now) result }
     {
         match self.table.look_up(rules, &mut self.states, text, asked) {
             Some(found) => found,
-            None => last_fit(rules, &mut self.states, text, asked, &mut self.tried),
+            None => starts.last_fit(rules, &mut self.states, text, asked, &mut self.tried),
+        }
+    }
+
+    /// The last match of a child of the path for which a list of those that are alive is.
+    pub fn look_up_child(
+        &mut self,
+        rules: &[Rule],
+        from: &Members,
+        is_root: bool,
+        name: &[u8],
+        asked: Asked,
+    ) -> Option<usize>
+        requires ready { IsWorkspaceFor rules.now self.old }
+        requires own { All (IsOwn (patterns_of rules.now)) from.now }
+        ensures ready { IsWorkspaceFor rules.now self.new }
+        ensures within { IfSome result (λ i. i < length rules.now) }
+        ensures told { (path : Path) → IsAliveAt rules.now is_root from.now path
+            → IsAnswer asked (path_text (path ++ name.now ∷ [])) (map spec_in rules.now) result }
+    {
+        first_child_fit(
+            rules,
+            &mut self.states,
+            from,
+            is_root,
+            name,
+            asked,
+            &mut self.tried,
+        )
+    }
+
+    /// The specifications that can decide at or below a path, by the table where it has room, else each by itself.
+    pub fn relevant(
+        &mut self,
+        alloc: Global,
+        rules: &[Rule],
+        path: &PathRef<'_>,
+    ) -> Result<Vec<u32>, OutOfMemory>
+        requires count { length rules.now < 2 ^ 32 }
+        requires ready { IsWorkspaceFor rules.now self.old }
+        ensures ready { IsWorkspaceFor rules.now self.new }
+        ensures value { IfOk result (λ found. found.items
+            ≡ relevant_at (path_of path.now) (map spec_in rules.now)) }
+    {
+        match self.table.reach(rules, &mut self.states, path.as_text()) {
+            Some(list) => listed_relevant(
+                alloc,
+                &self.table.lists,
+                rules,
+                &mut self.states,
+                list,
+                path.names() == 0,
+            ),
+            None => all_relevant(alloc, rules, &mut self.states, path),
         }
     }
 }

@@ -1,4 +1,4 @@
-use Rattle.std.proofs.Common.{◌≡◌, ◌≤◌, List, ℕ, length}
+use Rattle.std.proofs.Common.{List, ℕ}
 use Rattle.spec_match.specs.Alive.{list_of}
 use Rattle.spec_match.specs.StatesFor.{AreStatesFor, patterns_of}
 use Rattle.spec_match.proofs.AnswerLemmas.{IsPassed}
@@ -7,5 +7,5 @@ use Rattle.spec_match.proofs.answering.first_fit.Given as goal
 abbrev pub invariant-alive : goal.invariant-alive
 invariant-alive l = record {
   states : AreStatesFor (patterns_of l.rules) l.states.items;
-  passed : (text : List ℕ) → IsPassed l.asked text l.rules (list_of l.lists.lists l.list) l.k;
+  passed : (text : List ℕ) → IsPassed l.asked text text l.rules (list_of l.lists.lists l.list) l.k;
 }

@@ -1,4 +1,4 @@
-use Rattle.std.proofs.Common.{◌≡◌, ◌<◌, ◌-◌, ◌∙◌, ◌++◌, ◌∷◌, [], ap, arith, get_or-set_same, length}
+use Rattle.std.proofs.Common.{◌<◌, ◌-◌, ◌∙◌, ◌++◌, ◌∷◌, [], ap, arith, get_or-set_same, length}
 use Rattle.spec_match.specs.Alive.{alive}
 use Rattle.spec_match.specs.StatesFor.{patterns_of}
 use Rattle.spec_match.specs.Written.{Written}

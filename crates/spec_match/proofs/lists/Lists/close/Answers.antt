@@ -1,4 +1,4 @@
-use Rattle.std.proofs.Common.{◌≡◌, ◌∷◌, ◌++◌, ◌-◌, [], ap, arith, length, ◌∙◌}
+use Rattle.std.proofs.Common.{◌∷◌, ◌++◌, ◌-◌, [], ap, arith, ◌∙◌}
 use Rattle.spec_match.specs.Written.{Written, written}
 use Rattle.spec_match.proofs.ListLemmas.{cut, closed, within_more}
 use Rattle.spec_match.proofs.lists.Lists.close.Goals as goal

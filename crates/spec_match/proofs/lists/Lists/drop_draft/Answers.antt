@@ -1,4 +1,4 @@
-use Rattle.std.proofs.Common.{◌≡◌, [], ap, ◌∙◌}
+use Rattle.std.proofs.Common.{[], ap, ◌∙◌}
 use Rattle.spec_match.specs.Written.{Written, written}
 use Rattle.spec_match.proofs.ListLemmas.{cut}
 use Rattle.spec_match.proofs.lists.Lists.drop_draft.Goals as goal

@@ -1,5 +1,4 @@
-use Rattle.std.proofs.Common.{◌≡◌, ◌∙◌, ap, [], ◌++◌, ◌∷◌, arith, length, length-append, refl, sym}
-use Rattle.spec_match.specs.Alive.{alive}
+use Rattle.std.proofs.Common.{◌∙◌, arith, length, length-append, refl}
 use Rattle.spec_match.proofs.MemberLemmas.{members_more, laid_more}
 use Rattle.spec_match.proofs.members.Members.push.Goals as goal
 

@@ -1,6 +1,5 @@
-use Rattle.std.proofs.Common.{◌≡◌, ◌<◌, ◌∙◌, ap, List, [], ◌++◌, ◌∷◌, arith, length, take}
+use Rattle.std.proofs.Common.{◌∙◌, ap, List, arith, take}
 use Rattle.spec_match.specs.Alive.{Alive}
-use Rattle.spec_match.specs.Members.{AreLaidOut}
 use Rattle.spec_match.proofs.MemberLemmas.{members_cut, length_cut}
 use Rattle.spec_match.proofs.members.Members.truncate.Goals as goal
 

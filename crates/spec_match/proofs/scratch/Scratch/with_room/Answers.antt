@@ -1,4 +1,4 @@
-use Rattle.std.proofs.Common.{◌≡◌, map, subst, sym}
+use Rattle.std.proofs.Common.{map, subst, sym}
 use Rattle.spec_match.specs.Remembering.{IsTableOf}
 use Rattle.spec_match.specs.Scratches.{IsScratchOf}
 use Rattle.spec_match.specs.StatesFor.{patterns_of, spec_in}
@@ -15,7 +15,10 @@ returns c =
     let rules = c.rules.inside.rules.items in
     let table = c.in_ok-new.field-0 in
     let work : Workspace = record { states = c.in_ok-states_of.field-0; table = table; tried = 0 } in
-    let own = scratch_of rules c.args.rules.now (room_in work) c.rules.view_is (rw c.as_slice.ensures.value at c.in_ok-states_of.ensures)
-    (subst (IsTableOf (patterns_of rules) (map spec_in rules)) (sym c.in_ok-new.ensures.kept) (nothing_kept (patterns_of rules) (map spec_in rules))) c.in_ok-new.ensures.draft
-    (subst (IsTrail (patterns_of rules) table.lists.lists) (sym c.in_ok-new.ensures.trail) (no_trail (patterns_of rules) table.lists.lists)) in
+    let own = scratch_of rules c.args.rules.now c.rules.view_is work (record {
+      states = rw c.as_slice.ensures.value at c.in_ok-states_of.ensures;
+      table = subst (IsTableOf (patterns_of rules) (map spec_in rules)) (sym c.in_ok-new.ensures.kept) (nothing_kept (patterns_of rules) (map spec_in rules));
+      draft = c.in_ok-new.ensures.draft;
+      trail = subst (IsTrail (patterns_of rules) table.lists.lists) (sym c.in_ok-new.ensures.trail) (no_trail (patterns_of rules) table.lists.lists);
+    }) in
     subst (λ (w : Workspace). IsScratchOf c.args.rules.now (room_in w)) (sym c.in_ok-new-2.ensures.ok) own

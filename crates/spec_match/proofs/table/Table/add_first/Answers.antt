@@ -1,6 +1,4 @@
-use Rattle.std.proofs.Common.{◌≡◌, ◌∙◌, ◌∷◌, List, ℕ, [], ap, arith, length, length-append, map, subst, sym}
-use Rattle.std.specs.List.{All}
-use Rattle.spec_match.specs.Alive.{Alive, IsOwn}
+use Rattle.std.proofs.Common.{◌≡◌, ◌∙◌, ◌∷◌, [], ap, arith, length, length-append, map, subst, sym}
 use Rattle.spec_match.specs.Remembering.{Kept, IsTableOf, kept}
 use Rattle.spec_match.specs.StatesFor.{patterns_of, spec_in}
 use Rattle.spec_match.specs.Written.{Written}

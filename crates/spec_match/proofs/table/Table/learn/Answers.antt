@@ -1,4 +1,4 @@
-use Rattle.std.proofs.Common.{◌≡◌, ◌<◌, ◌+◌, ◌*◌, arith, length, map, rules, set, subst, sym}
+use Rattle.std.proofs.Common.{◌∷◌, [], ◌≡◌, ◌<◌, ◌+◌, ◌*◌, arith, length, map, rules, set, subst, sym}
 use Rattle.spec_match.specs.Alive.{Leads, list_of}
 use Rattle.spec_match.specs.Remembering.{IsTableOf, kept}
 use Rattle.spec_match.specs.StatesFor.{patterns_of, spec_in}
@@ -16,9 +16,9 @@ returns-in-Ok-clause-table c =
     let before = subst (λ ls. IsTableOf ps specs (kept ls c.args.self.now.next.items c.args.self.now.answers.items)) (sym c.step_all.ensures.lists) c.requires.table in
     let table = c.number_of.ensures.table ps specs before (c.step_all.ensures.own c.if-not-step_all.false) in
     let within : from < length old = subst (λ ls. from < length ls) (sym c.step_all.ensures.lists) c.requires.from in
-    let leads = subst (λ ls. Leads ps c.args.byte (list_of ls from) c.step_all.new.lists.draft) (sym c.step_all.ensures.lists) (c.step_all.ensures.leads c.if-not-step_all.false) in
-    let there = subst (λ l. Leads ps c.args.byte l (list_of new c.in-Some.to)) (sym (grown_by old new from c.number_of.ensures.grown within))
-    (subst (λ l. Leads ps c.args.byte (list_of old from) l) (sym c.in-Some.ensures.found) leads) in
+    let leads = subst (λ ls. Leads ps (c.args.byte ∷ []) (list_of ls from) c.step_all.new.lists.draft) (sym c.step_all.ensures.lists) (c.step_all.ensures.leads c.if-not-step_all.false) in
+    let there = subst (λ l. Leads ps (c.args.byte ∷ []) l (list_of new c.in-Some.to)) (sym (grown_by old new from c.number_of.ensures.grown within))
+    (subst (λ l. Leads ps (c.args.byte ∷ []) (list_of old from) l) (sym c.in-Some.ensures.found) leads) in
     let longer = grown_longer old new c.number_of.ensures.grown in
     let same : c.in-Some.to ≡ c.in-Ok.noted = search rules in
     subst (λ n. IsTableOf ps specs (kept new (set c.number_of.new.self.next.items (256 * from + c.args.byte) n) c.number_of.new.self.answers.items)) same

@@ -1,4 +1,4 @@
-use Rattle.std.proofs.Common.{◌≡◌, ap, arith, map}
+use Rattle.std.proofs.Common.{arith, map}
 use Rattle.spec_match.specs.StatesFor.{patterns_of, spec_in}
 use Rattle.spec_match.specs.Tables.{kept_in}
 use Rattle.spec_match.proofs.TableLemmas.{step_recalled}

@@ -1,0 +1,44 @@
+use Rattle.std.proofs.Common.{◌<◌, ◌∙◌, ◌∷◌, ◌++◌, [], Some, add-one, ap, arith, get_or, length, map, subst, sym}
+use Rattle.label_base.specs.Path.{path_text}
+use Rattle.pattern_match.specs.States.{StandsFor}
+use Rattle.spec_match.specs.Alive.{no_alive}
+use Rattle.spec_match.specs.Remembering.{IsAnswer}
+use Rattle.spec_match.specs.StatesFor.{spec_in}
+use Rattle.spec_match.proofs.AnswerLemmas.{IsPassed, count_rules, first_found, none_found, passed_on}
+use Rattle.spec_match.proofs.CarryLemmas.{dead_child}
+use Rattle.spec_match.proofs.ScratchLemmas.{states_set}
+use Rattle.spec_match.proofs.carrying.first_child_fit.Goals as goal
+
+pub returns-then-does_fit_child-clause-told : goal.returns-then-does_fit_child-clause-told
+returns-then-does_fit_child-clause-told c = λ path at.
+    let rules = c.args.rules.now in
+    let list = c.args.from.now in
+    let k = c.alive.k in
+    let rule = c.index-rules-i.result in
+    let text = path_text (path ++ c.args.name.now ∷ []) in
+    let within : k < length list = omega (arith, c.len-k-end.ensures) in
+    let own = c.requires.own k no_alive within in
+    subst (λ i. IsAnswer c.args.asked text (map spec_in rules) (Some i)) (sym c.index-i.ensures)
+    (first_found c.args.asked (path_text path) text (dead_child c.args.asked path c.args.name.now) rules list k rule c.does_fit_child.result within
+    (c.index-rules-i.is ∙ ap (λ n. get_or rules n rule) c.index-i.ensures) (omega (arith, own.within, count_rules rules))
+    (λ s. c.does_fit_child.ensures.value path at.0 (subst (λ w. StandsFor rule.spec.pattern w (path_text path)) (sym c.load.ensures.value) s)) c.if-does_fit_child.true (c.alive.invariant.passed path at.0) at.1)
+
+pub alive-preserved : goal.alive-preserved
+alive-preserved c =
+    let rules = c.args.rules.now in
+    let list = c.args.from.now in
+    let k = c.alive.k in
+    let rule = c.index-rules-i.result in
+    let within : k < length list = omega (arith, c.len-k-end.ensures) in
+    let own = c.requires.own k no_alive within in record {
+      states = states_set rules c.alive.states.items c.index-i.result rule c.does_fit_child.new.states (omega (arith, own.within, count_rules rules, c.index-i.ensures)) c.index-rules-i.is c.does_fit_child.ensures.made c.alive.invariant.states;
+      passed = λ path r.
+          subst (IsPassed c.args.asked (path_text path) (path_text (path ++ c.args.name.now ∷ [])) rules list) (sym (add-one k))
+          (passed_on c.args.asked (path_text path) (path_text (path ++ c.args.name.now ∷ [])) (dead_child c.args.asked path c.args.name.now) rules list k rule c.does_fit_child.result within
+          (c.index-rules-i.is ∙ ap (λ n. get_or rules n rule) c.index-i.ensures) (omega (arith, own.within, count_rules rules))
+          (λ s. c.does_fit_child.ensures.value path r (subst (λ w. StandsFor rule.spec.pattern w (path_text path)) (sym c.load.ensures.value) s)) c.if-does_fit_child.false (c.alive.invariant.passed path r));
+    }
+
+pub returns-clause-told : goal.returns-clause-told
+returns-clause-told c = λ path at.
+    none_found c.args.asked (path_text path) (path_text (path ++ c.args.name.now ∷ [])) (dead_child c.args.asked path c.args.name.now) c.args.rules.now c.args.from.now c.alive.k (omega (arith, c.len-k-end.ensures)) (c.alive.invariant.passed path at.0) at.1

@@ -1,0 +1,13 @@
+use Rattle.std.proofs.Common.{◌∷◌, ◌++◌, []}
+use Rattle.label_base.specs.Path.{Path, path_text}
+use Rattle.spec_match.specs.StatesFor.{AreStatesFor, patterns_of}
+use Rattle.spec_match.proofs.AnswerLemmas.{IsPassed}
+use Rattle.spec_match.specs.Relevant.{is_root_path}
+use Rattle.std.proofs.Common.{◌≡◌}
+use Rattle.spec_match.proofs.carrying.first_child_fit.Given as goal
+
+abbrev pub invariant-alive : goal.invariant-alive
+invariant-alive l = record {
+  states : AreStatesFor (patterns_of l.rules) l.states.items;
+  passed : (path : Path) → l.is_root ≡ is_root_path path → IsPassed l.asked (path_text path) (path_text (path ++ l.name ∷ [])) l.rules l.from l.k;
+}

@@ -1,0 +1,7 @@
+use Rattle.std.proofs.Common.{arith, refl}
+use Rattle.spec_match.proofs.AliveLemmas.{read_dead}
+use Rattle.spec_match.proofs.rule.Rule.read_on.Goals as goal
+
+pub returns-then-not-alive-clause-dead : goal.returns-then-not-alive-clause-dead
+returns-then-not-alive-clause-dead c = λ _ front s.
+    read_dead c.args.self.now.spec.pattern c.step.new.states front c.args.text.now c.text.byte-index _ c.alive.result (omega arith) refl c.if-not-alive.true (λ x h. (c.alive.ensures x h).1) (c.step.ensures.stands _ (c.text.invariant.stands front s))
