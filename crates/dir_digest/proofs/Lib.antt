@@ -1,0 +1,5 @@
+pub mod SpelledLemmas
+pub mod ListingLemmas
+pub mod ReadLemmas
+pub mod AlikeLemmas
+pub mod NulLemmas

@@ -1,0 +1,14 @@
+-- The digest of a directory.
+use Rattle.std.specs.Prelude.{ℕ, Bool, List}
+use Rattle.sha1.specs.Sha1.{sha1}
+use Rattle.label_base.specs.Path.{Path}
+use Rattle.path_subs.specs.Subs.{SubValue}
+use Rattle.spec_reader.specs.SpecValue.{SpecValue}
+use Rattle.dir_digest.specs.Listing.{listing_of}
+use Rattle.dir_digest.specs.ListingBytes.{listing_bytes}
+
+-- the SHA-1 (FIPS 180-4) of the bytes of its listing
+unfoldable pub digest_at : (force : Bool) → (types : List (List ℕ)) → (first second : List SubValue)
+    → (specs : List SpecValue) → Path → List ℕ
+digest_at force types first second specs path =
+    sha1 (listing_bytes (listing_of force types first second specs path))

@@ -1,0 +1,50 @@
+-- What decides the labels at and below a directory, as far as it can be told without the tree: the
+-- path that is looked up, the options, the substitutions and the specifications.
+use Rattle.std.specs.Prelude.{ℕ, Bool, List, [], Option, filter, map, if◌then◌else◌}
+use Rattle.label_base.specs.Path.{Path}
+use Rattle.label_base.specs.declared.kind.EntryKind.{EntryKind}
+use Rattle.path_subs.specs.Subs.{SubValue, plain, substituted}
+use Rattle.spec_reader.specs.SpecValue.{SpecValue}
+use Rattle.spec_reader.specs.declared.spec.Decision.{Decision}
+use Rattle.spec_match.specs.Relevant.{can_decide}
+
+-- what a listing has of a specification
+pub record Line : Type 0 where
+  pub text : List ℕ
+  pub kind : Option EntryKind
+  pub decision : Decision
+
+-- path: the substituted path of the directory. force: labels are given whole, so that customizable
+-- types count for nothing and aren't listed. first, second: the lines of the substitution files.
+pub record Listing : Type 0 where
+  pub path : Path
+  pub force : Bool
+  pub types : List (List ℕ)
+  pub first : List SubValue
+  pub second : List SubValue
+  pub lines : List Line
+
+abbrev pub line_of : SpecValue → Line
+line_of spec = record { text = spec.text; kind = spec.kind; decision = spec.decision }
+
+-- the specifications that can decide an entry at or below the directory: where every path below it
+-- is substituted as it is, those whose language holds the substituted path or a text below it; else
+-- all
+unfoldable pub relevant : (first second : List SubValue) → List SpecValue → Path → List SpecValue
+relevant first second specs path =
+    if plain first second path
+    then filter (can_decide (substituted first second path)) specs
+    else specs
+
+-- the listing of a directory
+abbrev pub listing_of : (force : Bool) → (types : List (List ℕ)) → (first second : List SubValue)
+    → (specs : List SpecValue) → Path → Listing
+listing_of force types first second specs path =
+    record {
+      path = substituted first second path;
+      force = force;
+      types = if force then [] else types;
+      first = first;
+      second = second;
+      lines = map line_of (relevant first second specs path);
+    }

@@ -1,0 +1,57 @@
+-- What decides the listings of all directories.
+use Rattle.std.specs.Prelude.{◌≡◌, ℕ, ◌<◌, ◌^◌, Bool, true, false, List, length}
+use Rattle.std.specs.List.{list_all}
+use Rattle.label_base.specs.Path.{Path}
+use Rattle.context_syntax.specs.Context.{is_word}
+use Rattle.context_syntax.specs.TypeNames.{NameSet, in_order}
+use Rattle.path_subs.specs.Subs.{SubValue}
+use Rattle.path_subs.specs.declared.subs.Subs.{Subs}
+use Rattle.spec_reader.specs.SpecValue.{IsSpec, SpecValue}
+use Rattle.dir_digest.specs.Digest.{digest_at}
+use Rattle.dir_digest.specs.Listing.{Listing, listing_of}
+use Rattle.dir_digest.specs.ListingBytes.{AreCounted, IsDecision, IsSub}
+use Rattle.dir_digest.specs.declared.mode.Mode.{Mode}
+use Rattle.dir_digest.specs.declared.mode.Mode.TheVariants.{Whole, KindOnly}
+
+-- whether labels are given whole, the customizable types in byte order, the lines of the two
+-- substitution files, and the specifications
+pub record Terms : Type 0 where
+  pub force : Bool
+  pub types : List (List ℕ)
+  pub first : List SubValue
+  pub second : List SubValue
+  pub specs : List SpecValue
+
+abbrev pub is_whole : Mode → Bool
+is_whole Whole = true
+is_whole KindOnly = false
+
+abbrev pub terms_of : Mode → NameSet → Subs → List SpecValue → Terms
+terms_of mode types subs specs = record {
+  force = is_whole mode;
+  types = in_order types;
+  first = subs.first;
+  second = subs.second;
+  specs = specs;
+}
+
+-- the listing of a directory on these terms
+abbrev pub listing_on : Terms → Path → Listing
+listing_on t path = listing_of t.force t.types t.first t.second t.specs path
+
+-- its digest
+abbrev pub digest_on : Terms → Path → List ℕ
+digest_on t path = digest_at t.force t.types t.first t.second t.specs path
+
+-- a specification that was read: its pattern is what its text reads as, and its context is one
+pub record IsRead (spec : SpecValue) : Type 0 where
+  pub is_spec : IsSpec spec
+  pub decision : IsDecision spec.decision
+
+-- all of it was read from accepted files
+pub record AreRead (t : Terms) : Type 0 where
+  pub types_few : length t.types < 2 ^ 64
+  pub types : list_all is_word t.types ≡ true
+  pub first : AreCounted IsSub t.first
+  pub second : AreCounted IsSub t.second
+  pub specs : AreCounted IsRead t.specs

@@ -1,0 +1,15 @@
+//! The listing of a directory, which tells all that decides the labels at and below it but the tree itself, and its
+//! digest, by which a later run knows that nothing of that has changed.
+#![tactic(auto)]
+
+mod fields;
+mod laws;
+mod listings;
+mod mode;
+
+pub use laws::{accepted_files_give_listings, equal_listings_decide_alike, listings_tell};
+pub use listings::{Listings, digest, listing};
+pub use mode::Mode;
+
+#[cfg(test)]
+mod tests;

@@ -1,0 +1,275 @@
+ghost use Rattle.std.specs.Prelude.{◌≡◌, ◌++◌, ◌∷◌, ◌<◌, IfOk, IfSome, OnOk, Some, decimal, get_or, length, [], map, option_map, slice_get};
+ghost use Rattle.std.specs.List.{flat_map};
+ghost use Rattle.label_base.specs.PathRef.{path_of};
+ghost use Rattle.context_syntax.specs.TypeNames.{in_order};
+ghost use Rattle.path_subs.specs.Subs.{substituted};
+ghost use Rattle.spec_match.specs.Scratches.{IsScratchOf};
+ghost use Rattle.dir_digest.specs.Digest.{digest_at};
+ghost use Rattle.dir_digest.specs.Listing.{line_of, listing_of, relevant};
+ghost use Rattle.dir_digest.specs.ListingBytes.{AreCounted, IsSub, counted, field_bytes, line_fields, listing_bytes, shared_fields};
+ghost use Rattle.dir_digest.specs.Spelled.{AreSpelled, ended, itself, spec_bytes, specs_bytes, texts_at};
+ghost use Rattle.dir_digest.specs.Terms.{AreRead, IsRead, is_whole, terms_of};
+
+use crate::fields::{LISTING_MARK, add_count, add_field, add_shared, add_spec};
+use crate::mode::Mode;
+use context_syntax::TypeNames;
+use label_base::{Bytes, OutOfMemory, PathRef, Row};
+use path_subs::Subs;
+use sha1::Sha1;
+use spec_match::{RuleSet, Scratch};
+use std::alloc::Global;
+
+/// What makes the listings of directories. All that they have in common is spelled once, so that a listing costs no
+/// more than the specifications that are relevant for its own directory.
+#[derive(Drop)]
+pub struct Listings<'a> {
+    mode: Mode,
+    types: &'a TypeNames,
+    subs: &'a Subs,
+    rules: &'a RuleSet,
+    // The fields between that of the path and those of the specifications.
+    shared: Bytes,
+    // The fields of each specification.
+    specs: Row<Bytes>,
+    ghost spelled: { AreSpelled (terms_of mode types.now subs.now rules.now) shared specs },
+}
+
+fn shared_of(
+    alloc: Global,
+    mode: Mode,
+    types: &TypeNames,
+    subs: &Subs,
+) -> Result<Bytes, OutOfMemory>
+    ensures first { IfOk result (λ _. AreCounted IsSub subs.now.first) }
+    ensures second { IfOk result (λ _. AreCounted IsSub subs.now.second) }
+    ensures value { IfOk result (λ shared. shared ≡ field_bytes
+        (shared_fields (is_whole mode) (in_order types.now) subs.now.first subs.now.second)) }
+{
+    let mut shared = Bytes::new(alloc);
+    add_shared(alloc, mode, types, subs, &mut shared)?;
+    Ok(shared)
+}
+
+fn spec_of(alloc: Global, rules: &RuleSet, i: u32) -> Result<Bytes, OutOfMemory>
+    requires { i < length rules.now }
+    ensures read { IfOk result (λ _. IfSome (slice_get rules.now i) IsRead) }
+    ensures value { IfOk result (λ bytes. Some bytes
+        ≡ option_map spec_bytes (slice_get rules.now i)) }
+{
+    let mut bytes = Bytes::new(alloc);
+    add_spec(rules.spec(i), &mut bytes)?;
+    Ok(bytes)
+}
+
+fn specs_of(alloc: Global, rules: &RuleSet) -> Result<Row<Bytes>, OutOfMemory>
+    ensures read { IfOk result (λ _. AreCounted IsRead rules.now) }
+    ensures value { IfOk result (λ specs. specs ≡ map spec_bytes rules.now) }
+{
+    let mut specs = Row::with_capacity(alloc, rules.len() as usize)?;
+    'specs: for i in 0..rules.len() {
+        specs.push(spec_of(alloc, rules, i)?)?;
+    }
+    Ok(specs)
+}
+
+fn text_at(texts: &[Bytes], i: u32) -> &[u8]
+    ensures { result.now ≡ get_or texts.now i [] }
+{
+    match texts.get(i as usize) {
+        Some(text) => text.as_slice(),
+        None => b"",
+    }
+}
+
+// Adds the fields of all specifications, and how many there are.
+fn add_all(alloc: Global, texts: &[Bytes], to: &mut Bytes) -> Result<(), OutOfMemory>
+    ensures { OnOk result (to.new
+        ≡ to.old ++ (ended (decimal (length texts.now)) ++ flat_map itself texts.now)) }
+{
+    add_count(alloc, texts.len(), to)?;
+    'texts: for text in texts {
+        to.push(text.as_slice())?;
+    }
+    Ok(())
+}
+
+// Adds the fields of some specifications, and how many there are.
+fn add_found(
+    alloc: Global,
+    texts: &[Bytes],
+    found: &[u32],
+    to: &mut Bytes,
+) -> Result<(), OutOfMemory>
+    ensures { OnOk result (to.new
+        ≡ to.old ++ (ended (decimal (length found.now)) ++ texts_at texts.now found.now)) }
+{
+    add_count(alloc, found.len(), to)?;
+    'found: for i in found {
+        to.push(text_at(texts, *i))?;
+    }
+    Ok(())
+}
+
+impl<'a> Listings<'a> {
+    ghost use Rattle.dir_digest.specs.Listings.{terms_in};
+    ghost use Rattle.dir_digest.specs.Terms.{Terms, digest_on, listing_on};
+
+    /// Spells what all listings have in common. Whatever the types, substitutions and specifications are, their types
+    /// keep what accepted files are, so that the laws on listings hold of these.
+    pub fn new(
+        alloc: Global,
+        mode: Mode,
+        types: &'a TypeNames,
+        subs: &'a Subs,
+        rules: &'a RuleSet,
+    ) -> Result<Listings<'a>, OutOfMemory>
+        ensures terms { IfOk result (λ listings.
+            terms_in listings ≡ terms_of mode types.now subs.now rules.now) }
+        ensures read { IfOk result (λ listings. AreRead (terms_in listings)) }
+    {
+        let _names = types.sorted().len();
+        let shared = shared_of(alloc, mode, types, subs)?;
+        let specs = specs_of(alloc, rules)?;
+        Ok(Listings {
+            mode,
+            types,
+            subs,
+            rules,
+            shared,
+            specs,
+        })
+    }
+
+    // Adds the fields of the specifications that are relevant for a directory, of which this is the substituted path.
+    fn add_relevant(
+        &self,
+        alloc: Global,
+        scratch: &mut Scratch,
+        dir: &PathRef<'_>,
+        path: &PathRef<'_>,
+        to: &mut Bytes,
+    ) -> Result<(), OutOfMemory>
+        requires own { IsScratchOf self.now.rules.now scratch.old }
+        requires path { path_of path.now
+            ≡ substituted self.now.subs.now.first self.now.subs.now.second (path_of dir.now) }
+        ensures own { IsScratchOf self.now.rules.now scratch.new }
+        ensures value { OnOk result (to.new ≡ to.old ++ specs_bytes
+            (relevant self.now.subs.now.first self.now.subs.now.second self.now.rules.now
+            (path_of dir.now))) }
+    {
+        let texts = self.specs.as_slice();
+        if !self.subs.plain_at(dir) {
+            return add_all(alloc, texts, to);
+        }
+        let found = self.rules.relevant(alloc, scratch, path)?;
+        add_found(alloc, texts, found.as_slice(), to)
+    }
+
+    // Writes the listing of a directory, of which this is the substituted path.
+    fn write_at(
+        &self,
+        alloc: Global,
+        scratch: &mut Scratch,
+        dir: &PathRef<'_>,
+        path: &PathRef<'_>,
+        to: &mut Bytes,
+    ) -> Result<(), OutOfMemory>
+        requires own { IsScratchOf self.now.rules.now scratch.old }
+        requires path { path_of path.now
+            ≡ substituted self.now.subs.now.first self.now.subs.now.second (path_of dir.now) }
+        ensures own { IsScratchOf self.now.rules.now scratch.new }
+        ensures value { OnOk result (to.new
+            ≡ listing_bytes (listing_on (terms_in self.now) (path_of dir.now))) }
+    {
+        to.clear();
+        add_field(LISTING_MARK, to)?;
+        add_field(path.as_text(), to)?;
+        to.push(self.shared.as_slice())?;
+        self.add_relevant(alloc, scratch, dir, path, to)
+    }
+
+    /// Writes the listing of a directory in place of what a buffer had. After want of memory the buffer has a front
+    /// of it.
+    ///
+    /// The listing is fields, each with a NUL behind it: a mark of the format; the directory's substituted path; the
+    /// mode, `F` or `T`; behind `T` the number of the customizable types and each of them, in byte order; the number
+    /// of lines of file_contexts.subs, and the source and the target of each; the same of file_contexts.subs_dist;
+    /// and the number of the relevant specifications, and of each its text, its type field and what it decides.
+    /// Relevant are those whose language holds the substituted path or a text below it, where every path below the
+    /// directory is substituted as the directory is; else all are.
+    pub fn write(
+        &self,
+        alloc: Global,
+        scratch: &mut Scratch,
+        dir: &PathRef<'_>,
+        to: &mut Bytes,
+    ) -> Result<(), OutOfMemory>
+        requires { IsScratchOf (terms_in self.now).specs scratch.old }
+        ensures own { IsScratchOf (terms_in self.now).specs scratch.new }
+        ensures value { OnOk result (to.new
+            ≡ listing_bytes (listing_on (terms_in self.now) (path_of dir.now))) }
+    {
+        match self.subs.changed(alloc, dir)? {
+            None => {
+                let path = *dir;
+                self.write_at(alloc, scratch, dir, &path, to)
+            }
+            Some(path) => self.write_at(alloc, scratch, dir, &path.path(), to),
+        }
+    }
+
+    #[tactic(auto, unfolding(crate::specs::Digest::digest_at))]
+    /// The digest of a directory: the SHA-1 (FIPS 180-4) of its listing, which is written into a buffer.
+    pub fn digest(
+        &self,
+        alloc: Global,
+        scratch: &mut Scratch,
+        dir: &PathRef<'_>,
+        buffer: &mut Bytes,
+    ) -> Result<[u8; 20], OutOfMemory>
+        requires { IsScratchOf (terms_in self.now).specs scratch.old }
+        ensures own { IsScratchOf (terms_in self.now).specs scratch.new }
+        ensures value { IfOk result (λ digest.
+            digest ≡ digest_on (terms_in self.now) (path_of dir.now)) }
+    {
+        self.write(alloc, scratch, dir, buffer)?;
+        Ok(Sha1::digest(buffer.as_slice()))
+    }
+}
+
+/// The listing of one directory, where no others are asked for. [`Listings::write`] says what it is.
+pub fn listing(
+    alloc: Global,
+    dir: &PathRef<'_>,
+    mode: Mode,
+    types: &TypeNames,
+    subs: &Subs,
+    rules: &RuleSet,
+) -> Result<Bytes, OutOfMemory>
+    ensures { IfOk result (λ bytes. bytes ≡ listing_bytes
+        (listing_of (is_whole mode) (in_order types.now) subs.now.first subs.now.second rules.now
+        (path_of dir.now))) }
+{
+    let mut scratch = Scratch::new(alloc, rules)?;
+    let listings = Listings::new(alloc, mode, types, subs, rules)?;
+    let mut bytes = Bytes::new(alloc);
+    listings.write(alloc, &mut scratch, dir, &mut bytes)?;
+    Ok(bytes)
+}
+
+/// The digest of one directory, where no others are asked for: the SHA-1 (FIPS 180-4) of its listing.
+#[tactic(auto, unfolding(crate::specs::Digest::digest_at))]
+pub fn digest(
+    alloc: Global,
+    dir: &PathRef<'_>,
+    mode: Mode,
+    types: &TypeNames,
+    subs: &Subs,
+    rules: &RuleSet,
+) -> Result<[u8; 20], OutOfMemory>
+    ensures { IfOk result (λ digest. digest ≡ digest_at (is_whole mode) (in_order types.now)
+        subs.now.first subs.now.second rules.now (path_of dir.now)) }
+{
+    let bytes = listing(alloc, dir, mode, types, subs, rules)?;
+    Ok(Sha1::digest(bytes.as_slice()))
+}
