@@ -14,12 +14,11 @@ use Rattle.context_syntax.specs.TypeNames.{NameSet, has_name}
 use Rattle.context_syntax.specs.declared.label.Label.{Label}
 use Rattle.context_syntax.specs.declared.label.Label.TheVariants.{Absent, Odd, Is}
 use Rattle.tree_model.specs.Groups.{group_of, label_in}
-use Rattle.relabel_core.specs.Changes.{change_at, digest_attr, digest_attrs, digest_bytes, digest_changes, given_attrs, given_in, group_change, is_other, label_attr, label_attrs, label_bytes, section_at, section_by, section_with, void_attrs}
+use Rattle.relabel_core.specs.Changes.{change_at, digest_attr, digest_attrs, digest_bytes, digest_changes, given_attrs, digest_change, given_in, group_change, is_void, label_attr, label_attrs, label_bytes, renewed_attrs, section_at, section_by, section_with, unless_stored}
 use Rattle.relabel_core.specs.Decide.{VerdictValue, Keep, Customized, Change, label_by, verdict_for, verdict_on}
-use Rattle.relabel_core.specs.Digests.{digest_told}
-use Rattle.relabel_core.specs.Walk.{Walk, digest_after, group_winner, has_changed_name, is_at, is_changed_name, is_outdated, label_after, new_label_with, path_at, verdict_where, verdict_with, wanted}
-use Rattle.relabel_core.specs.declared.digests.DigestAfter.{DigestAfter}
-use Rattle.relabel_core.specs.declared.digests.DigestAfter.TheVariants.{Stays, Void}
+use Rattle.relabel_core.specs.DigestAfter.{digest_told, void_if}
+use Rattle.relabel_core.specs.Passed.{renewal}
+use Rattle.relabel_core.specs.Walk.{Walk, digest_after, digest_now, group_winner, has_changed_name, is_at, is_changed_name, is_outdated, is_renewed, label_after, new_label_with, path_at, verdict_where, verdict_with, wanted}
 use Rattle.relabel_core.specs.declared.digests.TheConstants.{VOID_DIGEST}
 
 -- ---- a verdict changes a label just where another one is left
@@ -128,103 +127,115 @@ label_attrs_are w e =
 
 -- ---- digests
 
-pub after_dry : (w : Walk) (d : ℕ) → w.options.dry ≡ true → digest_after w d ≡ w.stored d
+renewed_or : Option (List ℕ) → Option (List ℕ) → Option (List ℕ)
+renewed_or (Some digest) other = Some digest
+renewed_or None other = other
+
+after_if : (dry renewed outdated : Bool) (digest : List ℕ) (stored : Option (List ℕ))
+    → (if dry then stored else if renewed then Some digest else if outdated then Some VOID_DIGEST.now else stored)
+    ≡ renewed_or (if not dry && renewed then Some digest else None) (if not dry && outdated then Some VOID_DIGEST.now else stored)
+unfolding renewed_or
+after_if true renewed outdated digest stored = refl
+after_if false true outdated digest stored = refl
+after_if false false true digest stored = refl
+after_if false false false digest stored = refl
+
+after_is : (w : Walk) (d : ℕ) → digest_after w d ≡ renewed_or (renewal w d) (if is_void w d then Some VOID_DIGEST.now else w.stored d)
 unfolding digest_after
-after_dry w d h = ap (λ dry. if dry then w.stored d else if is_outdated w d then Some VOID_DIGEST.now else w.stored d) h
+after_is w d = after_if w.options.dry (is_renewed w d) (is_outdated w d) (digest_now w d) (w.stored d)
 
-stays_if : (dry outdated : Bool) (stored : Option (List ℕ)) → outdated ≡ false
-    → (if dry then stored else if outdated then Some VOID_DIGEST.now else stored) ≡ stored
-stays_if true outdated stored h = refl
-stays_if false false stored h = refl
-stays_if false true stored h = absurd cc
+pub after_renewed : (w : Walk) (d : ℕ) (digest : List ℕ) → renewal w d ≡ Some digest → digest_after w d ≡ Some digest
+unfolding renewed_or
+after_renewed w d digest h = after_is w d ∙ ap (λ o. renewed_or o (if is_void w d then Some VOID_DIGEST.now else w.stored d)) h
 
-and_false : (a b : Bool) → a ≡ false → (a && b) ≡ false
-and_false false b h = refl
-and_false true b h = absurd cc
-
-false_and : (a b : Bool) → b ≡ false → (a && b) ≡ false
-false_and true b h = h
-false_and false b h = refl
-
-pub after_none : (w : Walk) (d : ℕ) → is_some (w.stored d) ≡ false → digest_after w d ≡ w.stored d
-unfolding digest_after
-after_none w d h = stays_if w.options.dry (is_outdated w d) (w.stored d) (and_false (is_some (w.stored d)) (has_changed_name w d) h)
-
-pub after_same : (w : Walk) (d : ℕ) → has_changed_name w d ≡ false → digest_after w d ≡ w.stored d
-unfolding digest_after
-after_same w d h = stays_if w.options.dry (is_outdated w d) (w.stored d) (false_and (is_some (w.stored d)) (has_changed_name w d) h)
-
-void_if : (dry some changed : Bool) (stored : Option (List ℕ)) → dry ≡ false → some ≡ true → changed ≡ true
-    → (if dry then stored else if some && changed then Some VOID_DIGEST.now else stored) ≡ Some VOID_DIGEST.now
-void_if false true true stored p q r = refl
-void_if true some changed stored p q r = absurd cc
-void_if false false changed stored p q r = absurd cc
-void_if false true false stored p q r = absurd cc
-
-pub after_void : (w : Walk) (d : ℕ) → w.options.dry ≡ false → is_some (w.stored d) ≡ true → has_changed_name w d ≡ true
-    → digest_after w d ≡ Some VOID_DIGEST.now
-unfolding digest_after
-after_void w d p q r = void_if w.options.dry (is_some (w.stored d)) (has_changed_name w d) (w.stored d) p q r
+pub after_other : (w : Walk) (d : ℕ) → renewal w d ≡ None → digest_after w d ≡ (if is_void w d then Some VOID_DIGEST.now else w.stored d)
+unfolding renewed_or
+after_other w d h = after_is w d ∙ ap (λ o. renewed_or o (if is_void w d then Some VOID_DIGEST.now else w.stored d)) h
 
 pub copied_some : {A : Type 0} (found : Option (Bor A)) → is_some (option_copied found) ≡ is_some found
 copied_some None = refl
 copied_some (Some x) = refl
 
--- where the counts don't rise, the digest stays
-pub after_no_rise : (w : Walk) (d : ℕ) (rise : Bool) → rise ≡ false
-    → (w.options.dry ≡ false → is_some (w.stored d) ≡ true → rise ≡ has_changed_name w d) → digest_after w d ≡ w.stored d
-after_no_rise w d rise still told =
-    elim (cases_Bool w.options.dry) [
-      | inl dry ↦ after_dry w d dry
-      | inr wet ↦
-          elim (cases_Bool (is_some (w.stored d))) [
-            | inl has ↦ after_same w d (sym (told wet has) ∙ still)
-            | inr no_digest ↦ after_none w d no_digest
-          ]
-    ]
+pub told_void : (b : Bool) (stored : Option (List ℕ)) → digest_told (void_if b) stored ≡ (if b then Some VOID_DIGEST.now else stored)
+told_void true stored = refl
+told_void false stored = refl
 
-same_digest : (stored : Option (List ℕ)) → not (same_option stored stored) ≡ false
-same_digest stored = ap not ((option_decides stored stored).1 refl)
+-- counts that rise tell of it where a digest is stored
+void_when : (dry some changed rise : Bool) → (dry ≡ false → some ≡ true → rise ≡ changed) → (not dry && (rise && some)) ≡ (not dry && (some && changed))
+void_when true some changed rise h = refl
+void_when false true changed true h = h refl refl
+void_when false true changed false h = h refl refl
+void_when false false changed true h = refl
+void_when false false changed false h = refl
 
-pub stays_same : (w : Walk) (d : ℕ) → digest_after w d ≡ w.stored d → digest_changes w d ≡ false
-stays_same w d h = ap (λ digest. not (same_option digest (w.stored d))) h ∙ same_digest (w.stored d)
+pub void_is : (w : Walk) (d : ℕ) (rise : Bool) → (w.options.dry ≡ false → is_some (w.stored d) ≡ true → rise ≡ has_changed_name w d)
+    → (not w.options.dry && (rise && is_some (w.stored d))) ≡ is_void w d
+void_is w d rise h = void_when w.options.dry (is_some (w.stored d)) (has_changed_name w d) rise h
 
-told_other : (after : DigestAfter) (digest : List ℕ) → is_other after digest ≡ not (same_option (digest_told after (Some digest)) (Some digest))
-told_other Stays digest = sym (same_digest (Some digest))
-told_other Void digest = refl
+-- ---- the digest that an entry's changes to
 
-pub other_is : (w : Walk) (d : ℕ) (after : DigestAfter) (digest : List ℕ) → w.stored d ≡ Some digest
-    → digest_told after (w.stored d) ≡ digest_after w d → is_other after digest ≡ digest_changes w d
-other_is w d after digest is told =
-    told_other after digest
-    ∙ ap₂ (λ new old. not (same_option new old)) (ap (λ stored. digest_told after stored) (sym is) ∙ told) (sym is)
+unless : (b : Bool) (digest : List ℕ) → (if not b then Some digest else None) ≡ (if b then None else Some digest)
+unless true digest = refl
+unless false digest = refl
+
+pub change_renewed : (w : Walk) (d : ℕ) (digest : List ℕ) → renewal w d ≡ Some digest → digest_change w d ≡ unless_stored digest (w.stored d)
+change_renewed w d digest h =
+    ap (λ after. if not (same_option after (w.stored d)) then after else None) (after_renewed w d digest h)
+    ∙ unless (same_option (Some digest) (w.stored d)) digest
+
+same_digest : (stored : Option (List ℕ)) → same_option stored stored ≡ true
+same_digest stored = (option_decides stored stored).1 refl
+
+pub change_void : (w : Walk) (d : ℕ) → renewal w d ≡ None → is_void w d ≡ true → digest_change w d ≡ unless_stored VOID_DIGEST.now (w.stored d)
+change_void w d h v =
+    ap (λ after. if not (same_option after (w.stored d)) then after else None)
+    (after_other w d h ∙ ap (λ b. if b then Some VOID_DIGEST.now else w.stored d) v)
+    ∙ unless (same_option (Some VOID_DIGEST.now) (w.stored d)) VOID_DIGEST.now
+
+pub change_none : (w : Walk) (d : ℕ) → renewal w d ≡ None → is_void w d ≡ false → digest_change w d ≡ None
+change_none w d h v =
+    ap (λ after. if not (same_option after (w.stored d)) then after else None)
+    (after_other w d h ∙ ap (λ b. if b then Some VOID_DIGEST.now else w.stored d) v)
+    ∙ ap (λ b. if not b then w.stored d else None) (same_digest (w.stored d))
 
 -- ---- the attribute of a digest
 
-void_or_same : (dry outdated : Bool) (stored : Option (List ℕ))
-    → not (same_option (if dry then stored else if outdated then Some VOID_DIGEST.now else stored) stored) ≡ true
-    → (if dry then stored else if outdated then Some VOID_DIGEST.now else stored) ≡ Some VOID_DIGEST.now
-void_or_same true outdated stored h = absurd (never (sym (same_digest stored) ∙ h))
-void_or_same false true stored h = refl
-void_or_same false false stored h = absurd (never (sym (same_digest stored) ∙ h))
+stored_none : (dry renewed outdated : Bool) (digest : List ℕ) (stored : Option (List ℕ))
+    → (if dry then stored else if renewed then Some digest else if outdated then Some VOID_DIGEST.now else stored) ≡ None → stored ≡ None
+stored_none true renewed outdated digest stored h = h
+stored_none false true outdated digest stored h = absurd cc
+stored_none false false true digest stored h = absurd cc
+stored_none false false false digest stored h = h
 
-changed_is_void : (w : Walk) (d : ℕ) → digest_changes w d ≡ true → digest_after w d ≡ Some VOID_DIGEST.now
+-- no digest is taken away
+none_stays : (w : Walk) (d : ℕ) → digest_after w d ≡ None → digest_changes w d ≡ false
 unfolding digest_after
-changed_is_void w d h = void_or_same w.options.dry (is_outdated w d) (w.stored d) h
+none_stays w d h =
+    ap₂ (λ after stored. not (same_option after stored)) h
+    (stored_none w.options.dry (is_renewed w d) (is_outdated w d) (digest_now w d) (w.stored d) h)
 
-attrs_if : (b : Bool) (digest : Option (List ℕ)) → (b ≡ true → digest ≡ Some VOID_DIGEST.now)
-    → (if b then digest_attr (digest_bytes digest) ∷ [] else []) ≡ void_attrs b
-attrs_if true digest h = ap (λ o. digest_attr (digest_bytes o) ∷ []) (h refl)
-attrs_if false digest h = refl
+is_some_if : (b : Bool) (after : Option (List ℕ)) → (after ≡ None → b ≡ false) → is_some (if b then after else None) ≡ b
+is_some_if false after h = refl
+is_some_if true (Some digest) h = refl
+is_some_if true None h = sym (h refl)
 
-digest_attrs_are : (w : Walk) (e : ℕ) → digest_attrs w e ≡ void_attrs (digest_changes w e)
-digest_attrs_are w e = attrs_if (digest_changes w e) (digest_after w e) (changed_is_void w e)
+pub change_told : (w : Walk) (d : ℕ) → is_some (digest_change w d) ≡ digest_changes w d
+change_told w d = is_some_if (digest_changes w d) (digest_after w d) (none_stays w d)
 
-section_is : (w : Walk) (e : ℕ) → section_at w e ≡ section_by (path_at w e) (change_at w e) (digest_changes w e)
+attrs_if : (b : Bool) (after : Option (List ℕ)) → (after ≡ None → b ≡ false)
+    → (if b then digest_attr (digest_bytes after) ∷ [] else []) ≡ renewed_attrs (if b then after else None)
+attrs_if false after h = refl
+attrs_if true (Some digest) h = refl
+attrs_if true None h = (let e = h refl in absurd cc)
+
+digest_attrs_are : (w : Walk) (e : ℕ) → digest_attrs w e ≡ renewed_attrs (digest_change w e)
+digest_attrs_are w e = attrs_if (digest_changes w e) (digest_after w e) (none_stays w e)
+
+section_is : (w : Walk) (e : ℕ) → section_at w e ≡ section_by (path_at w e) (change_at w e) (digest_change w e)
 unfolding section_at
 section_is w e = ap₂ (λ xs ys. section_with (path_at w e) (xs ++ ys)) (label_attrs_are w e) (digest_attrs_are w e)
 
-pub section_told : (w : Walk) (e : ℕ) (path : Path) (change : Option ContextValue) (is_void : Bool) → path ≡ path_at w e → change ≡ change_at w e
-    → is_void ≡ digest_changes w e → section_by path change is_void ≡ section_at w e
-section_told w e path change is_void p q r =
-    ap₂ (λ at given. section_by at given is_void) p q ∙ ap (λ b. section_by (path_at w e) (change_at w e) b) r ∙ sym (section_is w e)
+pub section_told : (w : Walk) (e : ℕ) (path : Path) (change : Option ContextValue) (digest : Option (List ℕ)) → path ≡ path_at w e → change ≡ change_at w e
+    → digest ≡ digest_change w e → section_by path change digest ≡ section_at w e
+section_told w e path change digest p q r =
+    ap₂ (λ at given. section_by at given digest) p q ∙ ap (λ b. section_by (path_at w e) (change_at w e) b) r ∙ sym (section_is w e)

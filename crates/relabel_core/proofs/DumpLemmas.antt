@@ -10,7 +10,7 @@ use Rattle.setfattr_dump.specs.Texts.{attr_line, attrs_text, dump_text, name_lin
 use Rattle.setfattr_dump.specs.declared.dump.Attr.{Attr}
 use Rattle.setfattr_dump.specs.declared.dump.Section.{Section}
 use Rattle.setfattr_dump.specs.declared.marks.TheConstants.{LINE_END}
-use Rattle.relabel_core.specs.Changes.{does_change, given_attrs, optional_section, section_at, section_by, void_attrs}
+use Rattle.relabel_core.specs.Changes.{does_change, given_attrs, optional_section, renewed_attrs, section_at, section_by}
 use Rattle.relabel_core.specs.Walk.{Walk}
 
 -- the text of the sections of the entries below n
@@ -39,26 +39,26 @@ section_written path to xs ys =
     ∙ append_assoc to (name_line path ++ attrs_text (xs ++ ys)) LINE_END.now
 
 -- where there are attributes, that is a section
-whole : (path : Path) (change : Option ContextValue) (is_void : Bool) → does_change change is_void ≡ true
-    → name_line path ++ attrs_text (given_attrs change ++ void_attrs is_void) ++ LINE_END.now ≡ optional_section (section_by path change is_void)
-whole path (Some context) is_void some = refl
-whole path None true some = refl
-whole path None false some = absurd cc
+whole : (path : Path) (change : Option ContextValue) (digest : Option (List ℕ)) → does_change change digest ≡ true
+    → name_line path ++ attrs_text (given_attrs change ++ renewed_attrs digest) ++ LINE_END.now ≡ optional_section (section_by path change digest)
+whole path (Some context) digest some = refl
+whole path None (Some digest) some = refl
+whole path None None some = absurd cc
 
-pub whole_written : (path : Path) (change : Option ContextValue) (is_void : Bool) (to one two three four : List ℕ)
-    → does_change change is_void ≡ true → one ≡ to ++ name_line path → two ≡ one ++ attrs_text (given_attrs change)
-    → three ≡ two ++ attrs_text (void_attrs is_void) → four ≡ three ++ LINE_END.now
-    → four ≡ to ++ optional_section (section_by path change is_void)
-whole_written path change is_void to one two three four some p q r s =
-    s ∙ ap (λ t. t ++ LINE_END.now) (r ∙ ap (λ t. t ++ attrs_text (void_attrs is_void)) (q ∙ ap (λ t. t ++ attrs_text (given_attrs change)) p))
-    ∙ section_written path to (given_attrs change) (void_attrs is_void)
-    ∙ ap (λ t. to ++ t) (whole path change is_void some)
+pub whole_written : (path : Path) (change : Option ContextValue) (digest : Option (List ℕ)) (to one two three four : List ℕ)
+    → does_change change digest ≡ true → one ≡ to ++ name_line path → two ≡ one ++ attrs_text (given_attrs change)
+    → three ≡ two ++ attrs_text (renewed_attrs digest) → four ≡ three ++ LINE_END.now
+    → four ≡ to ++ optional_section (section_by path change digest)
+whole_written path change digest to one two three four some p q r s =
+    s ∙ ap (λ t. t ++ LINE_END.now) (r ∙ ap (λ t. t ++ attrs_text (renewed_attrs digest)) (q ∙ ap (λ t. t ++ attrs_text (given_attrs change)) p))
+    ∙ section_written path to (given_attrs change) (renewed_attrs digest)
+    ∙ ap (λ t. to ++ t) (whole path change digest some)
 
-pub none_written : (path : Path) (change : Option ContextValue) (is_void : Bool) (to : List ℕ) → does_change change is_void ≡ false
-    → to ≡ to ++ optional_section (section_by path change is_void)
-none_written path None false to none = sym (append-nil to)
-none_written path None true to none = absurd cc
-none_written path (Some context) is_void to none = absurd cc
+pub none_written : (path : Path) (change : Option ContextValue) (digest : Option (List ℕ)) (to : List ℕ) → does_change change digest ≡ false
+    → to ≡ to ++ optional_section (section_by path change digest)
+none_written path None None to none = sym (append-nil to)
+none_written path None (Some digest) to none = absurd cc
+none_written path (Some context) digest to none = absurd cc
 
 one_section : (section : Option Section) → dump_text (cons_option section []) ≡ optional_section section
 unfolding dump_text

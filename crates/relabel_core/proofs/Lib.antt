@@ -5,6 +5,7 @@ pub mod ReportLemmas
 pub mod CountLemmas
 pub mod SelectedLemmas
 pub mod StoredLemmas
+pub mod PassedLemmas
 pub mod CountsLemmas
 pub mod ChangeLemmas
 pub mod DumpLemmas

@@ -1,8 +1,8 @@
 -- What a walk changes, as a dump of attributes.
-use Rattle.std.specs.Prelude.{ℕ, Bool, true, false, not, List, [], ◌∷◌, ◌++◌, Option, Some, None, if◌then◌else◌}
+use Rattle.std.specs.Prelude.{ℕ, Bool, true, not, ◌&&◌, List, [], ◌∷◌, ◌++◌, Option, Some, None, is_some, if◌then◌else◌}
 use Rattle.std.specs.List.{filter_map}
 use Rattle.label_base.specs.Bounded.{all_numbers}
-use Rattle.label_base.specs.Path.{Path, same_bytes}
+use Rattle.label_base.specs.Path.{Path}
 use Rattle.context_syntax.specs.Context.{ContextValue, context_text, same_option}
 use Rattle.context_syntax.specs.Label.{same_label}
 use Rattle.context_syntax.specs.declared.label.Label.{Label}
@@ -13,10 +13,7 @@ use Rattle.setfattr_dump.specs.declared.dump.Section.{Section}
 use Rattle.setfattr_dump.specs.declared.marks.TheConstants.{DIGEST_KEY, LABEL_KEY}
 use Rattle.tree_model.specs.Groups.{group_of, label_in}
 use Rattle.relabel_core.specs.Decide.{VerdictValue, Keep, Customized, Change}
-use Rattle.relabel_core.specs.Walk.{Walk, count, digest_after, group_winner, is_at, label_after, path_at, verdict_with}
-use Rattle.relabel_core.specs.declared.digests.DigestAfter.{DigestAfter}
-use Rattle.relabel_core.specs.declared.digests.DigestAfter.TheVariants.{Stays, Void}
-use Rattle.relabel_core.specs.declared.digests.TheConstants.{VOID_DIGEST}
+use Rattle.relabel_core.specs.Walk.{Walk, count, digest_after, group_winner, is_at, is_outdated, label_after, path_at, verdict_with}
 
 -- ---- labels and digests that change
 
@@ -76,10 +73,17 @@ changes w = filter_map (section_at w) (all_numbers (count w))
 
 -- ---- how it is computed
 
--- the digest that is told is another one than this
-abbrev pub is_other : DigestAfter → List ℕ → Bool
-is_other Stays stored = false
-is_other Void stored = not (same_bytes VOID_DIGEST.now stored)
+-- twenty zero bytes stand for the digest, if it isn't made anew
+abbrev pub is_void : Walk → ℕ → Bool
+is_void w d = not w.options.dry && is_outdated w d
+
+-- the digest that an entry's changes to
+abbrev pub digest_change : Walk → ℕ → Option (List ℕ)
+digest_change w d = if digest_changes w d then digest_after w d else None
+
+-- the digest, unless it is the stored one
+abbrev pub unless_stored : List ℕ → Option (List ℕ) → Option (List ℕ)
+unless_stored digest stored = if same_option (Some digest) stored then None else Some digest
 
 -- the context that a verdict gives
 abbrev pub given_in : VerdictValue → Option ContextValue
@@ -102,18 +106,18 @@ abbrev pub given_attrs : Option ContextValue → List Attr
 given_attrs None = []
 given_attrs (Some context) = label_attr (context_text context) ∷ []
 
-abbrev pub void_attrs : Bool → List Attr
-void_attrs true = digest_attr VOID_DIGEST.now ∷ []
-void_attrs false = []
+abbrev pub renewed_attrs : Option (List ℕ) → List Attr
+renewed_attrs None = []
+renewed_attrs (Some digest) = digest_attr digest ∷ []
 
 -- the label changes to a context, or the digest changes
-abbrev pub does_change : Option ContextValue → Bool → Bool
-does_change None is_void = is_void
-does_change (Some context) is_void = true
+abbrev pub does_change : Option ContextValue → Option (List ℕ) → Bool
+does_change None digest = is_some digest
+does_change (Some context) digest = true
 
--- the section of an entry whose label changes to this context, and whose digest changes or not
-abbrev pub section_by : Path → Option ContextValue → Bool → Option Section
-section_by path change is_void = section_with path (given_attrs change ++ void_attrs is_void)
+-- the section of an entry whose label changes to this context, and whose digest to this one
+abbrev pub section_by : Path → Option ContextValue → Option (List ℕ) → Option Section
+section_by path change digest = section_with path (given_attrs change ++ renewed_attrs digest)
 
 -- the text of a section, where there is one
 abbrev pub optional_section : Option Section → List ℕ

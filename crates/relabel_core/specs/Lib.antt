@@ -2,13 +2,16 @@ pub mod Numbers
 pub mod Decide
 pub mod Verdicts
 pub mod Walk
+pub mod Terms
 pub mod OnePass
 pub mod LabelAfter
 pub mod Stored
+pub mod Passed
 pub mod Walked
 pub mod Answer
 pub mod Report
 pub mod Counts
+pub mod DigestAfter
 pub mod Digests
 pub mod Changes
 pub mod Found

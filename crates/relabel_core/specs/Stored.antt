@@ -1,5 +1,5 @@
 -- The digests that are stored for the directories of a tree.
-use Rattle.std.specs.Prelude.{◌≡◌, ◌==◌, ℕ, Bool, List, filter, map, Option, Some, None, if◌then◌else◌}
+use Rattle.std.specs.Prelude.{◌≡◌, ◌==◌, ℕ, Bool, List, filter, get_or, map, nat_lt, Option, Some, None, if◌then◌else◌}
 use Rattle.std.specs.List.{flat_map, last_or}
 use Rattle.std.specs.BTreeMap.{BTreeMap, get}
 use Rattle.std.specs.Ordering.{nat_cmp}
@@ -45,6 +45,10 @@ digests_by sections entries = λ d. last_of (digests_at sections entries d)
 abbrev pub no_digests : StoredDigests
 no_digests = λ d. None
 
+-- the digests in a list, by the indices of the entries
+abbrev pub digests_listed : List (Option (List ℕ)) → StoredDigests
+digests_listed digests = λ d. get_or digests d None
+
 -- ---- how they are kept
 
 -- what a map keeps
@@ -69,3 +73,11 @@ KeepsAmong old new d attrs = (e : ℕ) → digests_in new e
 abbrev pub KeepsFrom : (old new : BTreeMap ℕ (List ℕ)) → List Record → List Section → Type 0
 KeepsFrom old new entries sections = (e : ℕ)
     → digests_in new e ≡ last_or (digests_in old e) (digests_at sections entries e)
+
+-- a digest is kept for the directory d, where there is one
+abbrev pub Adds : (old new : BTreeMap ℕ (List ℕ)) → ℕ → Option (List ℕ) → Type 0
+Adds old new d found = (e : ℕ) → digests_in new e ≡ (if d == e then found else digests_in old e)
+
+-- what is told of the numbers below n
+abbrev pub told_before : (ℕ → Option (List ℕ)) → ℕ → ℕ → Option (List ℕ)
+told_before told n e = if nat_lt e n then told e else None

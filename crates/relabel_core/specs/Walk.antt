@@ -1,13 +1,14 @@
 -- What one walk over a tree means. There is no running state: each definition speaks of one entry or
 -- one group.
-use Rattle.std.specs.Prelude.{ℕ, ◌+◌, Bool, false, not, ◌&&◌, ◌==◌, List, [], ◌++◌, length, filter, map, get_or, slice_get, Option, Some, None, is_some, option_and_then, if◌then◌else◌}
+use Rattle.std.specs.Prelude.{ℕ, ◌+◌, Bool, false, not, ◌&&◌, ◌||◌, ◌==◌, List, [], ◌++◌, length, filter, map, get_or, slice_get, Option, Some, None, is_some, option_and_then, if◌then◌else◌}
 use Rattle.std.specs.List.{filter_map}
 use Rattle.label_base.specs.Bounded.{all_numbers, any_below, least_below}
-use Rattle.label_base.specs.Path.{Path, path_text}
+use Rattle.label_base.specs.Path.{Path, path_text, same_bytes}
 use Rattle.label_base.specs.declared.kind.Asked.{Asked}
 use Rattle.label_base.specs.declared.kind.Asked.TheVariants.{Of}
 use Rattle.context_syntax.specs.Context.{ContextValue, same_context}
 use Rattle.context_syntax.specs.Label.{same_label}
+use Rattle.context_syntax.specs.TypeNames.{in_order}
 use Rattle.context_syntax.specs.declared.label.Label.{Label}
 use Rattle.context_syntax.specs.declared.label.Label.TheVariants as label_kinds
 use Rattle.spec_reader.specs.SpecValue.{SpecValue}
@@ -15,10 +16,12 @@ use Rattle.spec_reader.specs.declared.spec.Decision.{Decision}
 use Rattle.spec_reader.specs.declared.spec.Decision.TheVariants.{Leave, Give}
 use Rattle.spec_match.specs.LastMatch.{last_index}
 use Rattle.path_subs.specs.Subs.{substituted}
+use Rattle.dir_digest.specs.Digest.{digest_at}
 use Rattle.find_records.specs.Record.{Record}
-use Rattle.tree_model.specs.Extents.{entry_at, in_extent}
+use Rattle.tree_model.specs.Extents.{entry_at, in_extent, is_directory}
 use Rattle.tree_model.specs.Groups.{group_of, label_in}
-use Rattle.report_text.specs.Message.{MessageValue, Relabel, Customized, Conflict, NoDefault, Absent, NoMatches}
+use Rattle.tree_model.specs.Selection.{whole_at}
+use Rattle.report_text.specs.Message.{MessageValue, Relabel, Customized, Conflict, NoDefault, Skipped, Absent, NoMatches}
 use Rattle.relabel_core.specs.Decide as verdicts
 use Rattle.relabel_core.specs.Decide.{VerdictValue, label_by, verdict_for}
 use Rattle.relabel_core.specs.declared.digests.TheConstants.{VOID_DIGEST}
@@ -46,9 +49,50 @@ count w = length w.entries
 abbrev pub path_at : Walk → ℕ → Path
 path_at w e = (entry_at w.entries e).path
 
+-- the run is asked for the entry
+abbrev pub is_live : Walk → ℕ → Bool
+is_live w e = get_or w.live e false
+
+-- ---- which directories are skipped
+
+-- the digest of a directory, from what can decide the labels at or below it
+unfoldable pub digest_now : Walk → ℕ → List ℕ
+digest_now w d =
+    digest_at w.options.force (in_order w.rules.types) w.rules.subs.first w.rules.subs.second
+    w.rules.rules (path_at w d)
+
+-- a directory with all names of its inodes at or below it, and all that lies there asked for
+abbrev pub is_whole : Walk → ℕ → Bool
+is_whole w d = is_directory w.entries d && whole_at w.entries w.live d
+
+-- what is stored is a digest other than twenty zero bytes, and this one
+abbrev pub is_current : Option (List ℕ) → List ℕ → Bool
+is_current None digest = false
+is_current (Some stored) digest =
+    not (same_bytes stored VOID_DIGEST.now) && same_bytes stored digest
+
+-- directories may be skipped
+abbrev pub skips : Walk → Bool
+skips w = w.options.digests && not w.options.ignore_digests
+
+-- the directory may be passed over with all that lies below it: its stored digest is the one that it
+-- has
+unfoldable pub skippable : Walk → ℕ → Bool
+skippable w d = skips w && is_whole w d && is_current (w.stored d) (digest_now w d)
+
+-- the entry is at or below such a directory
+unfoldable pub is_skipped : Walk → ℕ → Bool
+is_skipped w e = any_below (count w) (λ d. skippable w d && in_extent w.entries d e)
+
+-- the directory is such a one, and lies below no other
+unfoldable pub is_skipped_first : Walk → ℕ → Bool
+is_skipped_first w e =
+    skippable w e
+    && not (any_below (count w) (λ d. skippable w d && in_extent w.entries d e && not (d == e)))
+
 -- the entry is looked at
-abbrev pub walked : Walk → ℕ → Bool
-walked w e = get_or w.live e false
+unfoldable pub walked : Walk → ℕ → Bool
+walked w e = is_live w e && not (is_skipped w e)
 
 abbrev pub one_if : Bool → ℕ
 one_if b = if b then 1 else 0
@@ -164,10 +208,13 @@ abbrev pub conflict_with : Walk → ℕ → Option ℕ → Option MessageValue
 conflict_with w e None = None
 conflict_with w e (Some k) = conflict_line (path_at w k) (path_at w e) (wanted w e) (wanted w k)
 
--- the line of an entry that no specification decides
-abbrev pub no_default_line : Walk → ℕ → Option MessageValue
-no_default_line w e =
-    if w.options.verbose && walked w e then Some (NoDefault (path_at w e)) else None
+-- the line of an entry that no specification decides: it was looked at, or skipped
+abbrev pub undecided_line : Walk → ℕ → Option MessageValue
+undecided_line w e =
+    if not w.options.verbose then None
+    else if walked w e then Some (NoDefault (path_at w e))
+    else if is_skipped_first w e then Some (Skipped (path_at w e))
+    else None
 
 -- the line of an entry that a specification decides
 abbrev pub decided_line : Walk → ℕ → Option ℕ → Option MessageValue
@@ -175,7 +222,7 @@ decided_line w e found = if is_at found e then winner_line w e found else confli
 
 -- the line of an entry that the specification at this index decides
 abbrev pub line_where : Walk → ℕ → Option ℕ → Option ℕ → Option MessageValue
-line_where w e found None = no_default_line w e
+line_where w e found None = undecided_line w e
 line_where w e found (Some index) = decided_line w e found
 
 -- the line of an entry
@@ -216,11 +263,17 @@ has_changed_name w d = any_below (count w) (λ e. in_extent w.entries d e && is_
 abbrev pub is_outdated : Walk → ℕ → Bool
 is_outdated w d = is_some (w.stored d) && has_changed_name w d
 
--- the digest after the walk: with -n all digests stay, and else twenty zero bytes stand for one that
--- is outdated
+-- the directory gets its digest anew: it was looked at, and nothing hides what lies below it
+unfoldable pub is_renewed : Walk → ℕ → Bool
+is_renewed w d =
+    (w.options.digests || w.options.ignore_digests) && walked w d && is_whole w d
+
+-- the digest after the walk: with -n all digests stay; else a digest is made anew, or twenty zero
+-- bytes stand for one that is outdated
 unfoldable pub digest_after : Walk → ℕ → Option (List ℕ)
 digest_after w d =
     if w.options.dry then w.stored d
+    else if is_renewed w d then Some (digest_now w d)
     else if is_outdated w d then Some VOID_DIGEST.now
     else w.stored d
 

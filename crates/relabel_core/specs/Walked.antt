@@ -5,6 +5,7 @@ use Rattle.label_base.specs.Path.{Path}
 use Rattle.find_records.specs.Record.{Record}
 use Rattle.tree_model.specs.Groups.{groups_in}
 use Rattle.tree_model.specs.Selection.{SelectedValue, selected_by}
+use Rattle.tree_model.specs.Tree.{ByPath}
 use Rattle.tree_model.specs.declared.selection.Choice.{Choice}
 use Rattle.relabel_core.specs.Numbers.{found_in}
 use Rattle.relabel_core.specs.Stored.{digests_of}
@@ -45,8 +46,10 @@ pub record IsFor (entries : List Record) (operands : List Path) (chosen : Select
   pub each_entry : length chosen.live ≡ length entries
   pub absent_few : length chosen.absent ≤ length operands
 
--- what is walked over goes together, and is few enough to be numbered in 32 bits
+-- what is walked over goes together, in the order of paths, and is few enough to be numbered in 32
+-- bits
 pub record IsFit (input : WalkInput) : Type 0 where
+  pub by_path : ByPath input.tree.now
   pub selected : IsFor input.tree.now input.operands.now input.chosen.now
   pub few : length input.tree.now + length input.operands.now < 2 ^ 32
 

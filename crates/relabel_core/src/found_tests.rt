@@ -1,7 +1,7 @@
 ghost use Rattle.std.specs.Prelude.{◌<◌, ◌^◌, length};
 ghost use Rattle.spec_match.specs.Scratches.{IsScratchOf};
 
-use crate::tests::{rules_with, tree_of};
+use crate::test_walks::{rules_with, tree_of};
 use crate::{
     Rules, add_found_report, add_verified_report, find_context, is_unverified, look_up_path, verify,
 };

@@ -37,6 +37,7 @@ pub fn walk_input<'a>(
     ensures walk { walk_of result
         ≡ walk_for tree.now choice.now rules.now options (digests_of stored.now) }
 {
+    tree.rises();
     WalkInput {
         tree,
         chosen,

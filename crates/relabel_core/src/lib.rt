@@ -3,7 +3,10 @@
 #![tactic(auto)]
 
 mod counts;
+mod digest_after;
+mod digesting;
 mod digests;
+mod directories;
 mod dump;
 mod errors;
 mod found;
@@ -13,8 +16,10 @@ mod label_after;
 mod laws;
 mod lines;
 mod looking_up;
+mod next;
 mod numbers;
 mod options;
+mod passed;
 mod report;
 mod rules;
 mod stored;
@@ -23,13 +28,18 @@ mod verified;
 mod walked;
 mod walking;
 
-pub use digests::{DigestAfter, Digests, VOID_DIGEST};
+pub use digest_after::DigestAfter;
+pub use digesting::{Buffers, buffers_for, digest_of, listings_by};
+pub use digests::{Digests, VOID_DIGEST};
+pub use directories::pass_directories;
 pub use found::{add_found_report, find_context};
 pub use input::{WalkInput, walk_input};
 pub use label_after::LabelAfter;
 pub use laws::one_pass_is_walk;
 pub use looking_up::{look_up, look_up_counted, look_up_path};
+pub use next::next_labels;
 pub use options::Options;
+pub use passed::{Passed, Skip};
 pub use rules::Rules;
 pub use stored::Stored;
 pub use verdict::{Verdict, decide};
@@ -38,8 +48,12 @@ pub use walked::Walked;
 pub use walking::{walk, walk_uncounted};
 
 #[cfg(test)]
+mod digest_tests;
+#[cfg(test)]
 mod dump_tests;
 #[cfg(test)]
 mod found_tests;
+#[cfg(test)]
+mod test_walks;
 #[cfg(test)]
 mod tests;

@@ -5,6 +5,10 @@ pub struct Options {
     pub force: bool,
     /// Nothing is changed; the report tells what would be.
     pub dry: bool,
+    /// Directories whose stored digest is the one that they have are skipped, and the others get theirs anew.
+    pub digests: bool,
+    /// No directory is skipped, and all get their digests anew.
+    pub ignore_digests: bool,
     /// The report has a line for each label that changes or is kept as customized, and for each entry that no
     /// specification decides.
     pub verbose: bool,

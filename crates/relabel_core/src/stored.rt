@@ -1,9 +1,10 @@
-ghost use Rattle.std.specs.Prelude.{◌≡◌, ◌<◌, ◌∷◌, [], IfOk, OnOk, Some, length, true};
+ghost use Rattle.std.specs.Prelude.{◌≡◌, ℕ, ◌<◌, ◌^◌, ◌∷◌, [], IfOk, None, OnOk, Some, false, get_or, length, true};
 ghost use Rattle.std.specs.Option.{option_copied};
 ghost use Rattle.label_base.specs.PathRef.{path_of};
-ghost use Rattle.relabel_core.specs.Stored.{Keeps, KeepsAmong, KeepsFrom, digests_by, digests_of, directory_at, if_directory, is_digest, no_digests};
+ghost use Rattle.tree_model.specs.Extents.{is_directory};
+ghost use Rattle.relabel_core.specs.Stored.{Adds, Keeps, KeepsAmong, KeepsFrom, digests_by, digests_in, digests_listed, digests_of, directory_at, if_directory, is_digest, no_digests};
 
-use label_base::{Bytes, EntryKind, OutOfMemory, PathRef};
+use label_base::{Bytes, EntryKind, OutOfMemory, PathRef, Row};
 use setfattr_dump::{Attr, DIGEST_KEY, Dump, Section};
 use std::alloc::Global;
 use std::collections::BTreeMap;
@@ -66,11 +67,19 @@ fn keep_attrs(
     Ok(())
 }
 
+/// Whether an entry is a directory.
+pub fn is_directory(tree: &Tree, e: u32) -> bool
+    requires { e < length tree.now }
+    ensures { result ≡ is_directory tree.now e }
+{
+    tree.entry(e).kind == EntryKind::Directory
+}
+
 fn if_directory(tree: &Tree, e: u32) -> Option<u32>
     requires { e < length tree.now }
     ensures { result ≡ if_directory tree.now (Some e) }
 {
-    if tree.entry(e).kind == EntryKind::Directory {
+    if is_directory(tree, e) {
         return Some(e);
     }
     None
@@ -117,6 +126,33 @@ fn keep_sections(
     Ok(())
 }
 
+// Keeps the digest of a directory that has none yet, if there is one.
+fn keep_given(
+    alloc: Global,
+    kept: &mut BTreeMap<u32, Bytes>,
+    d: u32,
+    digest: &Option<Bytes>,
+) -> Result<(), OutOfMemory>
+    requires { digests_in kept.old d ≡ None }
+    ensures { OnOk result (Adds kept.old kept.new d digest.now) }
+{
+    match digest {
+        None => Ok(()),
+        Some(value) => keep(alloc, kept, d, value.as_slice()),
+    }
+}
+
+fn keep_listed(alloc: Global, digests: &[Option<Bytes>]) -> Result<Stored, OutOfMemory>
+    requires { length digests.now < 2 ^ 32 }
+    ensures { IfOk result (λ stored. digests_of stored ≡ digests_listed digests.now) }
+{
+    let mut kept = BTreeMap::new(alloc);
+    'digests: for d in 0..digests.len() as u32 {
+        keep_given(alloc, &mut kept, d, &digests[d as usize])?;
+    }
+    Ok(Stored { kept })
+}
+
 impl Stored {
     /// No digest of any directory.
     pub fn none(alloc: Global) -> Stored
@@ -136,6 +172,21 @@ impl Stored {
         let mut kept = BTreeMap::new(alloc);
         keep_sections(alloc, &mut kept, tree, dump.sections.as_slice())?;
         Ok(Stored { kept })
+    }
+
+    /// These digests, one item for each entry of a tree, which is none where the entry is no directory.
+    pub fn of(
+        alloc: Global,
+        tree: &Tree,
+        digests: &Row<Option<Bytes>>,
+    ) -> Result<Stored, OutOfMemory>
+        requires each_entry { length digests.now ≡ length tree.now }
+        requires directories { (e : ℕ) → is_directory tree.now e ≡ false
+            → get_or digests.now e None ≡ None }
+        ensures { IfOk result (λ stored. digests_of stored ≡ digests_listed digests.now) }
+    {
+        let _ = tree.len();
+        keep_listed(alloc, digests.as_slice())
     }
 
     /// The digest that is stored for an entry, if one is. Only directories have one.

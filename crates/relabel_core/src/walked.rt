@@ -1,5 +1,6 @@
 ghost use Rattle.std.specs.Prelude.{◌≡◌, ◌<◌, IfSome, length, option_and_then, option_map};
 ghost use Rattle.std.specs.Option.{option_copied};
+ghost use Rattle.relabel_core.specs.Passed.{ArePassed};
 ghost use Rattle.relabel_core.specs.Walk.{is_at};
 ghost use Rattle.relabel_core.specs.Walked.{AreNoted, IsFit, walk_of};
 
@@ -8,6 +9,7 @@ use crate::input::WalkInput;
 use crate::label_after::LabelAfter;
 use crate::lines::{conflict_line, given_in, label_by, verdict_line};
 use crate::numbers::found_in;
+use crate::passed::{Passed, is_skipped_first, is_walked};
 use crate::verdict::{Verdict, decide};
 use context_syntax::{Context, ContextRef, Label};
 use label_base::PathRef;
@@ -23,7 +25,9 @@ pub struct Walked<'a> {
     decided: Vec<u32>,
     // For each group the index of its winner.
     winners: Vec<u32>,
+    pub(crate) passed: Passed,
     ghost fit: { IsFit input },
+    ghost were_passed: { ArePassed (walk_of input) passed.skips.items passed.made },
     ghost noted: { AreNoted (walk_of input) (length input.tree.now) decided.items winners.items },
 }
 
@@ -45,12 +49,18 @@ impl<'a> Walked<'a> {
     ghost use Rattle.relabel_core.specs.Changes.{change_at, change_with, group_change};
     ghost use Rattle.relabel_core.specs.LabelAfter.{label_told};
     ghost use Rattle.relabel_core.specs.Verdicts.{verdict_of};
-    ghost use Rattle.relabel_core.specs.Walk.{conflict_with, count, deciding, decided_line, group_winner, has_conflict, is_changed_name, label_after, label_with, line, line_where, new_label_with, no_default_line, path_at, verdict_where, verdict_with, walked, wanted, winner_line};
+    ghost use Rattle.relabel_core.specs.Walk.{conflict_with, count, deciding, decided_line, group_winner, has_conflict, is_changed_name, label_after, label_with, line, line_where, new_label, new_label_with, path_at, undecided_line, verdict_where, verdict_with, wanted, winner, winner_line};
 
-    /// The answer of a walk of which this is noted: for each entry a word with the index of the specification that decides
+    /// The answer of a walk of which this is noted: what was found of the directories, for each entry a word with the index of the specification that decides
     /// it, and for each group of names of one inode a word with the index of its winner. The word of none is the greatest.
-    pub fn of_noted(input: &WalkInput<'a>, decided: Vec<u32>, winners: Vec<u32>) -> Walked<'a>
+    pub fn of_noted(
+        input: &WalkInput<'a>,
+        passed: Passed,
+        decided: Vec<u32>,
+        winners: Vec<u32>,
+    ) -> Walked<'a>
         requires fit { IsFit input.now }
+        requires passed { ArePassed (walk_of input.now) passed.skips.items passed.made }
         requires noted { AreNoted (walk_of input.now) (length input.now.tree.now)
             decided.items winners.items }
         ensures { walk_in result ≡ walk_of input.now }
@@ -59,6 +69,7 @@ impl<'a> Walked<'a> {
             input: *input,
             decided,
             winners,
+            passed,
         }
     }
 
@@ -93,13 +104,29 @@ impl<'a> Walked<'a> {
         found_in(self.decided.as_slice(), e)
     }
 
+    /// How many groups there are.
+    pub fn groups(&self) -> u32
+        ensures { result ≡ groups_in (walk_in self.now).entries }
+    {
+        self.input.tree.groups()
+    }
+
+    // The winner of a group.
+    fn winner_in(&self, g: u32) -> Option<u32>
+        requires { g < groups_in (walk_in self.now).entries }
+        ensures value { result ≡ winner (walk_in self.now) g }
+        ensures within { IfSome result (λ k. k < count (walk_in self.now)) }
+    {
+        found_in(self.winners.as_slice(), g)
+    }
+
     /// The winner of an entry's group, if it has one: the first of its entries for which a context is decided.
     pub fn winner(&self, e: u32) -> Option<u32>
         requires { e < count (walk_in self.now) }
         ensures value { result ≡ group_winner (walk_in self.now) e }
         ensures within { IfSome result (λ k. k < count (walk_in self.now)) }
     {
-        found_in(self.winners.as_slice(), self.group(e))
+        self.winner_in(self.group(e))
     }
 
     /// The context that is decided for an entry, if one is.
@@ -122,17 +149,16 @@ impl<'a> Walked<'a> {
         }
     }
 
-    // The verdict on the label of an entry's group, where this context is wanted.
-    fn verdict_where(&self, e: u32, context: Option<&'a Context>) -> Verdict<'a>
-        requires { e < count (walk_in self.now) }
+    // The verdict on the label of a group, where this context is wanted.
+    fn verdict_where(&self, g: u32, context: Option<&'a Context>) -> Verdict<'a>
+        requires { g < groups_in (walk_in self.now).entries }
         ensures { verdict_of result
-            ≡ verdict_where (walk_in self.now) (group_of self.now.input.tree.now e)
-            (option_copied context.entry) }
+            ≡ verdict_where (walk_in self.now) g (option_copied context.entry) }
     {
         match context {
             None => Verdict::Keep,
             Some(context) => decide(
-                self.old_label(e),
+                self.input.tree.label(g),
                 context,
                 self.input.options.force,
                 &self.input.rules.types,
@@ -149,27 +175,34 @@ impl<'a> Walked<'a> {
         self.input.tree.label(self.group(e))
     }
 
-    // The verdict on the label of an entry's group, by its winner.
-    fn verdict_with(&self, e: u32, found: Option<u32>) -> Verdict<'a>
-        requires entry { e < count (walk_in self.now) }
+    // The verdict on the label of a group, by its winner.
+    fn verdict_with(&self, g: u32, found: Option<u32>) -> Verdict<'a>
+        requires group { g < groups_in (walk_in self.now).entries }
         requires winner { IfSome found (λ k. k < count (walk_in self.now)) }
-        ensures { verdict_of result
-            ≡ verdict_with (walk_in self.now) (group_of self.now.input.tree.now e) found }
+        ensures { verdict_of result ≡ verdict_with (walk_in self.now) g found }
     {
-        self.verdict_where(e, self.wanted_by(found))
+        self.verdict_where(g, self.wanted_by(found))
     }
 
-    // The label of an entry's group after the walk, by its winner.
-    fn new_label_with(&self, e: u32, found: Option<u32>) -> LabelAfter<'a>
-        requires entry { e < count (walk_in self.now) }
+    // The label of a group after the walk, by its winner.
+    fn new_label_with(&self, g: u32, found: Option<u32>) -> LabelAfter<'a>
+        requires group { g < groups_in (walk_in self.now).entries }
         requires winner { IfSome found (λ k. k < count (walk_in self.now)) }
-        ensures { label_told result
-            ≡ new_label_with (walk_in self.now) (group_of self.now.input.tree.now e) found }
+        ensures { label_told result ≡ new_label_with (walk_in self.now) g found }
     {
+        let label = self.input.tree.label(g);
         if self.input.options.dry {
-            return LabelAfter::Kept(self.old_label(e));
+            return LabelAfter::Kept(label);
         }
-        label_by(&self.verdict_with(e, found), self.old_label(e))
+        label_by(&self.verdict_with(g, found), label)
+    }
+
+    /// The label of a group after the walk.
+    pub fn new_label(&self, g: u32) -> LabelAfter<'a>
+        requires { g < groups_in (walk_in self.now).entries }
+        ensures { label_told result ≡ new_label (walk_in self.now) g }
+    {
+        self.new_label_with(g, self.winner_in(g))
     }
 
     // The label of an entry after the walk, by the winner of its group.
@@ -179,23 +212,22 @@ impl<'a> Walked<'a> {
         ensures { label_told result ≡ label_with (walk_in self.now) e found }
     {
         if is_at(found, e) {
-            return self.new_label_with(e, found);
+            return self.new_label_with(self.group(e), found);
         }
         LabelAfter::Kept(self.old_label(e))
     }
 
-    // The context that the label of an entry's group changes to, by its winner.
-    fn group_change(&self, e: u32, found: Option<u32>) -> Option<ContextRef<'a>>
-        requires entry { e < count (walk_in self.now) }
+    // The context that the label of a group changes to, by its winner.
+    fn group_change(&self, g: u32, found: Option<u32>) -> Option<ContextRef<'a>>
+        requires group { g < groups_in (walk_in self.now).entries }
         requires winner { IfSome found (λ k. k < count (walk_in self.now)) }
-        ensures { option_map context_lent result
-            ≡ group_change (walk_in self.now) (group_of self.now.input.tree.now e) found }
+        ensures { option_map context_lent result ≡ group_change (walk_in self.now) g found }
     {
-        let options = &self.input.options;
+        let options = self.input.options;
         if options.dry {
             return None;
         }
-        given_in(&self.verdict_with(e, found))
+        given_in(&self.verdict_with(g, found))
     }
 
     // The context that the label of an entry changes to, by the winner of its group.
@@ -205,7 +237,7 @@ impl<'a> Walked<'a> {
         ensures { option_map context_lent result ≡ change_with (walk_in self.now) e found }
     {
         if is_at(found, e) {
-            return self.group_change(e, found);
+            return self.group_change(self.group(e), found);
         }
         None
     }
@@ -225,7 +257,7 @@ impl<'a> Walked<'a> {
         requires { e < count (walk_in self.now) }
         ensures { result ≡ is_changed_name (walk_in self.now) e }
     {
-        self.group_change(e, self.winner(e)).is_some()
+        self.group_change(self.group(e), self.winner(e)).is_some()
     }
 
     /// The label of an entry after the walk: that of its group, which changes at the group's winner.
@@ -250,7 +282,7 @@ impl<'a> Walked<'a> {
             &self.path(e),
             self.old_label(e),
             self.input.options.dry,
-            &self.verdict_with(e, found),
+            &self.verdict_with(self.group(e), found),
         )
     }
 
@@ -266,13 +298,19 @@ impl<'a> Walked<'a> {
         }
     }
 
-    // The line of an entry that no specification decides.
-    fn no_default_line(&self, e: u32) -> Option<Message<'a>>
+    // The line of an entry that no specification decides: it was looked at, or skipped.
+    fn undecided_line(&self, e: u32) -> Option<Message<'a>>
         requires { e < count (walk_in self.now) }
-        ensures { option_map message_of result ≡ no_default_line (walk_in self.now) e }
+        ensures { option_map message_of result ≡ undecided_line (walk_in self.now) e }
     {
-        if self.input.options.verbose && self.input.chosen.is_live(e) {
+        if !self.input.options.verbose {
+            return None;
+        }
+        if is_walked(&self.input, &self.passed, e) {
             return Some(Message::NoDefault { path: self.path(e) });
+        }
+        if is_skipped_first(&self.input, &self.passed, e) {
+            return Some(Message::Skipped { path: self.path(e) });
         }
         None
     }
@@ -296,7 +334,7 @@ impl<'a> Walked<'a> {
         ensures { option_map message_of result ≡ line (walk_in self.now) e }
     {
         match self.deciding(e) {
-            None => self.no_default_line(e),
+            None => self.undecided_line(e),
             Some(_) => self.decided_line(e, self.winner(e)),
         }
     }

@@ -1,13 +1,17 @@
 ghost use Rattle.std.specs.Prelude.{◌≡◌, ◌+◌, ◌<◌, ◌≤◌, ◌^◌, IfOk, IfSome, OnOk, length};
 ghost use Rattle.spec_match.specs.Scratches.{IsScratchOf};
+ghost use Rattle.relabel_core.specs.Passed.{ArePassed};
 ghost use Rattle.relabel_core.specs.Walk.{count, deciding, one_if, walked, walked_below};
 ghost use Rattle.relabel_core.specs.Walked.{AreNoted, IsFit, IsFor, walk_of};
 ghost use Rattle.relabel_core.specs.Answer.{walk_in};
 
+use crate::digesting::buffers_for;
+use crate::directories::pass_directories;
 use crate::given::does_give;
 use crate::input::WalkInput;
 use crate::looking_up::{look_up, look_up_counted};
 use crate::numbers::{enter_if, no_numbers, number_of};
+use crate::passed::{Passed, is_walked};
 use crate::walked::Walked;
 use label_base::{OutOfMemory, Steps};
 use spec_match::Scratch;
@@ -26,17 +30,19 @@ fn decide_entry(
     alloc: Global,
     input: &WalkInput<'_>,
     e: u32,
+    passed: &Passed,
     scratch: &mut Scratch,
 ) -> Result<Option<u32>, OutOfMemory>
     requires fit { IsFit input.now }
     requires entry { e < count (walk_of input.now) }
+    requires passed { ArePassed (walk_of input.now) passed.now.skips.items passed.now.made }
     requires own { IsScratchOf input.now.rules.now.rules scratch.old }
     ensures own { IsScratchOf input.now.rules.now.rules scratch.new }
     ensures found { IfOk result (λ found. found ≡ deciding (walk_of input.now) e) }
     ensures within { IfOk result (λ found.
         IfSome found (λ i. i < length input.now.rules.now.rules)) }
 {
-    if !input.chosen.is_live(e) {
+    if !is_walked(input, passed, e) {
         return Ok(None);
     }
     look_up(alloc, input.rules, &input.tree.entry(e), scratch)
@@ -47,11 +53,13 @@ fn decide_entry_counted<L: Ledger>(
     alloc: Global,
     input: &WalkInput<'_>,
     e: u32,
+    passed: &Passed,
     scratch: &mut Scratch,
     steps: &mut Steps<L>,
 ) -> Result<Option<u32>, OutOfMemory>
     requires fit { IsFit input.now }
     requires entry { e < count (walk_of input.now) }
+    requires passed { ArePassed (walk_of input.now) passed.now.skips.items passed.now.made }
     requires own { IsScratchOf input.now.rules.now.rules scratch.old }
     ensures own { IsScratchOf input.now.rules.now.rules scratch.new }
     ensures found { IfOk result (λ found. found ≡ deciding (walk_of input.now) e) }
@@ -59,7 +67,7 @@ fn decide_entry_counted<L: Ledger>(
         IfSome found (λ i. i < length input.now.rules.now.rules)) }
     ensures count { steps.new ≤ steps.old + one_if (walked (walk_of input.now) e) }
 {
-    if !input.chosen.is_live(e) {
+    if !is_walked(input, passed, e) {
         return Ok(None);
     }
     look_up_counted(alloc, input.rules, &input.tree.entry(e), scratch, steps)
@@ -102,16 +110,22 @@ fn note_entry(
     Ok(())
 }
 
-fn note_entries(alloc: Global, input: &WalkInput<'_>) -> Result<Noted, OutOfMemory>
-    requires { IsFit input.now }
+fn note_entries(
+    alloc: Global,
+    input: &WalkInput<'_>,
+    passed: &Passed,
+    scratch: &mut Scratch,
+) -> Result<Noted, OutOfMemory>
+    requires fit { IsFit input.now }
+    requires passed { ArePassed (walk_of input.now) passed.now.skips.items passed.now.made }
+    requires own { IsScratchOf input.now.rules.now.rules scratch.old }
     ensures { IfOk result (λ noted.
         AreNoted (walk_of input.now) (length input.now.tree.now)
         noted.decided.items noted.winners.items) }
 {
-    let mut scratch = Scratch::new(alloc, &input.rules.rules)?;
     let mut noted = nothing_noted(alloc, input)?;
     'entries: for e in 0..input.tree.len() {
-        let found = decide_entry(alloc, input, e, &mut scratch)?;
+        let found = decide_entry(alloc, input, e, passed, scratch)?;
         note_entry(input, e, found, &mut noted)?;
     }
     Ok(noted)
@@ -120,19 +134,22 @@ fn note_entries(alloc: Global, input: &WalkInput<'_>) -> Result<Noted, OutOfMemo
 fn note_entries_counted<L: Ledger>(
     alloc: Global,
     input: &WalkInput<'_>,
+    passed: &Passed,
+    scratch: &mut Scratch,
     steps: &mut Steps<L>,
 ) -> Result<Noted, OutOfMemory>
-    requires { IsFit input.now }
+    requires fit { IsFit input.now }
+    requires passed { ArePassed (walk_of input.now) passed.now.skips.items passed.now.made }
+    requires own { IsScratchOf input.now.rules.now.rules scratch.old }
     ensures noted { IfOk result (λ noted.
         AreNoted (walk_of input.now) (length input.now.tree.now)
         noted.decided.items noted.winners.items) }
     ensures count { steps.new
         ≤ steps.old + walked_below (walk_of input.now) (length input.now.tree.now) }
 {
-    let mut scratch = Scratch::new(alloc, &input.rules.rules)?;
     let mut noted = nothing_noted(alloc, input)?;
     'entries: for e in 0..input.tree.len() {
-        let found = decide_entry_counted(alloc, input, e, &mut scratch, steps)?;
+        let found = decide_entry_counted(alloc, input, e, passed, scratch, steps)?;
         note_entry(input, e, found, &mut noted)?;
     }
     Ok(noted)
@@ -143,12 +160,15 @@ pub fn walk_uncounted<'a>(alloc: Global, input: &WalkInput<'a>) -> Result<Walked
     requires { IsFit input.now }
     ensures { IfOk result (λ walked. walk_in walked ≡ walk_of input.now) }
 {
-    let noted = note_entries(alloc, input)?;
-    Ok(Walked::of_noted(input, noted.decided, noted.winners))
+    let mut buffers = buffers_for(alloc, input.rules)?;
+    let passed = pass_directories(alloc, input, &mut buffers)?;
+    let noted = note_entries(alloc, input, &passed, &mut buffers.scratch)?;
+    Ok(Walked::of_noted(input, passed, noted.decided, noted.winners))
 }
 
-/// Walks over a tree: looks each entry up that the run is asked for, and notes what decides it and which name of each inode
-/// is the first for which a context is decided. It counts at most one step for each entry that is looked up.
+/// Walks over a tree: finds the directories that are skipped, looks each other entry up that the run is asked for, and notes
+/// what decides it and which name of each inode is the first for which a context is decided. It counts at most one step for
+/// each entry that is looked up.
 pub fn walk<'a, L: Ledger>(
     alloc: Global,
     input: &WalkInput<'a>,
@@ -159,6 +179,8 @@ pub fn walk<'a, L: Ledger>(
     ensures count { steps.new
         ≤ steps.old + walked_below (walk_of input.now) (length input.now.tree.now) }
 {
-    let noted = note_entries_counted(alloc, input, steps)?;
-    Ok(Walked::of_noted(input, noted.decided, noted.winners))
+    let mut buffers = buffers_for(alloc, input.rules)?;
+    let passed = pass_directories(alloc, input, &mut buffers)?;
+    let noted = note_entries_counted(alloc, input, &passed, &mut buffers.scratch, steps)?;
+    Ok(Walked::of_noted(input, passed, noted.decided, noted.winners))
 }

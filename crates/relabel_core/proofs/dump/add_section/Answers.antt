@@ -12,4 +12,4 @@ returns c =
     (section_told (walk_before c.args.digests.now) c.args.e _ _ _
     (c.path.ensures ∙ ap (λ w. path_at w c.args.e) c.walked-walked.ensures)
     (c.change_at-change.ensures ∙ ap (λ w. change_at w c.args.e) c.walked-walked.ensures)
-    c.changes.ensures)
+    c.change_at.ensures)

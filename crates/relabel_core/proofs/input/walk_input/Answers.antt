@@ -8,6 +8,7 @@ returns-clause-fit c =
     let choice = c.args.choice.now in
     let entries = c.args.tree.now in
     record {
+      by_path = c.rises.ensures;
       selected = subst (λ chosen. IsFor entries choice.operands chosen) (sym c.requires.chosen) (selected_is_for choice entries);
       few = c.requires.few;
     }

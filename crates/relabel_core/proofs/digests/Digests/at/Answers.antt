@@ -1,22 +1,17 @@
-use Rattle.std.proofs.Common.{◌∙◌, ap, sym}
-use Rattle.std.specs.Prelude.{is_some}
+use Rattle.std.proofs.Common.{◌∙◌, ap, sym, Some, if◌then◌else◌}
+use Rattle.relabel_core.specs.DigestAfter.{digest_told}
 use Rattle.relabel_core.specs.Digests.{walk_before}
-use Rattle.relabel_core.proofs.ChangeLemmas.{after_dry, after_none, after_same, after_void, copied_some}
+use Rattle.relabel_core.specs.declared.digests.TheConstants.{VOID_DIGEST}
+use Rattle.relabel_core.proofs.ChangeLemmas.{after_other, after_renewed, told_void}
 use Rattle.relabel_core.proofs.digests.Digests.at.Goals as goal
 
-pub returns-then-walked : goal.returns-then-walked
-returns-then-walked c = sym (after_dry (walk_before c.args.self.now) c.args.d c.if-walked.true)
+pub returns-in-Some : goal.returns-in-Some
+returns-in-Some c = sym (after_renewed (walk_before c.args.self.now) c.args.d c.in-Some.digest.now (sym c.in-Some.ensures))
 
-pub returns-then-is_none : goal.returns-then-is_none
-returns-then-is_none c =
-    sym (after_none (walk_before c.args.self.now) c.args.d (ap is_some (sym c.get.ensures) ∙ copied_some c.get.result ∙ c.if-is_none.ensures))
-
-pub returns-then-does_rise : goal.returns-then-does_rise
-returns-then-does_rise c =
-    let has = ap is_some (sym c.get.ensures) ∙ copied_some c.get.result ∙ c.if-is_none.ensures in
-    sym (after_void (walk_before c.args.self.now) c.args.d c.if-walked.false has (sym (c.does_rise.ensures c.if-walked.false has) ∙ c.if-does_rise.true))
-
-pub returns : goal.returns
-returns c =
-    let has = ap is_some (sym c.get.ensures) ∙ copied_some c.get.result ∙ c.if-is_none.ensures in
-    sym (after_same (walk_before c.args.self.now) c.args.d (sym (c.does_rise.ensures c.if-walked.false has) ∙ c.if-does_rise.false))
+pub returns-in-None : goal.returns-in-None
+returns-in-None c =
+    let w = walk_before c.args.self.now in
+    ap (λ after. digest_told after (w.stored c.args.d)) c.void_if.ensures
+    ∙ told_void c.is_void.result (w.stored c.args.d)
+    ∙ ap (λ b. if b then Some VOID_DIGEST.now else w.stored c.args.d) c.is_void.ensures
+    ∙ sym (after_other w c.args.d (sym c.in-None.ensures))

@@ -12,5 +12,6 @@ pub returns : goal.returns
 returns c =
     let w = walk_in c.args.self.now in
     c.is_some.ensures ∙ sym (some_told context_lent c.group_change.result) ∙ ap is_some c.group_change.ensures
+    ∙ ap (λ g. is_some (group_change w g c.winner.result)) c.group.ensures.value
     ∙ ap (λ found. is_some (group_change w (group_of w.entries c.args.e) found)) c.winner.ensures.value
     ∙ changed_name_is w c.args.e

@@ -1,0 +1,14 @@
+-- What decides the digests of the directories of a walk.
+use Rattle.context_syntax.specs.TypeNames.{in_order}
+use Rattle.dir_digest.specs.Terms.{Terms}
+use Rattle.relabel_core.specs.declared.options.Options.{Options}
+use Rattle.relabel_core.specs.declared.rules.Rules.{Rules}
+
+abbrev pub terms_by : Rules → Options → Terms
+terms_by rules options = record {
+  force = options.force;
+  types = in_order rules.types;
+  first = rules.subs.first;
+  second = rules.subs.second;
+  specs = rules.rules;
+}

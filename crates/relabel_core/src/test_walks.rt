@@ -1,0 +1,313 @@
+// The walks of the tests. Each helper has one value with a buffer and one `?`, since what has several takes long to prove.
+ghost use Rattle.std.specs.Prelude.{◌≡◌, ◌<◌, ◌^◌, length};
+ghost use Rattle.relabel_core.specs.Walked.{IsFit};
+
+use crate::{
+    DigestAfter, LabelAfter, Options, Rules, Stored, WalkInput, Walked, next_labels, walk,
+    walk_input,
+};
+use context_syntax::read_customizable;
+use find_records::{RecordLimits, read_records};
+use label_base::{Bytes, MemSource, NormPath, OutOfMemory, Part, Row, Steps};
+use path_subs::{SubList, Subs, read_subs};
+use setfattr_dump::Dump;
+use spec_match::RuleSet;
+use spec_reader::read_specs;
+use std::alloc::Global;
+use std::marker::Brand;
+use std::sync::ledger::{Blank, Ledger};
+use std::test::Fail;
+use tree_model::{Choice, Tree};
+
+// What a test walks over, and by what.
+#[derive(Clone, Copy)]
+pub struct Given<'a> {
+    pub specs: &'a [u8],
+    pub records: &'a [u8],
+    pub operands: (&'a [u8], &'a [u8]),
+    pub excluded: Option<&'a [u8]>,
+    // A dump of what is stored before.
+    pub kept: &'a [u8],
+    pub options: Options,
+    // The entry of which all is asked.
+    pub entry: u32,
+}
+
+// No option.
+pub const PLAIN: Options = Options {
+    force: false,
+    dry: false,
+    digests: false,
+    ignore_digests: false,
+    verbose: false,
+    warn_unmatched: false,
+    strict_links: false,
+    ignore_absent: false,
+};
+
+pub const NOTHING: Given<'static> = Given {
+    specs: b"",
+    records: b"",
+    operands: (b"/", b"/"),
+    excluded: None,
+    kept: b"",
+    options: PLAIN,
+    entry: 0,
+};
+
+// What is told of an entry.
+#[derive(Clone, Copy, PartialEq, Eq)]
+pub struct Told {
+    pub winner: Option<u32>,
+    pub deciding: Option<u32>,
+    pub wants: bool,
+    pub given: bool,
+    pub is_changed: bool,
+    pub does_change: bool,
+    pub has_message: bool,
+    pub has_conflict: bool,
+}
+
+// What becomes of the digest of an entry.
+#[derive(Clone, Copy, PartialEq, Eq)]
+pub enum Digest {
+    Stays,
+    Void,
+    Anew,
+}
+
+// What a walk answers.
+#[derive(Drop)]
+pub struct Answered {
+    // The report, and the dump behind it.
+    pub text: Bytes,
+    pub told: Option<Told>,
+    pub digest: Option<(Digest, bool)>,
+    // How many labels the walk leaves.
+    pub groups: usize,
+    pub errors: u32,
+}
+
+const TYPES: &[u8] = b"public_content_t\n";
+
+pub fn tree_of(alloc: Global, records: &[u8]) -> Result<Tree, Fail> {
+    let mut source = MemSource::new(Bytes::copy_of(alloc, records)?, 100, Row::new(alloc));
+    let limits = RecordLimits {
+        records: 9,
+        bytes: 999,
+    };
+    Ok(Tree::new(alloc, read_records(alloc, &mut source, limits)?)?)
+}
+
+fn subs_of(alloc: Global, first: &[u8], second: &[u8]) -> Result<Subs, Fail>
+    requires first { length first.now < 2 ^ 32 }
+    requires second { length second.now < 2 ^ 32 }
+{
+    Ok(Subs {
+        first: SubList::new(alloc, read_subs(alloc, first)?)?,
+        second: SubList::new(alloc, read_subs(alloc, second)?)?,
+    })
+}
+
+fn rule_set_of(alloc: Global, specs: &[u8]) -> Result<RuleSet, Fail> {
+    if specs.len() > 9999 {
+        return Err(OutOfMemory.into());
+    }
+    Ok(RuleSet::new(alloc, read_specs(alloc, specs, Part::Base, 9)?)?)
+}
+
+pub fn rules_with(alloc: Global, specs: &[u8], first: &[u8], second: &[u8]) -> Result<Rules, Fail>
+    requires first { length first.now < 2 ^ 32 }
+    requires second { length second.now < 2 ^ 32 }
+{
+    Ok(Rules {
+        rules: rule_set_of(alloc, specs)?,
+        subs: subs_of(alloc, first, second)?,
+        types: read_customizable(alloc, TYPES)?,
+    })
+}
+
+pub fn rules_of(alloc: Global, specs: &[u8]) -> Result<Rules, Fail> {
+    rules_with(alloc, specs, b"/data /srv\n", b"")
+}
+
+fn row_of(alloc: Global, path: Option<&[u8]>) -> Result<Row<NormPath>, Fail> {
+    let mut row = Row::new(alloc);
+    if let Some(path) = path {
+        row.push(NormPath::read(alloc, path)?)?;
+    }
+    Ok(row)
+}
+
+fn operands_of(alloc: Global, operands: (&[u8], &[u8])) -> Result<Row<NormPath>, Fail> {
+    let mut row = row_of(alloc, Some(operands.0))?;
+    row.push(NormPath::read(alloc, operands.1)?)?;
+    Ok(row)
+}
+
+fn choice_of(alloc: Global, given: &Given<'_>) -> Result<Choice, Fail> {
+    Ok(Choice {
+        operands: operands_of(alloc, given.operands)?,
+        excluded: row_of(alloc, given.excluded)?,
+        recurse: true,
+        one_device: false,
+    })
+}
+
+pub fn stored_of(alloc: Global, tree: &Tree, dump: &[u8]) -> Result<Stored, Fail> {
+    if dump.len() > 9999 {
+        return Err(OutOfMemory.into());
+    }
+    let dump = Dump::read(alloc, dump)?;
+    Ok(Stored::new(alloc, tree, &dump)?)
+}
+
+fn text_of(alloc: Global, walked: &Walked<'_>) -> Result<Bytes, OutOfMemory> {
+    let mut text = Bytes::new(alloc);
+    walked.add_report(alloc, &mut text)?;
+    walked.add_dump(alloc, &mut text)?;
+    Ok(text)
+}
+
+fn is_given(label: &LabelAfter<'_>) -> bool {
+    match label {
+        LabelAfter::Kept(_) => false,
+        LabelAfter::Given(_) => true,
+    }
+}
+
+fn told_of(walked: &Walked<'_>, e: u32) -> Option<Told> {
+    if e >= walked.len() {
+        return None;
+    }
+    Some(Told {
+        winner: walked.winner(e),
+        deciding: walked.deciding(e),
+        wants: walked.wanted(e).is_some(),
+        given: is_given(&walked.label_at(e)),
+        is_changed: walked.is_changed(e),
+        does_change: walked.change_at(e).is_some(),
+        has_message: walked.message_at(e).is_some(),
+        has_conflict: walked.has_conflict(e),
+    })
+}
+
+fn kind_of(digest: &DigestAfter<'_>) -> Digest {
+    match digest {
+        DigestAfter::Stays => Digest::Stays,
+        DigestAfter::Void => Digest::Void,
+        DigestAfter::Anew(_) => Digest::Anew,
+    }
+}
+
+fn digest_told(
+    alloc: Global,
+    walked: &Walked<'_>,
+    e: u32,
+) -> Result<Option<(Digest, bool)>, OutOfMemory> {
+    let digests = walked.digests(alloc)?;
+    if e >= digests.walked().len() {
+        return Ok(None);
+    }
+    Ok(Some((kind_of(&digests.at(e)), digests.changes(e))))
+}
+
+fn count_labels(alloc: Global, walked: &Walked<'_>) -> Result<usize, OutOfMemory> {
+    let labels = next_labels(alloc, walked)?;
+    Ok(labels.len())
+}
+
+fn all_told(alloc: Global, walked: &Walked<'_>, e: u32) -> Result<Answered, OutOfMemory> {
+    let digest = digest_told(alloc, walked, e)?;
+    let groups = count_labels(alloc, walked)?;
+    Ok(Answered {
+        text: text_of(alloc, walked)?,
+        told: told_of(walked, e),
+        digest,
+        groups,
+        errors: walked.errors(),
+    })
+}
+
+fn counted<'a, L: Ledger>(
+    alloc: Global,
+    input: &WalkInput<'a>,
+    blank: Blank,
+) -> Result<Walked<'a>, OutOfMemory>
+    requires fit { IsFit input.now }
+    requires name { blank.name ≡ L.name }
+    requires parts { blank.parts ≡ L.parts }
+    requires some { 0 < blank.parts }
+{
+    let mut steps = Steps::<L>::open(blank);
+    walk(alloc, input, &mut steps)
+}
+
+fn counted_once<'a>(alloc: Global, input: &WalkInput<'a>) -> Result<Walked<'a>, OutOfMemory>
+    requires { IsFit input.now }
+{
+    counted::<Brand>(alloc, input, Blank::new(1))
+}
+
+fn answered_input(alloc: Global, input: &WalkInput<'_>, e: u32) -> Result<Answered, OutOfMemory>
+    requires { IsFit input.now }
+{
+    let walked = counted_once(alloc, input)?;
+    all_told(alloc, &walked, e)
+}
+
+fn answered_choice(
+    alloc: Global,
+    given: &Given<'_>,
+    tree: &Tree,
+    rules: &Rules,
+    stored: &Stored,
+    choice: &Choice,
+) -> Result<Answered, OutOfMemory> {
+    let entries = tree.len();
+    let operands = choice.operands.len();
+    if entries > 99 {
+        return Err(OutOfMemory);
+    }
+    if operands > 99 {
+        return Err(OutOfMemory);
+    }
+    let chosen = tree.select(alloc, choice)?;
+    answered_input(
+        alloc,
+        &walk_input(tree, choice, &chosen, rules, given.options, stored),
+        given.entry,
+    )
+}
+
+fn answered_stored(
+    alloc: Global,
+    given: &Given<'_>,
+    tree: &Tree,
+    rules: &Rules,
+    stored: &Stored,
+) -> Result<Answered, Fail> {
+    let choice = choice_of(alloc, given)?;
+    Ok(answered_choice(alloc, given, tree, rules, stored, &choice)?)
+}
+
+fn answered_rules(
+    alloc: Global,
+    given: &Given<'_>,
+    tree: &Tree,
+    rules: &Rules,
+) -> Result<Answered, Fail> {
+    let stored = stored_of(alloc, tree, given.kept)?;
+    answered_stored(alloc, given, tree, rules, &stored)
+}
+
+fn answered_tree(alloc: Global, given: &Given<'_>, tree: &Tree) -> Result<Answered, Fail> {
+    let rules = rules_of(alloc, given.specs)?;
+    answered_rules(alloc, given, tree, &rules)
+}
+
+// What a walk answers of which this is given.
+pub fn answer(alloc: Global, given: &Given<'_>) -> Result<Answered, Fail> {
+    let tree = tree_of(alloc, given.records)?;
+    answered_tree(alloc, given, &tree)
+}
