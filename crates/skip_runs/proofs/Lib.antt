@@ -1,0 +1,4 @@
+pub mod Settled
+pub mod Steps
+pub mod Runs
+pub mod WayLemmas

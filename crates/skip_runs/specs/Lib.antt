@@ -1,0 +1,3 @@
+pub mod Relabel
+pub mod Skipping
+pub mod Ways

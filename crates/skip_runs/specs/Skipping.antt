@@ -1,0 +1,88 @@
+-- What skipping is safe under, and that it is.
+use Rattle.std.specs.Prelude.{◌≡◌, ℕ, ◌<◌, true, List, [], ◌∷◌, ◌++◌, ◌⊎◌, Some, None, Decides}
+use Rattle.skip_runs.specs.Relabel.{Kinds, Tree, Run, State, whole, digests_in, after, after_all, after_all_off}
+
+-- the comparisons of labels and digests are exact
+pub record AreExact (K : Kinds) : Type 0 where
+  pub labels : (a b : K.Label) → Decides (K.same_label a b) (a ≡ b)
+  pub digests : (a b : K.Digest) → Decides (K.same_digest a b) (a ≡ b)
+
+-- the list has the run
+abbrev pub HasRun : {K : Kinds} → List (Run K) → Run K → Type 0
+HasRun [] r = ⊥
+HasRun (first ∷ runs) r = (first ≡ r) ⊎ HasRun runs r
+
+-- ---- what is asked of runs
+
+-- a label that a run gave is one that it keeps, where the same is wanted
+abbrev pub Settles : {K : Kinds} → Run K → Type 0
+Settles {K} r =
+    (label new : K.Label) (wanted : K.Context) → r.decide label wanted ≡ Some new
+    → r.decide new wanted ≡ None
+
+-- two runs decide the same in the directory's extent, and change labels alike
+pub record Agree {K : Kinds} (t : Tree) (a b : Run K) (d : ℕ) : Type 0 where
+  pub decision : (e : ℕ) → e < t.count → t.in_extent d e ≡ true → a.decision e ≡ b.decision e
+  pub decide : (label : K.Label) (wanted : K.Context)
+      → a.decide label wanted ≡ b.decide label wanted
+
+-- the run stores digests, and the directory is whole in it: so its listing is digested
+pub record IsListed {K : Kinds} (t : Tree) (r : Run K) (d : ℕ) : Type 0 where
+  pub inside : d < t.count
+  pub directory : t.is_directory d ≡ true
+  pub digests : digests_in r ≡ true
+  pub whole_in : whole t r d ≡ true
+
+abbrev pub EachSettles : {K : Kinds} → (Run K → Type 0) → Type 0
+EachSettles {K} Among = (r : Run K) → Among r → Settles r
+
+-- runs with equal listings of a directory agree on it
+abbrev pub ListingsTell : {K : Kinds} → Tree → (Run K → Type 0) → Type 0
+ListingsTell {K} t Among =
+    (a b : Run K) → Among a → Among b → (d : ℕ) → d < t.count → t.is_directory d ≡ true
+    → a.listing d ≡ b.listing d → Agree t a b d
+
+-- no two listings that are digested differ and have one digest
+abbrev pub NoClash : {K : Kinds} → Tree → (Run K → Type 0) → Type 0
+NoClash {K} t Among =
+    (a b : Run K) → Among a → Among b → (d e : ℕ) → IsListed t a d → IsListed t b e
+    → K.digest_of (a.listing d) ≡ K.digest_of (b.listing e) → a.listing d ≡ b.listing e
+
+pub record AreRuns {K : Kinds} (t : Tree) (Among : Run K → Type 0) : Type 0 where
+  pub settle : EachSettles Among
+  pub agree : ListingsTell t Among
+  pub no_clash : NoClash t Among
+
+-- no directory has a digest
+abbrev pub IsBare : {K : Kinds} → State K → Type 0
+IsBare s = (d : ℕ) → s.digests d ≡ None
+
+-- ---- theorems
+
+-- From a state without digests, runs leave the labels that the same runs leave with skipping off.
+abbrev pub SkippingKeepsLabels : Kinds → Type 0
+SkippingKeepsLabels K =
+    AreExact K → (t : Tree) (runs : List (Run K)) → AreRuns t (HasRun runs)
+    → (s : State K) → IsBare s
+    → (g : ℕ) → (after_all t s runs).labels g ≡ (after_all_off t s runs).labels g
+
+-- two states have the same labels of the tree's groups and the same digests of its directories
+pub record IsLike {K : Kinds} (t : Tree) (now s : State K) : Type 0 where
+  pub labels : (e : ℕ) → e < t.count → now.labels (t.group_of e) ≡ s.labels (t.group_of e)
+  pub digests : (d : ℕ) → d < t.count → t.is_directory d ≡ true → now.digests d ≡ s.digests d
+
+-- A run looks at nothing else of a state: from states that are alike it leaves such states.
+abbrev pub AlikeStaysAlike : Kinds → Type 0
+AlikeStaysAlike K =
+    (t : Tree) (r : Run K) (now s : State K) → IsLike t now s
+    → IsLike t (after t now r) (after t s r)
+
+-- One more run: from the state that runs leave which began without digests, it leaves the labels
+-- that all of them leave with skipping off.
+abbrev pub OneMoreKeepsLabels : Kinds → Type 0
+OneMoreKeepsLabels K =
+    AreExact K → (t : Tree) (runs : List (Run K)) (r : Run K) → AreRuns t (HasRun (runs ++ r ∷ []))
+    → (s : State K) → IsBare s → (now : State K) → IsLike t now (after_all t s runs)
+    → (e : ℕ) → e < t.count
+    → (after t now r).labels (t.group_of e)
+    ≡ (after_all_off t s (runs ++ r ∷ [])).labels (t.group_of e)
