@@ -1,0 +1,5 @@
+pub mod DecideLemmas
+pub mod LabelledLemmas
+pub mod WalkLemmas
+pub mod ToldLemmas
+pub mod RunLemmas

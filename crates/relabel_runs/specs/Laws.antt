@@ -1,0 +1,48 @@
+-- Skipping changes no label.
+use Rattle.std.specs.Prelude.{◌≡◌, ℕ, ◌<◌, false, true, List, [], ◌∷◌, ◌++◌, length}
+use Rattle.find_records.specs.Record.{Record}
+use Rattle.tree_model.specs.Extents.{is_directory}
+use Rattle.tree_model.specs.Groups.{group_of, label_in}
+use Rattle.relabel_core.specs.Walk.{StoredDigests, Walk, new_label, skippable}
+use Rattle.relabel_core.specs.Walked.{walk_for}
+use Rattle.relabel_runs.specs.Premises.{AreRuns}
+use Rattle.relabel_runs.specs.Runs.{IsBare, Run, State, end, end_off, not_skipping, walk_at}
+
+-- with skipping off, no directory is skipped
+abbrev pub NoneSkipped : Type 0
+NoneSkipped =
+    (entries : List Record) (s : State) (run : Run) (d : ℕ)
+    → skippable (walk_at entries s (not_skipping run)) d ≡ false
+
+-- From a state without digests, runs leave the labels that the same runs leave with skipping off.
+abbrev pub SkippingKeepsLabels : Type 0
+SkippingKeepsLabels =
+    (entries : List Record) (runs : List Run) → AreRuns entries runs
+    → (s : State) → IsBare s
+    → (e : ℕ) → e < length entries
+    → (end entries s runs).labels (group_of entries e)
+    ≡ (end_off entries s runs).labels (group_of entries e)
+
+-- the tree has the labels of a state, and these digests are its
+pub record IsNow (entries : List Record) (stored : StoredDigests) (s : State) : Type 0 where
+  pub labels : (e : ℕ) → e < length entries
+      → label_in entries (group_of entries e) ≡ s.labels (group_of entries e)
+  pub digests : (d : ℕ) → d < length entries → is_directory entries d ≡ true
+      → stored d ≡ s.digests d
+
+-- Whichever runs left the labels of the tree and these digests, if they began without digests: the
+-- walk leaves the labels that all of them and this run leave with skipping off.
+abbrev pub KeepsLabels : List Record → StoredDigests → Run → Walk → Type 0
+KeepsLabels entries stored run w =
+    (runs : List Run) → AreRuns entries (runs ++ run ∷ [])
+    → (s : State) → IsBare s → IsNow entries stored (end entries s runs)
+    → (e : ℕ) → e < length entries
+    → new_label w (group_of entries e)
+    ≡ (end_off entries s (runs ++ run ∷ [])).labels (group_of entries e)
+
+-- One more run: so it is for its walk over the tree.
+abbrev pub OneMoreRunKeepsLabels : Type 0
+OneMoreRunKeepsLabels =
+    (entries : List Record) (stored : StoredDigests) (run : Run)
+    → KeepsLabels entries stored run
+    (walk_for entries run.choice run.rules run.options stored)

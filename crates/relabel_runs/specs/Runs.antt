@@ -1,0 +1,67 @@
+-- Runs that relabel one tree, one after the other, and the state that they leave.
+use Rattle.std.specs.Prelude.{◌≡◌, ℕ, suc, ◌||◌, false, List, [], ◌∷◌, None, map}
+use Rattle.context_syntax.specs.declared.label.Label.{Label}
+use Rattle.find_records.specs.Record.{Record}
+use Rattle.tree_model.specs.Groups.{group_of}
+use Rattle.tree_model.specs.declared.selection.Choice.{Choice}
+use Rattle.relabel_core.specs.Walk.{StoredDigests, Walk, digest_after, new_label}
+use Rattle.relabel_core.specs.Walked.{walk_for}
+use Rattle.relabel_core.specs.declared.options.Options.{Options}
+use Rattle.relabel_core.specs.declared.rules.Rules.{Rules}
+
+-- a run: what decides labels, what it is asked for, and how it goes
+pub record Run : Type 0 where
+  pub rules : Rules
+  pub choice : Choice
+  pub options : Options
+
+-- What runs change of a tree: the label of each group, which are the names of one inode, and the
+-- digest that is stored for each directory that has one. All else of the tree stays as it is.
+pub record State : Type 0 where
+  pub labels : ℕ → Label
+  pub digests : StoredDigests
+
+abbrev pub labelled_from : (ℕ → Label) → ℕ → List Record → List Record
+labelled_from labels e [] = []
+labelled_from labels e (entry ∷ entries) =
+    record entry { label = labels e } ∷ labelled_from labels (suc e) entries
+
+-- the tree with these labels of its groups
+abbrev pub labelled : List Record → (ℕ → Label) → List Record
+labelled entries labels = labelled_from (λ e. labels (group_of entries e)) 0 entries
+
+-- the walk of a run over the tree in a state
+abbrev pub walk_at : List Record → State → Run → Walk
+walk_at entries s run =
+    walk_for (labelled entries s.labels) run.choice run.rules run.options s.digests
+
+-- the state after a run
+abbrev pub after : List Record → State → Run → State
+after entries s run =
+    record {
+      labels = new_label (walk_at entries s run);
+      digests = digest_after (walk_at entries s run);
+    }
+
+-- the state after all runs, in their order
+abbrev pub end : List Record → State → List Run → State
+end entries s [] = s
+end entries s (run ∷ runs) = end entries (after entries s run) runs
+
+-- The same run with skipping off: digests are made, if it makes any, and none is looked at.
+abbrev pub not_skipping : Run → Run
+not_skipping run =
+    record run {
+      options = record run.options {
+        digests = false;
+        ignore_digests = run.options.digests || run.options.ignore_digests;
+      };
+    }
+
+-- the state after all runs, each with skipping off
+abbrev pub end_off : List Record → State → List Run → State
+end_off entries s runs = end entries s (map not_skipping runs)
+
+-- no directory has a digest
+abbrev pub IsBare : State → Type 0
+IsBare s = (d : ℕ) → s.digests d ≡ None

@@ -1,0 +1,34 @@
+ghost use Rattle.std.specs.Prelude.{◌≡◌, ◌+◌, ◌<◌, ◌^◌, IfOk, length};
+ghost use Rattle.tree_model.specs.Selection.{selected_by};
+ghost use Rattle.relabel_core.specs.Answer.{walk_in};
+ghost use Rattle.relabel_core.specs.Stored.{digests_of};
+ghost use Rattle.relabel_core.specs.Walked.{walk_for};
+ghost use Rattle.relabel_runs.specs.Laws.{KeepsLabels};
+
+use label_base::OutOfMemory;
+use relabel_core::{Options, Rules, Stored, Walked, walk_input, walk_uncounted};
+use std::alloc::Global;
+use tree_model::{Choice, Selected, Tree};
+
+/// Walks over a tree that other runs may have left as it is, with the digests that they stored: the labels that it
+/// leaves are those that all of them and this walk leave with skipping off.
+pub fn next_walk<'a>(
+    alloc: Global,
+    tree: &'a Tree,
+    choice: &'a Choice,
+    chosen: &'a Selected,
+    rules: &'a Rules,
+    options: Options,
+    stored: &'a Stored,
+) -> Result<Walked<'a>, OutOfMemory>
+    requires chosen { chosen.now ≡ selected_by choice.now tree.now }
+    requires few { length tree.now + length choice.now.operands < 2 ^ 32 }
+    ensures walk { IfOk result (λ walked. walk_in walked
+        ≡ walk_for tree.now choice.now rules.now options (digests_of stored.now)) }
+    ensures labels { IfOk result (λ walked. KeepsLabels tree.now (digests_of stored.now)
+        (record { rules = rules.now; choice = choice.now; options = options })
+        (walk_in walked)) }
+{
+    let input = walk_input(tree, choice, chosen, rules, options, stored);
+    walk_uncounted(alloc, &input)
+}
