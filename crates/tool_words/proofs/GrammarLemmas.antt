@@ -5,17 +5,17 @@ use Rattle.std.proofs.lemmas.Bool.{eqb-true}
 use Rattle.std.proofs.lemmas.List.{append-nil}
 use Rattle.std.proofs.lemmas.Slice.Eq.{bytes_eq-Decides}
 use Rattle.label_base.specs.Path.{same_bytes}
-use Rattle.tool_words.specs.Grammar.{AreAlone, AreLetters, AreWords, all_alone, valued, later, unknown, none, options, value, missing, operand, end, flags, operands_at}
-use Rattle.tool_words.specs.Items.{Item, Letters, Taken, any_taken, ahead, flag, is_cluster, item, items_from, items_of, letters_say, letters_taken, names_base, operand_says, operand_taken, valued_says, with_letter, wrong}
+use Rattle.tool_words.specs.Grammar.{AreAlone, AreLetters, AreWords, all_alone, valued, unknown, none, options, value, missing, operand, end, flags, operands_at}
+use Rattle.tool_words.specs.Items.{Item, Letters, Taken, any_taken, ahead, flag, is_cluster, item, items_from, items_of, letters_say, letters_taken, operand_says, operand_taken, valued_says, with_letter, wrong}
 use Rattle.tool_words.specs.Tools.{letter_of}
 use Rattle.tool_words.specs.declared.cutting.Expects.TheVariants.{Any, ValueOf, Operands}
 use Rattle.tool_words.specs.declared.cutting.TheConstants.{DASH, END}
 use Rattle.tool_words.specs.declared.item.Says.TheVariants.{Given}
 use Rattle.tool_words.specs.declared.tool.Letter.{Letter}
-use Rattle.tool_words.specs.declared.tool.Letter.TheVariants.{Alone, WithValue, Later, Unknown}
+use Rattle.tool_words.specs.declared.tool.Letter.TheVariants.{Alone, WithValue, Unknown}
 use Rattle.tool_words.specs.declared.tool.Tool.{Tool}
-use Rattle.tool_words.specs.declared.tool.Tool.TheVariants.{Setfiles, Restorecon, Matchpathcon}
-use Rattle.tool_words.specs.declared.usage.UsageWhy.TheVariants.{MissingValue, NotYet, UnknownOption}
+use Rattle.tool_words.specs.declared.tool.Tool.TheVariants.{Setfiles, Restorecon, Matchpathcon, Sample}
+use Rattle.tool_words.specs.declared.usage.UsageWhy.TheVariants.{MissingValue, UnknownOption}
 
 -- ---- letters
 
@@ -53,7 +53,6 @@ letters_are tool index _ _ (all_alone front are) =
 letters_are tool index _ _ (valued front letter text are role some) =
     letter_says tool index front letter text WithValue are role
     ∙ ap (behind_flags index front) (valued_some index letter text some)
-letters_are tool index _ _ (later front letter rest are role) = letter_says tool index front letter rest Later are role
 letters_are tool index _ _ (unknown front letter rest are role) = letter_says tool index front letter rest Unknown are role
 
 awaiting : (tool : Tool) (index : ℕ) (front : List ℕ) (letter : ℕ) → AreAlone tool front → letter_of tool letter ≡ WithValue → letters_say tool index (front ++ letter ∷ []) ≡ (flags index front, ValueOf letter)
@@ -70,45 +69,45 @@ not_end word differs =
       | false ↦ λ _. refl
     ] refl
 
-any_end : (tool : Tool) (base : Bool) (index : ℕ) → any_taken tool base index END.now ≡ ([], ahead Operands base)
+any_end : (tool : Tool) (first : Bool) (index : ℕ) → any_taken tool first index END.now ≡ ([], ahead Operands first)
 unfolding any_taken
-any_end tool base index = refl
+any_end tool first index = refl
 
-any_letters : (tool : Tool) (base : Bool) (index : ℕ) (word : List ℕ) → word ≢ END.now → is_cluster word ≡ true → any_taken tool base index word ≡ letters_taken base (letters_say tool index (drop 1 word))
+any_letters : (tool : Tool) (first : Bool) (index : ℕ) (word : List ℕ) → word ≢ END.now → is_cluster word ≡ true → any_taken tool first index word ≡ letters_taken first (letters_say tool index (drop 1 word))
 unfolding any_taken
-any_letters tool base index word differs cluster =
-    ap (λ v. cond v ([], ahead Operands base) (cond (is_cluster word) (letters_taken base (letters_say tool index (drop 1 word))) (operand_taken Any base index word))) (not_end word differs)
-    ∙ ap (λ v. cond v (letters_taken base (letters_say tool index (drop 1 word))) (operand_taken Any base index word)) cluster
+any_letters tool first index word differs cluster =
+    ap (λ v. cond v ([], ahead Operands first) (cond (is_cluster word) (letters_taken first (letters_say tool index (drop 1 word))) (operand_taken tool Any first index word))) (not_end word differs)
+    ∙ ap (λ v. cond v (letters_taken first (letters_say tool index (drop 1 word))) (operand_taken tool Any first index word)) cluster
 
 end_is_cluster : (word : List ℕ) → is_cluster word ≡ false → word ≢ END.now
 end_is_cluster word f e = let both : is_cluster word ≡ true = ap is_cluster e in cc
 
-any_operand : (tool : Tool) (base : Bool) (index : ℕ) (word : List ℕ) → is_cluster word ≡ false → any_taken tool base index word ≡ operand_taken Any base index word
+any_operand : (tool : Tool) (first : Bool) (index : ℕ) (word : List ℕ) → is_cluster word ≡ false → any_taken tool first index word ≡ operand_taken tool Any first index word
 unfolding any_taken
-any_operand tool base index word f =
-    ap (λ v. cond v ([], ahead Operands base) (cond (is_cluster word) (letters_taken base (letters_say tool index (drop 1 word))) (operand_taken Any base index word))) (not_end word (end_is_cluster word f))
-    ∙ ap (λ v. cond v (letters_taken base (letters_say tool index (drop 1 word))) (operand_taken Any base index word)) f
+any_operand tool first index word f =
+    ap (λ v. cond v ([], ahead Operands first) (cond (is_cluster word) (letters_taken first (letters_say tool index (drop 1 word))) (operand_taken tool Any first index word))) (not_end word (end_is_cluster word f))
+    ∙ ap (λ v. cond v (letters_taken first (letters_say tool index (drop 1 word))) (operand_taken tool Any first index word)) f
 
 -- what the words say from a word on that was taken so
 from_taken : (tool : Tool) (index : ℕ) (words : List (List ℕ)) → Taken → List Item
 from_taken tool index words t = t.0 ++ items_from tool t.1 (index + 1) words
 
-any_from : (tool : Tool) (base : Bool) (index : ℕ) (word : List ℕ) (words : List (List ℕ)) (t : Taken) → any_taken tool base index word ≡ t → items_from tool (ahead Any base) index (word ∷ words) ≡ t.0 ++ items_from tool t.1 (index + 1) words
+any_from : (tool : Tool) (first : Bool) (index : ℕ) (word : List ℕ) (words : List (List ℕ)) (t : Taken) → any_taken tool first index word ≡ t → items_from tool (ahead Any first) index (word ∷ words) ≡ t.0 ++ items_from tool t.1 (index + 1) words
 unfolding items_from
-any_from tool base index word words t e = ap (λ (u : Taken). u.0 ++ items_from tool u.1 (index + 1) words) e
+any_from tool first index word words t e = ap (λ (u : Taken). u.0 ++ items_from tool u.1 (index + 1) words) e
 
-operands_are : (tool : Tool) (base : Bool) (index : ℕ) (words : List (List ℕ)) → items_from tool (ahead Operands base) index words ≡ operands_at base index words
+operands_are : (tool : Tool) (first : Bool) (index : ℕ) (words : List (List ℕ)) → items_from tool (ahead Operands first) index words ≡ operands_at tool first index words
 unfolding items_from
-operands_are tool base index [] = refl
-operands_are tool base index (word ∷ words) = ap (λ xs. item (operand_says base) index word ∷ xs) (operands_are tool false (index + 1) words)
+operands_are tool first index [] = refl
+operands_are tool first index (word ∷ words) = ap (λ xs. item (operand_says tool first) index word ∷ xs) (operands_are tool false (index + 1) words)
 
-value_from : (tool : Tool) (base : Bool) (index letter : ℕ) (text : List ℕ) (words : List (List ℕ)) → items_from tool (ahead (ValueOf letter) base) index (text ∷ words) ≡ item (Given letter) index text ∷ items_from tool (ahead Any base) (index + 1) words
+value_from : (tool : Tool) (first : Bool) (index letter : ℕ) (text : List ℕ) (words : List (List ℕ)) → items_from tool (ahead (ValueOf letter) first) index (text ∷ words) ≡ item (Given letter) index text ∷ items_from tool (ahead Any first) (index + 1) words
 unfolding items_from
-value_from tool base index letter text words = refl
+value_from tool first index letter text words = refl
 
-missing_from : (tool : Tool) (base : Bool) (index letter : ℕ) → items_from tool (ahead (ValueOf letter) base) (index + 1) [] ≡ wrong MissingValue index ∷ []
+missing_from : (tool : Tool) (first : Bool) (index letter : ℕ) → items_from tool (ahead (ValueOf letter) first) (index + 1) [] ≡ wrong MissingValue index ∷ []
 unfolding items_from
-missing_from tool base index letter = ap (λ i. wrong MissingValue i ∷ []) (before index)
+missing_from tool first index letter = ap (λ i. wrong MissingValue i ∷ []) (before index)
   where
     before : (i : ℕ) → (i + 1) - 1 ≡ i
     before i = omega arith
@@ -122,6 +121,7 @@ unfolding letter_of
 dash_is_no_option Setfiles = refl
 dash_is_no_option Restorecon = refl
 dash_is_no_option Matchpathcon = refl
+dash_is_no_option Sample = refl
 
 never_empty : (front : List ℕ) (letter : ℕ) → front ++ letter ∷ [] ≢ []
 never_empty [] letter e = cc
@@ -139,51 +139,51 @@ value_not_end tool (b ∷ front) letter role e =
     never_empty front letter rest
 
 -- a word whose last letter expects its value
-value_taken : (tool : Tool) (base : Bool) (index : ℕ) (front : List ℕ) (letter : ℕ) → AreAlone tool front → letter_of tool letter ≡ WithValue → any_taken tool base index (DASH ∷ (front ++ letter ∷ [])) ≡ (flags index front, ahead (ValueOf letter) base)
-value_taken tool base index front letter are role =
-    any_letters tool base index (DASH ∷ (front ++ letter ∷ [])) (value_not_end tool front letter role) (front_cluster front letter)
-    ∙ ap (letters_taken base) (awaiting tool index front letter are role)
+value_taken : (tool : Tool) (first : Bool) (index : ℕ) (front : List ℕ) (letter : ℕ) → AreAlone tool front → letter_of tool letter ≡ WithValue → any_taken tool first index (DASH ∷ (front ++ letter ∷ [])) ≡ (flags index front, ahead (ValueOf letter) first)
+value_taken tool first index front letter are role =
+    any_letters tool first index (DASH ∷ (front ++ letter ∷ [])) (value_not_end tool front letter role) (front_cluster front letter)
+    ∙ ap (letters_taken first) (awaiting tool index front letter are role)
 
-value_words : (tool : Tool) (base : Bool) (index : ℕ) (front : List ℕ) (letter : ℕ) (text : List ℕ) (words : List (List ℕ)) → AreAlone tool front → letter_of tool letter ≡ WithValue → items_from tool (ahead Any base) index ((DASH ∷ (front ++ letter ∷ [])) ∷ text ∷ words) ≡ flags index front ++ item (Given letter) (index + 1) text ∷ items_from tool (ahead Any base) (index + 1 + 1) words
-value_words tool base index front letter text words are role =
-    any_from tool base index (DASH ∷ (front ++ letter ∷ [])) (text ∷ words) _ (value_taken tool base index front letter are role)
-    ∙ ap (λ xs. flags index front ++ xs) (value_from tool base (index + 1) letter text words)
+value_words : (tool : Tool) (first : Bool) (index : ℕ) (front : List ℕ) (letter : ℕ) (text : List ℕ) (words : List (List ℕ)) → AreAlone tool front → letter_of tool letter ≡ WithValue → items_from tool (ahead Any first) index ((DASH ∷ (front ++ letter ∷ [])) ∷ text ∷ words) ≡ flags index front ++ item (Given letter) (index + 1) text ∷ items_from tool (ahead Any first) (index + 1 + 1) words
+value_words tool first index front letter text words are role =
+    any_from tool first index (DASH ∷ (front ++ letter ∷ [])) (text ∷ words) _ (value_taken tool first index front letter are role)
+    ∙ ap (λ xs. flags index front ++ xs) (value_from tool first (index + 1) letter text words)
 
-missing_words : (tool : Tool) (base : Bool) (index : ℕ) (front : List ℕ) (letter : ℕ) → AreAlone tool front → letter_of tool letter ≡ WithValue → items_from tool (ahead Any base) index ((DASH ∷ (front ++ letter ∷ [])) ∷ []) ≡ flags index front ++ wrong MissingValue index ∷ []
-missing_words tool base index front letter are role =
-    any_from tool base index (DASH ∷ (front ++ letter ∷ [])) [] _ (value_taken tool base index front letter are role)
-    ∙ ap (λ xs. flags index front ++ xs) (missing_from tool base index letter)
+missing_words : (tool : Tool) (first : Bool) (index : ℕ) (front : List ℕ) (letter : ℕ) → AreAlone tool front → letter_of tool letter ≡ WithValue → items_from tool (ahead Any first) index ((DASH ∷ (front ++ letter ∷ [])) ∷ []) ≡ flags index front ++ wrong MissingValue index ∷ []
+missing_words tool first index front letter are role =
+    any_from tool first index (DASH ∷ (front ++ letter ∷ [])) [] _ (value_taken tool first index front letter are role)
+    ∙ ap (λ xs. flags index front ++ xs) (missing_from tool first index letter)
 
-options_words : (tool : Tool) (base : Bool) (index letter : ℕ) (letters : List ℕ) (words : List (List ℕ)) (items : List Item) → DASH ∷ letter ∷ letters ≢ END.now → AreLetters tool index (letter ∷ letters) items → items_from tool (ahead Any base) index ((DASH ∷ letter ∷ letters) ∷ words) ≡ items ++ items_from tool (ahead Any base) (index + 1) words
-options_words tool base index letter letters words items differs are =
-    any_from tool base index (DASH ∷ letter ∷ letters) words _
-    (any_letters tool base index (DASH ∷ letter ∷ letters) differs refl ∙ ap (letters_taken base) (letters_are tool index (letter ∷ letters) items are))
+options_words : (tool : Tool) (first : Bool) (index letter : ℕ) (letters : List ℕ) (words : List (List ℕ)) (items : List Item) → DASH ∷ letter ∷ letters ≢ END.now → AreLetters tool index (letter ∷ letters) items → items_from tool (ahead Any first) index ((DASH ∷ letter ∷ letters) ∷ words) ≡ items ++ items_from tool (ahead Any first) (index + 1) words
+options_words tool first index letter letters words items differs are =
+    any_from tool first index (DASH ∷ letter ∷ letters) words _
+    (any_letters tool first index (DASH ∷ letter ∷ letters) differs refl ∙ ap (letters_taken first) (letters_are tool index (letter ∷ letters) items are))
 
-operand_words : (tool : Tool) (base : Bool) (index : ℕ) (word : List ℕ) (words : List (List ℕ)) → is_cluster word ≡ false → items_from tool (ahead Any base) index (word ∷ words) ≡ item (operand_says base) index word ∷ items_from tool (ahead Any false) (index + 1) words
-operand_words tool base index word words f = any_from tool base index word words _ (any_operand tool base index word f)
+operand_words : (tool : Tool) (first : Bool) (index : ℕ) (word : List ℕ) (words : List (List ℕ)) → is_cluster word ≡ false → items_from tool (ahead Any first) index (word ∷ words) ≡ item (operand_says tool first) index word ∷ items_from tool (ahead Any false) (index + 1) words
+operand_words tool first index word words f = any_from tool first index word words _ (any_operand tool first index word f)
 
-end_words : (tool : Tool) (base : Bool) (index : ℕ) (words : List (List ℕ)) → items_from tool (ahead Any base) index (END.now ∷ words) ≡ operands_at base (index + 1) words
-end_words tool base index words = any_from tool base index END.now words _ (any_end tool base index) ∙ operands_are tool base (index + 1) words
+end_words : (tool : Tool) (first : Bool) (index : ℕ) (words : List (List ℕ)) → items_from tool (ahead Any first) index (END.now ∷ words) ≡ operands_at tool first (index + 1) words
+end_words tool first index words = any_from tool first index END.now words _ (any_end tool first index) ∙ operands_are tool first (index + 1) words
 
-none_words : (tool : Tool) (base : Bool) (index : ℕ) → items_from tool (ahead Any base) index [] ≡ []
+none_words : (tool : Tool) (first : Bool) (index : ℕ) → items_from tool (ahead Any first) index [] ≡ []
 unfolding items_from
-none_words tool base index = refl
+none_words tool first index = refl
 
 -- ---- what the grammar says is read
 
-complete : (tool : Tool) (base : Bool) (index : ℕ) (words : List (List ℕ)) (items : List Item) → AreWords tool base index words items → items_from tool (ahead Any base) index words ≡ items
-complete tool _ _ _ _ (none base index) = none_words tool base index
-complete tool _ _ _ _ (options base index letter letters words items more differs are rest) =
-    options_words tool base index letter letters words items differs are
-    ∙ ap (λ xs. items ++ xs) (complete tool base (index + 1) words more rest)
-complete tool _ _ _ _ (value base index front letter text words more are role rest) =
-    value_words tool base index front letter text words are role
-    ∙ ap (λ xs. flags index front ++ item (Given letter) (index + 1) text ∷ xs) (complete tool base (index + 1 + 1) words more rest)
-complete tool _ _ _ _ (missing base index front letter are role) = missing_words tool base index front letter are role
-complete tool _ _ _ _ (operand base index word words more f rest) =
-    operand_words tool base index word words f
-    ∙ ap (λ xs. item (operand_says base) index word ∷ xs) (complete tool false (index + 1) words more rest)
-complete tool _ _ _ _ (end base index words) = end_words tool base index words
+complete : (tool : Tool) (first : Bool) (index : ℕ) (words : List (List ℕ)) (items : List Item) → AreWords tool first index words items → items_from tool (ahead Any first) index words ≡ items
+complete tool _ _ _ _ (none first index) = none_words tool first index
+complete tool _ _ _ _ (options first index letter letters words items more differs are rest) =
+    options_words tool first index letter letters words items differs are
+    ∙ ap (λ xs. items ++ xs) (complete tool first (index + 1) words more rest)
+complete tool _ _ _ _ (value first index front letter text words more are role rest) =
+    value_words tool first index front letter text words are role
+    ∙ ap (λ xs. flags index front ++ item (Given letter) (index + 1) text ∷ xs) (complete tool first (index + 1 + 1) words more rest)
+complete tool _ _ _ _ (missing first index front letter are role) = missing_words tool first index front letter are role
+complete tool _ _ _ _ (operand first index word words more f rest) =
+    operand_words tool first index word words f
+    ∙ ap (λ xs. item (operand_says tool first) index word ∷ xs) (complete tool false (index + 1) words more rest)
+complete tool _ _ _ _ (end first index words) = end_words tool first index words
 
 -- ---- what is read is so by the grammar
 
@@ -205,7 +205,6 @@ stop_later tool b bs alone s = record { front = b ∷ s.front; letter = s.letter
 differs_from : (x : Letter) → (x ≡ Alone) ⊎ (x ≢ Alone)
 differs_from Alone = inl refl
 differs_from WithValue = inr (λ e. cc)
-differs_from Later = inr (λ e. cc)
 differs_from Unknown = inr (λ e. cc)
 
 split : (tool : Tool) (letters : List ℕ) → AreAlone tool letters ⊎ Split tool letters
@@ -220,83 +219,80 @@ split tool (b ∷ bs) =
     ]
 
 abbrev Sound : Tool → Bool → ℕ → List (List ℕ) → Type 0
-Sound tool base index words = AreWords tool base index words (items_from tool (ahead Any base) index words)
+Sound tool first index words = AreWords tool first index words (items_from tool (ahead Any first) index words)
 
 -- what the words behind the next one say
 abbrev Behind : Tool → Bool → ℕ → List (List ℕ) → Type 0
-Behind tool base index [] = ⊤
-Behind tool base index (text ∷ words) = Sound tool base (index + 1 + 1) words
+Behind tool first index [] = ⊤
+Behind tool first index (text ∷ words) = Sound tool first (index + 1 + 1) words
 
-module _ (tool : Tool) (base : Bool) (index : ℕ) (words : List (List ℕ)) (more : (b : Bool) → Sound tool b (index + 1) words) (next : Behind tool base index words) where
-  options_sound : (letter : ℕ) (letters : List ℕ) (items : List Item) → DASH ∷ letter ∷ letters ≢ END.now → AreLetters tool index (letter ∷ letters) items → Sound tool base index ((DASH ∷ letter ∷ letters) ∷ words)
+module _ (tool : Tool) (first : Bool) (index : ℕ) (words : List (List ℕ)) (more : (b : Bool) → Sound tool b (index + 1) words) (next : Behind tool first index words) where
+  options_sound : (letter : ℕ) (letters : List ℕ) (items : List Item) → DASH ∷ letter ∷ letters ≢ END.now → AreLetters tool index (letter ∷ letters) items → Sound tool first index ((DASH ∷ letter ∷ letters) ∷ words)
   options_sound letter letters items differs are =
-      subst (AreWords tool base index ((DASH ∷ letter ∷ letters) ∷ words)) (sym (options_words tool base index letter letters words items differs are))
-      (options base index letter letters words items (items_from tool (ahead Any base) (index + 1) words) differs are (more base))
+      subst (AreWords tool first index ((DASH ∷ letter ∷ letters) ∷ words)) (sym (options_words tool first index letter letters words items differs are))
+      (options first index letter letters words items (items_from tool (ahead Any first) (index + 1) words) differs are (more first))
 
-  operand_sound : (word : List ℕ) → is_cluster word ≡ false → Sound tool base index (word ∷ words)
+  operand_sound : (word : List ℕ) → is_cluster word ≡ false → Sound tool first index (word ∷ words)
   operand_sound word f =
-      subst (AreWords tool base index (word ∷ words)) (sym (operand_words tool base index word words f))
-      (operand base index word words (items_from tool (ahead Any false) (index + 1) words) f (more false))
+      subst (AreWords tool first index (word ∷ words)) (sym (operand_words tool first index word words f))
+      (operand first index word words (items_from tool (ahead Any false) (index + 1) words) f (more false))
 
-  end_sound : (word : List ℕ) → word ≡ END.now → Sound tool base index (word ∷ words)
+  end_sound : (word : List ℕ) → word ≡ END.now → Sound tool first index (word ∷ words)
   end_sound word e =
-      subst (λ w. Sound tool base index (w ∷ words)) (sym e)
-      (subst (AreWords tool base index (END.now ∷ words)) (sym (end_words tool base index words)) (end base index words))
+      subst (λ w. Sound tool first index (w ∷ words)) (sym e)
+      (subst (AreWords tool first index (END.now ∷ words)) (sym (end_words tool first index words)) (end first index words))
 
-value_sound : (tool : Tool) (base : Bool) (index : ℕ) (words : List (List ℕ)) (front : List ℕ) (letter : ℕ) → Behind tool base index words → AreAlone tool front → letter_of tool letter ≡ WithValue → Sound tool base index ((DASH ∷ (front ++ letter ∷ [])) ∷ words)
-value_sound tool base index [] front letter next are role =
-    subst (AreWords tool base index ((DASH ∷ (front ++ letter ∷ [])) ∷ [])) (sym (missing_words tool base index front letter are role))
-    (missing base index front letter are role)
-value_sound tool base index (text ∷ words) front letter next are role =
-    subst (AreWords tool base index ((DASH ∷ (front ++ letter ∷ [])) ∷ text ∷ words)) (sym (value_words tool base index front letter text words are role))
-    (value base index front letter text words (items_from tool (ahead Any base) (index + 1 + 1) words) are role next)
+value_sound : (tool : Tool) (first : Bool) (index : ℕ) (words : List (List ℕ)) (front : List ℕ) (letter : ℕ) → Behind tool first index words → AreAlone tool front → letter_of tool letter ≡ WithValue → Sound tool first index ((DASH ∷ (front ++ letter ∷ [])) ∷ words)
+value_sound tool first index [] front letter next are role =
+    subst (AreWords tool first index ((DASH ∷ (front ++ letter ∷ [])) ∷ [])) (sym (missing_words tool first index front letter are role))
+    (missing first index front letter are role)
+value_sound tool first index (text ∷ words) front letter next are role =
+    subst (AreWords tool first index ((DASH ∷ (front ++ letter ∷ [])) ∷ text ∷ words)) (sym (value_words tool first index front letter text words are role))
+    (value first index front letter text words (items_from tool (ahead Any first) (index + 1 + 1) words) are role next)
 
-rest_sound : (tool : Tool) (base : Bool) (index : ℕ) (words : List (List ℕ)) (b : ℕ) (bs front : List ℕ) (letter : ℕ) (rest : List ℕ) (role : Letter) → ((c : Bool) → Sound tool c (index + 1) words) → Behind tool base index words → DASH ∷ b ∷ bs ≢ END.now → b ∷ bs ≡ front ++ letter ∷ rest → AreAlone tool front → letter_of tool letter ≡ role → role ≢ Alone → Sound tool base index ((DASH ∷ b ∷ bs) ∷ words)
-rest_sound tool base index words b bs front letter rest Alone more next differs is are e stops = absurd (stops refl)
-rest_sound tool base index words b bs front letter [] WithValue more next differs is are e stops =
-    subst (λ w. Sound tool base index ((DASH ∷ w) ∷ words)) (sym is) (value_sound tool base index words front letter next are e)
-rest_sound tool base index words b bs front letter (c ∷ cs) WithValue more next differs is are e stops =
-    options_sound tool base index words more next b bs _ differs
+rest_sound : (tool : Tool) (first : Bool) (index : ℕ) (words : List (List ℕ)) (b : ℕ) (bs front : List ℕ) (letter : ℕ) (rest : List ℕ) (role : Letter) → ((c : Bool) → Sound tool c (index + 1) words) → Behind tool first index words → DASH ∷ b ∷ bs ≢ END.now → b ∷ bs ≡ front ++ letter ∷ rest → AreAlone tool front → letter_of tool letter ≡ role → role ≢ Alone → Sound tool first index ((DASH ∷ b ∷ bs) ∷ words)
+rest_sound tool first index words b bs front letter rest Alone more next differs is are e stops = absurd (stops refl)
+rest_sound tool first index words b bs front letter [] WithValue more next differs is are e stops =
+    subst (λ w. Sound tool first index ((DASH ∷ w) ∷ words)) (sym is) (value_sound tool first index words front letter next are e)
+rest_sound tool first index words b bs front letter (c ∷ cs) WithValue more next differs is are e stops =
+    options_sound tool first index words more next b bs _ differs
     (subst (λ w. AreLetters tool index w (flags index front ++ item (Given letter) index (c ∷ cs) ∷ [])) (sym is) (valued front letter (c ∷ cs) are e (omega arith)))
-rest_sound tool base index words b bs front letter rest Later more next differs is are e stops =
-    options_sound tool base index words more next b bs _ differs
-    (subst (λ w. AreLetters tool index w (flags index front ++ wrong NotYet index ∷ [])) (sym is) (later front letter rest are e))
-rest_sound tool base index words b bs front letter rest Unknown more next differs is are e stops =
-    options_sound tool base index words more next b bs _ differs
+rest_sound tool first index words b bs front letter rest Unknown more next differs is are e stops =
+    options_sound tool first index words more next b bs _ differs
     (subst (λ w. AreLetters tool index w (flags index front ++ wrong UnknownOption index ∷ [])) (sym is) (unknown front letter rest are e))
 
-cluster_sound : (tool : Tool) (base : Bool) (index : ℕ) (words : List (List ℕ)) (word : List ℕ) → ((c : Bool) → Sound tool c (index + 1) words) → Behind tool base index words → word ≢ END.now → is_cluster word ≡ true → Sound tool base index (word ∷ words)
-cluster_sound tool base index words [] more next differs h = absurd (cc)
-cluster_sound tool base index words (a ∷ []) more next differs h = absurd (cc)
-cluster_sound tool base index words (a ∷ b ∷ bs) more next differs h =
+cluster_sound : (tool : Tool) (first : Bool) (index : ℕ) (words : List (List ℕ)) (word : List ℕ) → ((c : Bool) → Sound tool c (index + 1) words) → Behind tool first index words → word ≢ END.now → is_cluster word ≡ true → Sound tool first index (word ∷ words)
+cluster_sound tool first index words [] more next differs h = absurd (cc)
+cluster_sound tool first index words (a ∷ []) more next differs h = absurd (cc)
+cluster_sound tool first index words (a ∷ b ∷ bs) more next differs h =
     let dash : a ≡ DASH = eqb-true a DASH h in
     let differs_too : DASH ∷ b ∷ bs ≢ END.now = λ e. differs (ap (λ x. x ∷ b ∷ bs) dash ∙ e) in
-    subst (λ x. Sound tool base index ((x ∷ b ∷ bs) ∷ words)) (sym dash) (elim (split tool (b ∷ bs)) [
-      | inl are ↦ options_sound tool base index words more next b bs (flags index (b ∷ bs)) differs_too (all_alone (b ∷ bs) are)
-      | inr s ↦ rest_sound tool base index words b bs s.front s.letter s.rest (letter_of tool s.letter) more next differs_too s.is s.are refl s.stops
+    subst (λ x. Sound tool first index ((x ∷ b ∷ bs) ∷ words)) (sym dash) (elim (split tool (b ∷ bs)) [
+      | inl are ↦ options_sound tool first index words more next b bs (flags index (b ∷ bs)) differs_too (all_alone (b ∷ bs) are)
+      | inr s ↦ rest_sound tool first index words b bs s.front s.letter s.rest (letter_of tool s.letter) more next differs_too s.is s.are refl s.stops
     ])
 
-word_sound : (tool : Tool) (base : Bool) (index : ℕ) (words : List (List ℕ)) (word : List ℕ) → ((c : Bool) → Sound tool c (index + 1) words) → Behind tool base index words → Sound tool base index (word ∷ words)
-word_sound tool base index words word more next =
-    elim (same_bytes word END.now) as (λ v. same_bytes word END.now ≡ v → Sound tool base index (word ∷ words)) [
-      | true ↦ λ t. end_sound tool base index words more next word ((bytes_eq-Decides word END.now).0 t)
+word_sound : (tool : Tool) (first : Bool) (index : ℕ) (words : List (List ℕ)) (word : List ℕ) → ((c : Bool) → Sound tool c (index + 1) words) → Behind tool first index words → Sound tool first index (word ∷ words)
+word_sound tool first index words word more next =
+    elim (same_bytes word END.now) as (λ v. same_bytes word END.now ≡ v → Sound tool first index (word ∷ words)) [
+      | true ↦ λ t. end_sound tool first index words more next word ((bytes_eq-Decides word END.now).0 t)
       | false ↦ λ f.
           let differs : word ≢ END.now = λ e. let t = (bytes_eq-Decides word END.now).1 e in cc in
-          elim (is_cluster word) as (λ v. is_cluster word ≡ v → Sound tool base index (word ∷ words)) [
-            | true ↦ λ h. cluster_sound tool base index words word more next differs h
-            | false ↦ λ h. operand_sound tool base index words more next word h
+          elim (is_cluster word) as (λ v. is_cluster word ≡ v → Sound tool first index (word ∷ words)) [
+            | true ↦ λ h. cluster_sound tool first index words word more next differs h
+            | false ↦ λ h. operand_sound tool first index words more next word h
           ] refl
     ] refl
 
-none_sound : (tool : Tool) (base : Bool) (index : ℕ) → Sound tool base index []
-none_sound tool base index = subst (AreWords tool base index []) (sym (none_words tool base index)) (none base index)
+none_sound : (tool : Tool) (first : Bool) (index : ℕ) → Sound tool first index []
+none_sound tool first index = subst (AreWords tool first index []) (sym (none_words tool first index)) (none first index)
 
-sound : (tool : Tool) (base : Bool) (index : ℕ) (words : List (List ℕ)) → Sound tool base index words
-sound tool base index [] = none_sound tool base index
-sound tool base index (word ∷ []) = word_sound tool base index [] word (λ c. none_sound tool c (index + 1)) tt
-sound tool base index (word ∷ text ∷ words) =
-    word_sound tool base index (text ∷ words) word (λ c. sound tool c (index + 1) (text ∷ words)) (sound tool base (index + 1 + 1) words)
+sound : (tool : Tool) (first : Bool) (index : ℕ) (words : List (List ℕ)) → Sound tool first index words
+sound tool first index [] = none_sound tool first index
+sound tool first index (word ∷ []) = word_sound tool first index [] word (λ c. none_sound tool c (index + 1)) tt
+sound tool first index (word ∷ text ∷ words) =
+    word_sound tool first index (text ∷ words) word (λ c. sound tool c (index + 1) (text ∷ words)) (sound tool first (index + 1 + 1) words)
 
-pub words_mean : (tool : Tool) (words : List (List ℕ)) (items : List Item) → (items_of tool words ≡ items) ↔ AreWords tool (names_base tool) 1 words items
+pub words_mean : (tool : Tool) (words : List (List ℕ)) (items : List Item) → (items_of tool words ≡ items) ↔ AreWords tool true 1 words items
 words_mean tool words items =
-    (λ read. subst (AreWords tool (names_base tool) 1 words) read (sound tool (names_base tool) 1 words), complete tool (names_base tool) 1 words items)
+    (λ read. subst (AreWords tool true 1 words) read (sound tool true 1 words), complete tool true 1 words items)

@@ -4,13 +4,13 @@ use Rattle.std.specs.Prelude.{◌⊎◌, ◌==◌, nat_lt, ◌&&◌, ◌||◌}
 use Rattle.std.specs.List.{list_all}
 use Rattle.std.proofs.lemmas.Bool.{eqb-true, ltb-true}
 use Rattle.tool_words.specs.Items.{Item, flag, is_cluster, letters_say, with_letter}
-use Rattle.tool_words.specs.Tools.{flags_of, is_among, later_of, letter_of, valued_of}
+use Rattle.tool_words.specs.Tools.{flags_of, is_among, letter_of, valued_of}
 use Rattle.tool_words.specs.declared.cutting.Expects.TheVariants.{Any}
 use Rattle.tool_words.specs.declared.cutting.TheConstants.{DASH}
 use Rattle.tool_words.specs.declared.tool.Letter.{Letter}
-use Rattle.tool_words.specs.declared.tool.Letter.TheVariants.{Alone, WithValue, Later, Unknown}
+use Rattle.tool_words.specs.declared.tool.Letter.TheVariants.{Alone, WithValue, Unknown}
 use Rattle.tool_words.specs.declared.tool.Tool.{Tool}
-use Rattle.tool_words.specs.declared.tool.Tool.TheVariants.{Setfiles, Restorecon, Matchpathcon}
+use Rattle.tool_words.specs.declared.tool.Tool.TheVariants.{Setfiles, Restorecon, Matchpathcon, Sample}
 
 -- the first letter, which is this to the tool, and what stands behind it
 pub letter_more : (tool : Tool) (index : ℕ) (text rest : List ℕ) (letter : ℕ) (role : Letter) → 0 < length text → get_or text 0 0 ≡ letter → role ≡ letter_of tool letter → rest ≡ drop 1 text → letters_say tool index text ≡ with_letter index letter role rest (letters_say tool index rest)
@@ -56,28 +56,24 @@ flags_ascii : (tool : Tool) → list_all (λ x. nat_lt x 128) (flags_of tool) �
 flags_ascii Setfiles = refl
 flags_ascii Restorecon = refl
 flags_ascii Matchpathcon = refl
+flags_ascii Sample = refl
 
 valued_ascii : (tool : Tool) → list_all (λ x. nat_lt x 128) (valued_of tool) ≡ true
 valued_ascii Setfiles = refl
 valued_ascii Restorecon = refl
 valued_ascii Matchpathcon = refl
+valued_ascii Sample = refl
 
-later_ascii : (tool : Tool) → list_all (λ x. nat_lt x 128) (later_of tool) ≡ true
-later_ascii Setfiles = refl
-later_ascii Restorecon = refl
-later_ascii Matchpathcon = refl
-
-chosen_ascii : (b : ℕ) (flag valued later : Bool) → (flag ≡ true → b < 128) → (valued ≡ true → b < 128) → (later ≡ true → b < 128) → (cond flag Alone (cond valued WithValue (cond later Later Unknown)) ≡ Unknown) ⊎ (b < 128)
-chosen_ascii b true valued later f v l = inr (f refl)
-chosen_ascii b false true later f v l = inr (v refl)
-chosen_ascii b false false true f v l = inr (l refl)
-chosen_ascii b false false false f v l = inl refl
+chosen_ascii : (b : ℕ) (flag valued : Bool) → (flag ≡ true → b < 128) → (valued ≡ true → b < 128) → (cond flag Alone (cond valued WithValue Unknown) ≡ Unknown) ⊎ (b < 128)
+chosen_ascii b true valued f v = inr (f refl)
+chosen_ascii b false true f v = inr (v refl)
+chosen_ascii b false false f v = inl refl
 
 -- what is an option is a byte of ASCII
 option_ascii : (tool : Tool) (b : ℕ) → (letter_of tool b ≡ Unknown) ⊎ (b < 128)
 unfolding letter_of
-option_ascii tool b = chosen_ascii b (is_among (flags_of tool) b) (is_among (valued_of tool) b) (is_among (later_of tool) b)
-    (among_ascii (flags_of tool) b (flags_ascii tool)) (among_ascii (valued_of tool) b (valued_ascii tool)) (among_ascii (later_of tool) b (later_ascii tool))
+option_ascii tool b = chosen_ascii b (is_among (flags_of tool) b) (is_among (valued_of tool) b)
+    (among_ascii (flags_of tool) b (flags_ascii tool)) (among_ascii (valued_of tool) b (valued_ascii tool))
 
 pub alone_ascii : (tool : Tool) (b : ℕ) → letter_of tool b ≡ Alone → b < 128
 alone_ascii tool b h = elim (option_ascii tool b) [ inl e ↦ absurd (cc) | inr l ↦ l ]

@@ -7,10 +7,10 @@ use Rattle.std.proofs.lemmas.Bool.{eqb-false, eqb-true, leb-false, lt-leb}
 use Rattle.label_base.specs.Lines.{first_of}
 use Rattle.label_base.specs.Number.{number_of}
 use Rattle.label_base.specs.Path.{path_read, same_bytes}
-use Rattle.tool_words.specs.Items.{Item, Letters, Taken, any_taken, ahead, is_cluster, items_from, items_of, letters_say, taken, unended, valued_says, with_letter, word_taken, operand_taken, letters_taken}
-use Rattle.tool_words.specs.Refusals.{AreGood, HasLetter, HasWrong, HasWrongEnd, IsBad, IsNoPath, IsThere, IsWrong, IsWrongFor, Lacks, NamesFile, NamesNoTool}
+use Rattle.tool_words.specs.Items.{Item, Letters, Taken, any_taken, ahead, is_cluster, items_from, items_of, letters_say, taken, unended, valued_says, with_letter, word_taken, operand_says, operand_taken, letters_taken}
+use Rattle.tool_words.specs.Refusals.{AreGood, HasLetter, HasWrong, HasWrongEnd, IsBad, IsNoPath, IsPast, IsThere, IsWrong, IsWrongFor, Lacks, NamesFile, NamesNoTool, StandsIn, IsLast}
 use Rattle.tool_words.specs.Tools.{letter_of, tool_named}
-use Rattle.tool_words.specs.Values.{as_workers, at_index, first_wrong, item_wrong, kind_named, name_wrong, path_wrong, plain_value_wrong, says_wrong, unless_some, value_wrong, workers_named}
+use Rattle.tool_words.specs.Values.{at_index, count_named, first_wrong, item_wrong, kind_named, name_wrong, path_wrong, plain_value_wrong, says_wrong, unless_some, up_to, value_wrong, workers_named}
 use Rattle.tool_words.specs.Words.{asked_by, command_for, command_in, command_of, end_wrong, has_operand, lacks_output, or_at_end, unless_wrong, usage}
 use Rattle.tool_words.specs.declared.command.Command.{Command}
 use Rattle.tool_words.specs.declared.cutting.Ahead.{Ahead}
@@ -19,11 +19,12 @@ use Rattle.tool_words.specs.declared.cutting.Expects.TheVariants.{Any, ValueOf, 
 use Rattle.tool_words.specs.declared.cutting.TheConstants.{DASH, END}
 use Rattle.tool_words.specs.declared.item.Says.{Says}
 use Rattle.tool_words.specs.declared.item.Says.TheVariants.{Flag, Given, Operand, Wrong}
-use Rattle.tool_words.specs.declared.letters.TheConstants.{ASKED, EXCLUDED, WORKERS}
+use Rattle.tool_words.specs.declared.letters.TheConstants.{ASKED, COUNT, EXCLUDED, WORKERS}
 use Rattle.tool_words.specs.declared.tool.Letter.{Letter}
-use Rattle.tool_words.specs.declared.tool.Letter.TheVariants.{Alone, WithValue, Later, Unknown}
+use Rattle.tool_words.specs.declared.tool.Letter.TheVariants.{Alone, WithValue, Unknown}
 use Rattle.tool_words.specs.declared.tool.Tool.{Tool}
-use Rattle.tool_words.specs.declared.values.TheConstants.{MOST_WORKERS}
+use Rattle.tool_words.specs.declared.tool.Tool.TheVariants.{Setfiles, Restorecon, Matchpathcon, Sample}
+use Rattle.tool_words.specs.declared.values.TheConstants.{MOST_FILES, MOST_WORKERS}
 use Rattle.tool_words.specs.declared.usage.Usage.{Usage}
 use Rattle.tool_words.specs.declared.usage.UsageWhy.{UsageWhy}
 use Rattle.tool_words.specs.declared.usage.UsageWhy.TheVariants.{BadKind, BadNumber, BadPath, MissingOperand, NoOutput, UnknownTool}
@@ -52,6 +53,23 @@ abbrev Awaits : Tool → List ℕ → Expects → Type 0
 Awaits tool word (ValueOf letter) = HasLetter tool word letter [] × (letter_of tool letter ≡ WithValue)
 Awaits tool word expects = ⊤
 
+-- an operand is the whole word
+operand_in : (tool : Tool) (first : Bool) (word : List ℕ) → StandsIn tool word (operand_says tool first) word
+operand_in Setfiles true word = inl refl
+operand_in Setfiles false word = refl
+operand_in Restorecon first word = refl
+operand_in Matchpathcon first word = refl
+operand_in Sample true word = inl refl
+operand_in Sample false word = (refl, refl)
+
+operand_anywhere : (tool : Tool) (first : Bool) (index count : ℕ) → IsLast (operand_says tool first) index count
+operand_anywhere Setfiles true index count = tt
+operand_anywhere Setfiles false index count = tt
+operand_anywhere Restorecon first index count = tt
+operand_anywhere Matchpathcon first index count = tt
+operand_anywhere Sample true index count = tt
+operand_anywhere Sample false index count = tt
+
 module _ (tool : Tool) (all : List (List ℕ)) (index : ℕ) (word : List ℕ) (found : slice_get all index ≡ Some word) where
   abbrev Stand : Letters → Type 0
   Stand says = AllByRecursion (IsThere tool all) says.0 × Awaits tool word says.1
@@ -66,7 +84,6 @@ module _ (tool : Tool) (all : List (List ℕ)) (index : ℕ) (word : List ℕ) (
   letter_stands : (letter : ℕ) (rest : List ℕ) (more : Letters) (role : Letter) → letter_of tool letter ≡ role → HasLetter tool word letter rest → (role ≡ Alone → Stand more) → Stand (with_letter index letter role rest more)
   letter_stands letter rest more Alone role h on = ((record { word = word; found = found; stands = (rest, h, role); last = tt }, (on refl).0), (on refl).1)
   letter_stands letter rest more WithValue role h on = valued_stands letter rest h role
-  letter_stands letter rest more Later role h on = ((record { word = word; found = found; stands = (letter, rest, h, role); last = tt }, tt), tt)
   letter_stands letter rest more Unknown role h on = ((record { word = word; found = found; stands = (letter, rest, h, role); last = tt }, tt), tt)
 
   letters_stand : (front left : List ℕ) → word ≡ DASH ∷ (front ++ left) → AllByRecursion (λ other. letter_of tool other ≡ Alone) front → Stand (letters_say tool index left)
@@ -82,33 +99,33 @@ module _ (tool : Tool) (all : List (List ℕ)) (index : ℕ) (word : List ℕ) (
   abbrev StandTaken : Taken → Type 0
   StandTaken t = AllByRecursion (IsThere tool all) t.0 × Awaits tool word t.1.expects
 
-  operand_stands : (expects : Expects) (base : Bool) → Awaits tool word expects → StandTaken (operand_taken expects base index word)
-  operand_stands expects true a = ((record { word = word; found = found; stands = inl refl; last = tt }, tt), a)
-  operand_stands expects false a = ((record { word = word; found = found; stands = refl; last = tt }, tt), a)
+  operand_stands : (expects : Expects) (first : Bool) → Awaits tool word expects → StandTaken (operand_taken tool expects first index word)
+  operand_stands expects first a =
+      ((record { word = word; found = found; stands = operand_in tool first word; last = operand_anywhere tool first index (length all) }, tt), a)
 
   cluster_is : (w : List ℕ) → is_cluster w ≡ true → w ≡ DASH ∷ drop 1 w
   cluster_is [] h = absurd (cc)
   cluster_is (b ∷ []) h = absurd (cc)
   cluster_is (b ∷ c ∷ bs) h = ap (λ x. x ∷ c ∷ bs) (eqb-true b DASH h)
 
-  cluster_stands : (base : Bool) → is_cluster word ≡ true → StandTaken (letters_taken base (letters_say tool index (drop 1 word)))
-  cluster_stands base h = letters_stand [] (drop 1 word) (cluster_is word h) tt
+  cluster_stands : (first : Bool) → is_cluster word ≡ true → StandTaken (letters_taken first (letters_say tool index (drop 1 word)))
+  cluster_stands first h = letters_stand [] (drop 1 word) (cluster_is word h) tt
 
-  any_stands : (base : Bool) → StandTaken (any_taken tool base index word)
+  any_stands : (first : Bool) → StandTaken (any_taken tool first index word)
   unfolding any_taken
-  any_stands base =
-      elim (same_bytes word END.now) as (λ v. StandTaken (cond v ([], ahead Operands base) (cond (is_cluster word) (letters_taken base (letters_say tool index (drop 1 word))) (operand_taken Any base index word)))) [
+  any_stands first =
+      elim (same_bytes word END.now) as (λ v. StandTaken (cond v ([], ahead Operands first) (cond (is_cluster word) (letters_taken first (letters_say tool index (drop 1 word))) (operand_taken tool Any first index word)))) [
         | true ↦ (tt, tt)
-        | false ↦ elim (is_cluster word) as (λ v. is_cluster word ≡ v → StandTaken (cond v (letters_taken base (letters_say tool index (drop 1 word))) (operand_taken Any base index word))) [
-          | true ↦ λ h. cluster_stands base h
-          | false ↦ λ _. operand_stands Any base tt
+        | false ↦ elim (is_cluster word) as (λ v. is_cluster word ≡ v → StandTaken (cond v (letters_taken first (letters_say tool index (drop 1 word))) (operand_taken tool Any first index word))) [
+          | true ↦ λ h. cluster_stands first h
+          | false ↦ λ _. operand_stands Any first tt
         ] refl
       ]
 
-  word_stands : (expects : Expects) (base : Bool) → StandTaken (word_taken tool expects base index word)
-  word_stands Any base = any_stands base
-  word_stands (ValueOf letter) base = ((record { word = word; found = found; stands = inl refl; last = tt }, tt), tt)
-  word_stands Operands base = operand_stands Operands base tt
+  word_stands : (expects : Expects) (first : Bool) → StandTaken (word_taken tool expects first index word)
+  word_stands Any first = any_stands first
+  word_stands (ValueOf letter) first = ((record { word = word; found = found; stands = inl refl; last = tt }, tt), tt)
+  word_stands Operands first = operand_stands Operands first tt
 
 -- ---- all words
 
@@ -133,7 +150,7 @@ items_stand tool a all before last (word ∷ words) index e i h =
     let longer : all ≡ (before ++ last ∷ []) ++ word ∷ words = e ∙ sym (append_assoc before (last ∷ []) (word ∷ words)) in
     let here : index ≡ length (before ++ last ∷ []) = i ∙ sym (length_before before last) in
     let found : slice_get all index ≡ Some word = ap (λ ws. slice_get ws index) longer ∙ ap (slice_get ((before ++ last ∷ []) ++ word ∷ words)) here ∙ at_end (before ++ last ∷ []) word words in
-    let t = word_stands tool all index word found a.expects a.base in
+    let t = word_stands tool all index word found a.expects a.first in
     all_join (IsThere tool all) (taken tool a index word).0 (items_from tool (taken tool a index word).1 (index + 1) words) t.0
     (items_stand tool (taken tool a index word).1 all (before ++ last ∷ []) word words (index + 1) longer (ap (λ n. n + 1) here) t.1)
 
@@ -152,17 +169,17 @@ no_path text why h =
       | Err fault ↦ λ e k. (some_same BadPath why k, λ path is. let both : Err fault ≡ Ok path = sym e ∙ is in cc)
     ] refl h
 
-past_most : (n : ℕ) → nat_le n MOST_WORKERS ≡ false → MOST_WORKERS < n
-past_most n f = leb-false n MOST_WORKERS f
+past_most : (most n : ℕ) → nat_le n most ≡ false → most < n
+past_most most n f = leb-false n most f
 
-number_bad : (text : List ℕ) (why : UsageWhy) → unless_some BadNumber (workers_named text) ≡ Some why → (BadNumber ≡ why) × ((n : ℕ) → number_of text ≡ Some n → MOST_WORKERS < n)
-number_bad text why h =
-    elim (number_of text) as (λ r. number_of text ≡ r → unless_some BadNumber (as_workers r) ≡ Some why → (BadNumber ≡ why) × ((n : ℕ) → number_of text ≡ Some n → MOST_WORKERS < n)) [
+number_bad : (most : ℕ) (text : List ℕ) (why : UsageWhy) → unless_some BadNumber (up_to most (number_of text)) ≡ Some why → (BadNumber ≡ why) × IsPast most text
+number_bad most text why h =
+    elim (number_of text) as (λ r. number_of text ≡ r → unless_some BadNumber (up_to most r) ≡ Some why → (BadNumber ≡ why) × IsPast most text) [
       | None ↦ λ e k. (some_same BadNumber why k, λ n is. let both : None ≡ Some n = sym e ∙ is in absurd (cc))
       | Some m ↦ λ e k.
-          elim (nat_le m MOST_WORKERS) as (λ v. nat_le m MOST_WORKERS ≡ v → unless_some BadNumber (cond v (Some m) None) ≡ Some why → (BadNumber ≡ why) × ((n : ℕ) → number_of text ≡ Some n → MOST_WORKERS < n)) [
+          elim (nat_le m most) as (λ v. nat_le m most ≡ v → unless_some BadNumber (cond v (Some m) None) ≡ Some why → (BadNumber ≡ why) × IsPast most text) [
             | true ↦ λ t l. absurd (cc)
-            | false ↦ λ f l. (some_same BadNumber why l, λ n is. subst (λ o. MOST_WORKERS < o) (some_same m n (sym e ∙ is)) (past_most m f))
+            | false ↦ λ f l. (some_same BadNumber why l, λ n is. subst (λ o. most < o) (some_same m n (sym e ∙ is)) (past_most most m f))
           ] refl k
     ] refl h
 
@@ -177,15 +194,22 @@ name_bad : (text : List ℕ) (why : UsageWhy) → name_wrong text ≡ Some why �
 name_bad [] why h = (some_same BadPath why h, refl)
 name_bad (b ∷ bs) why h = absurd (cc)
 
+count_bad : (letter : ℕ) (text : List ℕ) (why : UsageWhy) → letter ≢ WORKERS → letter ≢ ASKED → letter ≢ EXCLUDED → cond (letter == COUNT) (unless_some BadNumber (count_named text)) (name_wrong text) ≡ Some why → IsBad (Given letter) text why
+count_bad letter text why w a x h =
+    elim (letter == COUNT) as (λ v. (letter == COUNT) ≡ v → cond v (unless_some BadNumber (count_named text)) (name_wrong text) ≡ Some why → IsBad (Given letter) text why) [
+      | true ↦ λ t l. let bad = number_bad MOST_FILES text why l in subst (λ w. IsBad (Given letter) text w) bad.0 (inr (eqb-true letter COUNT t, bad.1))
+      | false ↦ λ f l. let bad = name_bad text why l in subst (λ w. IsBad (Given letter) text w) bad.0 (inr ((w, a, x, eqb-false letter COUNT f), bad.1))
+    ] refl h
+
 plain_bad : (letter : ℕ) (text : List ℕ) (why : UsageWhy) → letter ≢ EXCLUDED → plain_value_wrong letter text ≡ Some why → IsBad (Given letter) text why
 unfolding plain_value_wrong
 plain_bad letter text why other h =
-    elim (letter == WORKERS) as (λ v. (letter == WORKERS) ≡ v → cond v (unless_some BadNumber (workers_named text)) (cond (letter == ASKED) (unless_some BadKind (kind_named text)) (name_wrong text)) ≡ Some why → IsBad (Given letter) text why) [
-      | true ↦ λ t k. let bad = number_bad text why k in subst (λ w. IsBad (Given letter) text w) bad.0 (eqb-true letter WORKERS t, bad.1)
+    elim (letter == WORKERS) as (λ v. (letter == WORKERS) ≡ v → cond v (unless_some BadNumber (workers_named text)) (cond (letter == ASKED) (unless_some BadKind (kind_named text)) (cond (letter == COUNT) (unless_some BadNumber (count_named text)) (name_wrong text))) ≡ Some why → IsBad (Given letter) text why) [
+      | true ↦ λ t k. let bad = number_bad MOST_WORKERS text why k in subst (λ w. IsBad (Given letter) text w) bad.0 (inl (eqb-true letter WORKERS t, bad.1))
       | false ↦ λ g k.
-          elim (letter == ASKED) as (λ v. (letter == ASKED) ≡ v → cond v (unless_some BadKind (kind_named text)) (name_wrong text) ≡ Some why → IsBad (Given letter) text why) [
+          elim (letter == ASKED) as (λ v. (letter == ASKED) ≡ v → cond v (unless_some BadKind (kind_named text)) (cond (letter == COUNT) (unless_some BadNumber (count_named text)) (name_wrong text)) ≡ Some why → IsBad (Given letter) text why) [
             | true ↦ λ t l. let bad = kind_bad text why l in subst (λ w. IsBad (Given letter) text w) bad.0 (eqb-true letter ASKED t, bad.1)
-            | false ↦ λ f l. let bad = name_bad text why l in subst (λ w. IsBad (Given letter) text w) bad.0 (inr ((eqb-false letter WORKERS g, eqb-false letter ASKED f, other), bad.1))
+            | false ↦ λ f l. count_bad letter text why (eqb-false letter WORKERS g) (eqb-false letter ASKED f) other l
           ] refl k
     ] refl h
 
@@ -241,7 +265,7 @@ all_good (item ∷ items) h =
 end_lacks : (tool : Tool) (items : List Item) (count : ℕ) (wrong : Usage) → end_wrong tool items count ≡ Some wrong → (wrong.index ≡ count) × Lacks tool items wrong.why
 unfolding end_wrong
 end_lacks tool items count wrong h =
-    elim (has_operand items) as (λ v. has_operand items ≡ v → cond (not v) (Some (usage count MissingOperand)) (cond (lacks_output tool items) (Some (usage count NoOutput)) None) ≡ Some wrong → (wrong.index ≡ count) × Lacks tool items wrong.why) [
+    elim (has_operand tool items) as (λ v. has_operand tool items ≡ v → cond (not v) (Some (usage count MissingOperand)) (cond (lacks_output tool items) (Some (usage count NoOutput)) None) ≡ Some wrong → (wrong.index ≡ count) × Lacks tool items wrong.why) [
       | false ↦ λ f k. subst (λ (u : Usage). (u.index ≡ count) × Lacks tool items u.why) (some_same _ wrong k) (refl, f)
       | true ↦ λ t k.
           elim (lacks_output tool items) as (λ v. lacks_output tool items ≡ v → cond v (Some (usage count NoOutput)) None ≡ Some wrong → (wrong.index ≡ count) × Lacks tool items wrong.why) [
@@ -313,39 +337,41 @@ path_is text bad =
       | Err fault ↦ λ _. refl
     ] refl
 
-number_is : (text : List ℕ) → ((n : ℕ) → number_of text ≡ Some n → MOST_WORKERS < n) → unless_some BadNumber (workers_named text) ≡ Some BadNumber
-number_is text past =
-    elim (number_of text) as (λ r. number_of text ≡ r → unless_some BadNumber (as_workers r) ≡ Some BadNumber) [
+number_is : (most : ℕ) (text : List ℕ) → IsPast most text → unless_some BadNumber (up_to most (number_of text)) ≡ Some BadNumber
+number_is most text past =
+    elim (number_of text) as (λ r. number_of text ≡ r → unless_some BadNumber (up_to most r) ≡ Some BadNumber) [
       | None ↦ λ _. refl
-      | Some m ↦ λ e. ap (λ v. unless_some BadNumber (cond v (Some m) None)) (lt-leb m MOST_WORKERS (past m e))
+      | Some m ↦ λ e. ap (λ v. unless_some BadNumber (cond v (Some m) None)) (lt-leb m most (past m e))
     ] refl
 
 name_is : (text : List ℕ) → text ≡ [] → name_wrong text ≡ Some BadPath
 name_is text e = ap name_wrong e
 
-plain_is : (letter : ℕ) (text : List ℕ) → letter ≢ WORKERS → letter ≢ ASKED → text ≡ [] → plain_value_wrong letter text ≡ Some BadPath
+plain_is : (letter : ℕ) (text : List ℕ) → letter ≢ WORKERS → letter ≢ ASKED → letter ≢ COUNT → text ≡ [] → plain_value_wrong letter text ≡ Some BadPath
 unfolding plain_value_wrong
-plain_is letter text w a e =
-    ap (λ v. cond v (unless_some BadNumber (workers_named text)) (cond (letter == ASKED) (unless_some BadKind (kind_named text)) (name_wrong text))) (differ letter WORKERS w)
-    ∙ ap (λ v. cond v (unless_some BadKind (kind_named text)) (name_wrong text)) (differ letter ASKED a)
+plain_is letter text w a c e =
+    ap (λ v. cond v (unless_some BadNumber (workers_named text)) (cond (letter == ASKED) (unless_some BadKind (kind_named text)) (cond (letter == COUNT) (unless_some BadNumber (count_named text)) (name_wrong text)))) (differ letter WORKERS w)
+    ∙ ap (λ v. cond v (unless_some BadKind (kind_named text)) (cond (letter == COUNT) (unless_some BadNumber (count_named text)) (name_wrong text))) (differ letter ASKED a)
+    ∙ ap (λ v. cond v (unless_some BadNumber (count_named text)) (name_wrong text)) (differ letter COUNT c)
     ∙ name_is text e
 
 path_value_is : (letter : ℕ) (text : List ℕ) → ((letter ≡ EXCLUDED) × IsNoPath text) ⊎ (NamesFile letter × (text ≡ [])) → value_wrong letter text ≡ Some BadPath
 path_value_is letter text (inl bad) = ap (λ l. value_wrong l text) bad.0 ∙ path_is text bad.1
 path_value_is letter text (inr bad) =
     ap (λ v. cond v (path_wrong (path_read text)) (plain_value_wrong letter text)) (differ letter EXCLUDED bad.0.2)
-    ∙ plain_is letter text bad.0.0 bad.0.1 bad.1
+    ∙ plain_is letter text bad.0.0 bad.0.1 bad.0.3 bad.1
 
-number_value_is : (letter : ℕ) (text : List ℕ) → letter ≡ WORKERS → ((n : ℕ) → number_of text ≡ Some n → MOST_WORKERS < n) → value_wrong letter text ≡ Some BadNumber
+number_value_is : (letter : ℕ) (text : List ℕ) → ((letter ≡ WORKERS) × IsPast MOST_WORKERS text) ⊎ ((letter ≡ COUNT) × IsPast MOST_FILES text) → value_wrong letter text ≡ Some BadNumber
 unfolding plain_value_wrong
-number_value_is letter text e past = ap (λ l. value_wrong l text) e ∙ number_is text past
+number_value_is letter text (inl bad) = ap (λ l. value_wrong l text) bad.0 ∙ number_is MOST_WORKERS text bad.1
+number_value_is letter text (inr bad) = ap (λ l. value_wrong l text) bad.0 ∙ number_is MOST_FILES text bad.1
 
 kind_value_is : (letter : ℕ) (text : List ℕ) → letter ≡ ASKED → kind_named text ≡ None → value_wrong letter text ≡ Some BadKind
 unfolding plain_value_wrong
 kind_value_is letter text e none = ap (λ l. value_wrong l text) e ∙ ap (unless_some BadKind) none
 
 value_is : (letter : ℕ) (text : List ℕ) (why : UsageWhy) → IsBad (Given letter) text why → value_wrong letter text ≡ Some why
-value_is letter text BadNumber bad = number_value_is letter text bad.0 bad.1
+value_is letter text BadNumber bad = number_value_is letter text bad
 value_is letter text BadKind bad = kind_value_is letter text bad.0 bad.1
 value_is letter text BadPath bad = path_value_is letter text bad
 value_is letter text why bad = absurd bad

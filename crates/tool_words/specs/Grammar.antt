@@ -6,9 +6,9 @@ use Rattle.tool_words.specs.Items.{Item, flag, is_cluster, item, operand_says, w
 use Rattle.tool_words.specs.Tools.{letter_of}
 use Rattle.tool_words.specs.declared.cutting.TheConstants.{DASH, END}
 use Rattle.tool_words.specs.declared.item.Says.TheVariants.{Given}
-use Rattle.tool_words.specs.declared.tool.Letter.TheVariants.{Alone, WithValue, Later, Unknown}
+use Rattle.tool_words.specs.declared.tool.Letter.TheVariants.{Alone, WithValue, Unknown}
 use Rattle.tool_words.specs.declared.tool.Tool.{Tool}
-use Rattle.tool_words.specs.declared.usage.UsageWhy.TheVariants.{MissingValue, NotYet, UnknownOption}
+use Rattle.tool_words.specs.declared.usage.UsageWhy.TheVariants.{MissingValue, UnknownOption}
 
 -- letters that stand alone, and what they say
 abbrev pub AreAlone : Tool → List ℕ → Type 0
@@ -29,47 +29,43 @@ pub data AreLetters (tool : Tool) (index : ℕ) : List ℕ → List Item → Typ
       → 0 < length text
       → AreLetters tool index (front ++ letter ∷ text)
       (flags index front ++ item (Given letter) index text ∷ [])
-  later : (front : List ℕ) (letter : ℕ) (rest : List ℕ)
-      → AreAlone tool front
-      → letter_of tool letter ≡ Later
-      → AreLetters tool index (front ++ letter ∷ rest)
-      (flags index front ++ wrong NotYet index ∷ [])
   unknown : (front : List ℕ) (letter : ℕ) (rest : List ℕ)
       → AreAlone tool front
       → letter_of tool letter ≡ Unknown
       → AreLetters tool index (front ++ letter ∷ rest)
       (flags index front ++ wrong UnknownOption index ∷ [])
 
--- operands, the first of which may name the file of specifications
-abbrev pub operands_at : Bool → ℕ → List (List ℕ) → List Item
-operands_at base index [] = []
-operands_at base index (word ∷ words) =
-    item (operand_says base) index word ∷ operands_at false (index + 1) words
+-- operands, the first of which may be the first of all
+abbrev pub operands_at : Tool → Bool → ℕ → List (List ℕ) → List Item
+operands_at tool first index [] = []
+operands_at tool first index (word ∷ words) =
+    item (operand_says tool first) index word ∷ operands_at tool false (index + 1) words
 
--- these words, the first of which has this index, say this
+-- these words, the first of which has this index, say this, where no operand stands before them or
+-- where one does
 pub data AreWords (tool : Tool) : Bool → ℕ → List (List ℕ) → List Item → Type 0 where
-  none : (base : Bool) (index : ℕ) → AreWords tool base index [] []
-  options : (base : Bool) (index letter : ℕ) (letters : List ℕ)
+  none : (first : Bool) (index : ℕ) → AreWords tool first index [] []
+  options : (first : Bool) (index letter : ℕ) (letters : List ℕ)
       → (words : List (List ℕ)) (items more : List Item)
       → DASH ∷ letter ∷ letters ≢ END.now
       → AreLetters tool index (letter ∷ letters) items
-      → AreWords tool base (index + 1) words more
-      → AreWords tool base index ((DASH ∷ letter ∷ letters) ∷ words) (items ++ more)
-  value : (base : Bool) (index : ℕ) (front : List ℕ) (letter : ℕ) (text : List ℕ)
+      → AreWords tool first (index + 1) words more
+      → AreWords tool first index ((DASH ∷ letter ∷ letters) ∷ words) (items ++ more)
+  value : (first : Bool) (index : ℕ) (front : List ℕ) (letter : ℕ) (text : List ℕ)
       → (words : List (List ℕ)) (more : List Item)
       → AreAlone tool front
       → letter_of tool letter ≡ WithValue
-      → AreWords tool base (index + 1 + 1) words more
-      → AreWords tool base index ((DASH ∷ (front ++ letter ∷ [])) ∷ text ∷ words)
+      → AreWords tool first (index + 1 + 1) words more
+      → AreWords tool first index ((DASH ∷ (front ++ letter ∷ [])) ∷ text ∷ words)
       (flags index front ++ item (Given letter) (index + 1) text ∷ more)
-  missing : (base : Bool) (index : ℕ) (front : List ℕ) (letter : ℕ)
+  missing : (first : Bool) (index : ℕ) (front : List ℕ) (letter : ℕ)
       → AreAlone tool front
       → letter_of tool letter ≡ WithValue
-      → AreWords tool base index ((DASH ∷ (front ++ letter ∷ [])) ∷ [])
+      → AreWords tool first index ((DASH ∷ (front ++ letter ∷ [])) ∷ [])
       (flags index front ++ wrong MissingValue index ∷ [])
-  operand : (base : Bool) (index : ℕ) (word : List ℕ) (words : List (List ℕ)) (more : List Item)
+  operand : (first : Bool) (index : ℕ) (word : List ℕ) (words : List (List ℕ)) (more : List Item)
       → is_cluster word ≡ false
       → AreWords tool false (index + 1) words more
-      → AreWords tool base index (word ∷ words) (item (operand_says base) index word ∷ more)
-  end : (base : Bool) (index : ℕ) (words : List (List ℕ))
-      → AreWords tool base index (END.now ∷ words) (operands_at base (index + 1) words)
+      → AreWords tool first index (word ∷ words) (item (operand_says tool first) index word ∷ more)
+  end : (first : Bool) (index : ℕ) (words : List (List ℕ))
+      → AreWords tool first index (END.now ∷ words) (operands_at tool first (index + 1) words)

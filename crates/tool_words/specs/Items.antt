@@ -9,13 +9,13 @@ use Rattle.tool_words.specs.declared.cutting.Expects.TheVariants.{Any, ValueOf, 
 use Rattle.tool_words.specs.declared.cutting.TheConstants.{DASH, END}
 use Rattle.tool_words.specs.declared.item.Says.{Says}
 use Rattle.tool_words.specs.declared.item.Says.TheVariants.{Flag, Given, Operand, Wrong}
-use Rattle.tool_words.specs.declared.letters.TheConstants.{BASE}
+use Rattle.tool_words.specs.declared.letters.TheConstants.{BASE, COUNT}
 use Rattle.tool_words.specs.declared.tool.Letter.{Letter}
-use Rattle.tool_words.specs.declared.tool.Letter.TheVariants.{Alone, WithValue, Later, Unknown}
+use Rattle.tool_words.specs.declared.tool.Letter.TheVariants.{Alone, WithValue, Unknown}
 use Rattle.tool_words.specs.declared.tool.Tool.{Tool}
-use Rattle.tool_words.specs.declared.tool.Tool.TheVariants.{Setfiles}
+use Rattle.tool_words.specs.declared.tool.Tool.TheVariants.{Setfiles, Sample}
 use Rattle.tool_words.specs.declared.usage.UsageWhy.{UsageWhy}
-use Rattle.tool_words.specs.declared.usage.UsageWhy.TheVariants.{MissingValue, NotYet, UnknownOption}
+use Rattle.tool_words.specs.declared.usage.UsageWhy.TheVariants.{BadNumber, MissingValue, UnknownOption}
 
 pub record Item : Type 0 where
   pub says : Says
@@ -44,7 +44,6 @@ valued_says index letter (b ∷ bs) = (item (Given letter) index (b ∷ bs) ∷ 
 abbrev pub with_letter : ℕ → ℕ → Letter → List ℕ → Letters → Letters
 with_letter index letter Alone rest more = (flag letter index ∷ more.0, more.1)
 with_letter index letter WithValue rest more = valued_says index letter rest
-with_letter index letter Later rest more = (wrong NotYet index ∷ [], Any)
 with_letter index letter Unknown rest more = (wrong UnknownOption index ∷ [], Any)
 
 -- what the letters of a word say
@@ -59,44 +58,42 @@ is_cluster [] = false
 is_cluster (b ∷ []) = false
 is_cluster (b ∷ c ∷ bs) = b == DASH
 
--- the first operand of setfiles names the file of specifications
-abbrev pub names_base : Tool → Bool
-names_base Setfiles = true
-names_base tool = false
-
 abbrev pub ahead : Expects → Bool → Ahead
-ahead expects base = record { expects = expects; base = base }
+ahead expects first = record { expects = expects; first = first }
 
 -- what a word says, and what is ahead of the next one
 abbrev pub Taken : Type 0
 Taken = List Item × Ahead
 
-abbrev pub operand_says : Bool → Says
-operand_says true = Given BASE
-operand_says false = Operand
+-- what an operand says, the first one or a later: the first of setfiles names the file of
+-- specifications, and sample has one alone, a number
+abbrev pub operand_says : Tool → Bool → Says
+operand_says Setfiles first = if first then Given BASE else Operand
+operand_says Sample first = if first then Given COUNT else Wrong BadNumber
+operand_says tool first = Operand
 
-abbrev pub operand_taken : Expects → Bool → ℕ → List ℕ → Taken
-operand_taken expects base index word =
-    (item (operand_says base) index word ∷ [], ahead expects false)
+abbrev pub operand_taken : Tool → Expects → Bool → ℕ → List ℕ → Taken
+operand_taken tool expects first index word =
+    (item (operand_says tool first) index word ∷ [], ahead expects false)
 
 abbrev pub letters_taken : Bool → Letters → Taken
-letters_taken base letters = (letters.0, ahead letters.1 base)
+letters_taken first letters = (letters.0, ahead letters.1 first)
 
 -- a word that may be one of options: the word -- ends them
 unfoldable pub any_taken : Tool → Bool → ℕ → List ℕ → Taken
-any_taken tool base index word =
-    if same_bytes word END.now then ([], ahead Operands base)
-    else if is_cluster word then letters_taken base (letters_say tool index (drop 1 word))
-    else operand_taken Any base index word
+any_taken tool first index word =
+    if same_bytes word END.now then ([], ahead Operands first)
+    else if is_cluster word then letters_taken first (letters_say tool index (drop 1 word))
+    else operand_taken tool Any first index word
 
 abbrev pub word_taken : Tool → Expects → Bool → ℕ → List ℕ → Taken
-word_taken tool (ValueOf letter) base index word =
-    (item (Given letter) index word ∷ [], ahead Any base)
-word_taken tool Operands base index word = operand_taken Operands base index word
-word_taken tool Any base index word = any_taken tool base index word
+word_taken tool (ValueOf letter) first index word =
+    (item (Given letter) index word ∷ [], ahead Any first)
+word_taken tool Operands first index word = operand_taken tool Operands first index word
+word_taken tool Any first index word = any_taken tool first index word
 
 abbrev pub taken : Tool → Ahead → ℕ → List ℕ → Taken
-taken tool a index word = word_taken tool a.expects a.base index word
+taken tool a index word = word_taken tool a.expects a.first index word
 
 -- a letter at the words' end that still expects its value: its word, the last one, is wrong
 abbrev pub unended : Expects → ℕ → List Item
@@ -111,4 +108,4 @@ items_from tool a index (word ∷ words) =
 
 -- what the words behind the tool's name say
 abbrev pub items_of : Tool → List (List ℕ) → List Item
-items_of tool words = items_from tool (ahead Any (names_base tool)) 1 words
+items_of tool words = items_from tool (ahead Any true) 1 words

@@ -10,13 +10,14 @@ use Rattle.tool_words.specs.Words.{has_operand, lacks_output}
 use Rattle.tool_words.specs.declared.cutting.TheConstants.{DASH}
 use Rattle.tool_words.specs.declared.item.Says.{Says}
 use Rattle.tool_words.specs.declared.item.Says.TheVariants.{Flag, Given, Operand, Wrong}
-use Rattle.tool_words.specs.declared.letters.TheConstants.{ASKED, EXCLUDED, WORKERS}
-use Rattle.tool_words.specs.declared.tool.Letter.TheVariants.{Alone, WithValue, Later, Unknown}
+use Rattle.tool_words.specs.declared.letters.TheConstants.{ASKED, COUNT, EXCLUDED, WORKERS}
+use Rattle.tool_words.specs.declared.tool.Letter.TheVariants.{Alone, WithValue, Unknown}
 use Rattle.tool_words.specs.declared.tool.Tool.{Tool}
+use Rattle.tool_words.specs.declared.tool.Tool.TheVariants.{Sample}
 use Rattle.tool_words.specs.declared.usage.Usage.{Usage}
 use Rattle.tool_words.specs.declared.usage.UsageWhy.{UsageWhy}
-use Rattle.tool_words.specs.declared.usage.UsageWhy.TheVariants.{BadKind, BadNumber, BadPath, MissingOperand, MissingValue, NoOutput, NotYet, UnknownOption, UnknownTool}
-use Rattle.tool_words.specs.declared.values.TheConstants.{MOST_WORKERS}
+use Rattle.tool_words.specs.declared.usage.UsageWhy.TheVariants.{BadKind, BadNumber, BadPath, MissingOperand, MissingValue, NoOutput, UnknownOption, UnknownTool}
+use Rattle.tool_words.specs.declared.values.TheConstants.{MOST_FILES, MOST_WORKERS}
 
 -- ---- where it stands
 
@@ -26,7 +27,8 @@ pub record HasLetter (tool : Tool) (word : List ℕ) (letter : ℕ) (rest : List
   pub is : word ≡ DASH ∷ (front ++ letter ∷ rest)
   pub alone : AllByRecursion (λ other. letter_of tool other ≡ Alone) front
 
--- a word says this with this text: a value stands behind its letter, or is the whole word
+-- a word says this with this text: a value stands behind its letter, or is the whole word; an
+-- operand that is wrong whatever it is, one of sample behind its first, is the whole word too
 abbrev pub StandsIn : Tool → List ℕ → Says → List ℕ → Type 0
 StandsIn tool word (Flag letter) text =
     (rest : List ℕ) × HasLetter tool word letter rest × (letter_of tool letter ≡ Alone)
@@ -36,11 +38,9 @@ StandsIn tool word Operand text = word ≡ text
 StandsIn tool word (Wrong UnknownOption) text =
     (letter : ℕ) × (rest : List ℕ) × HasLetter tool word letter rest
     × (letter_of tool letter ≡ Unknown)
-StandsIn tool word (Wrong NotYet) text =
-    (letter : ℕ) × (rest : List ℕ) × HasLetter tool word letter rest
-    × (letter_of tool letter ≡ Later)
 StandsIn tool word (Wrong MissingValue) text =
     (letter : ℕ) × HasLetter tool word letter [] × (letter_of tool letter ≡ WithValue)
+StandsIn tool word (Wrong BadNumber) text = (tool ≡ Sample) × (word ≡ text)
 StandsIn tool word (Wrong why) text = ⊥
 
 -- a value is missing only behind the last word
@@ -63,12 +63,17 @@ IsNoPath text = (path : Path) → path_read text ≢ Ok path
 
 -- the value of the letter names a file
 abbrev pub NamesFile : ℕ → Type 0
-NamesFile letter = (letter ≢ WORKERS) × (letter ≢ ASKED) × (letter ≢ EXCLUDED)
+NamesFile letter =
+    (letter ≢ WORKERS) × (letter ≢ ASKED) × (letter ≢ EXCLUDED) × (letter ≢ COUNT)
+
+-- no number up to this one
+abbrev pub IsPast : ℕ → List ℕ → Type 0
+IsPast most text = (n : ℕ) → number_of text ≡ Some n → most < n
 
 -- this is wrong with it
 abbrev pub IsBad : Says → List ℕ → UsageWhy → Type 0
 IsBad (Given letter) text BadNumber =
-    (letter ≡ WORKERS) × ((n : ℕ) → number_of text ≡ Some n → MOST_WORKERS < n)
+    ((letter ≡ WORKERS) × IsPast MOST_WORKERS text) ⊎ ((letter ≡ COUNT) × IsPast MOST_FILES text)
 IsBad (Given letter) text BadKind = (letter ≡ ASKED) × (kind_named text ≡ None)
 IsBad (Given letter) text BadPath =
     ((letter ≡ EXCLUDED) × IsNoPath text) ⊎ (NamesFile letter × (text ≡ []))
@@ -92,8 +97,8 @@ pub record HasWrong (tool : Tool) (words : List (List ℕ)) (items : List Item) 
 
 -- what the words lack
 abbrev pub Lacks : Tool → List Item → UsageWhy → Type 0
-Lacks tool items MissingOperand = has_operand items ≡ false
-Lacks tool items NoOutput = (has_operand items ≡ true) × (lacks_output tool items ≡ true)
+Lacks tool items MissingOperand = has_operand tool items ≡ false
+Lacks tool items NoOutput = (has_operand tool items ≡ true) × (lacks_output tool items ≡ true)
 Lacks tool items why = ⊥
 
 -- nothing that the words say is wrong, and something is missing at their end

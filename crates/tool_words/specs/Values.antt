@@ -12,19 +12,24 @@ use Rattle.label_base.specs.declared.path_fault.PathWhy.{PathWhy}
 use Rattle.tool_words.specs.Items.{Item}
 use Rattle.tool_words.specs.declared.item.Says.{Says}
 use Rattle.tool_words.specs.declared.item.Says.TheVariants.{Flag, Given, Operand, Wrong}
-use Rattle.tool_words.specs.declared.letters.TheConstants.{ASKED, EXCLUDED, WORKERS}
+use Rattle.tool_words.specs.declared.letters.TheConstants.{ASKED, COUNT, EXCLUDED, WORKERS}
 use Rattle.tool_words.specs.declared.usage.Usage.{Usage}
 use Rattle.tool_words.specs.declared.usage.UsageWhy.{UsageWhy}
 use Rattle.tool_words.specs.declared.usage.UsageWhy.TheVariants.{BadKind, BadNumber, BadPath}
-use Rattle.tool_words.specs.declared.values.TheConstants.{MOST_WORKERS, REGULAR_NAME, DIRECTORY_NAME, LINK_NAME, PIPE_NAME, SOCKET_NAME, BLOCK_NAME, CHAR_NAME}
+use Rattle.tool_words.specs.declared.values.TheConstants.{MOST_FILES, MOST_WORKERS, REGULAR_NAME, DIRECTORY_NAME, LINK_NAME, PIPE_NAME, SOCKET_NAME, BLOCK_NAME, CHAR_NAME}
+
+-- a number that isn't past a limit
+abbrev pub up_to : ℕ → Option ℕ → Option ℕ
+up_to most None = None
+up_to most (Some n) = if nat_le n most then Some n else None
 
 -- a number of workers
-abbrev pub as_workers : Option ℕ → Option ℕ
-as_workers None = None
-as_workers (Some n) = if nat_le n MOST_WORKERS then Some n else None
-
 abbrev pub workers_named : List ℕ → Option ℕ
-workers_named text = as_workers (number_of text)
+workers_named text = up_to MOST_WORKERS (number_of text)
+
+-- the number of files of a sample
+abbrev pub count_named : List ℕ → Option ℕ
+count_named text = up_to MOST_FILES (number_of text)
 
 -- the kind of entries that matchpathcon(8) names so
 abbrev pub kind_named : List ℕ → Option EntryKind
@@ -55,11 +60,12 @@ abbrev pub name_wrong : List ℕ → Option UsageWhy
 name_wrong [] = Some BadPath
 name_wrong (b ∷ bs) = None
 
--- the value of a letter other than -e: all others than two name files
+-- the value of a letter other than -e: all others than three name files
 unfoldable pub plain_value_wrong : ℕ → List ℕ → Option UsageWhy
 plain_value_wrong letter text =
     if letter == WORKERS then unless_some BadNumber (workers_named text)
     else if letter == ASKED then unless_some BadKind (kind_named text)
+    else if letter == COUNT then unless_some BadNumber (count_named text)
     else name_wrong text
 
 abbrev pub value_wrong : ℕ → List ℕ → Option UsageWhy

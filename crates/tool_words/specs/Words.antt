@@ -11,18 +11,18 @@ use Rattle.tree_model.specs.declared.selection.Choice.{Choice}
 use Rattle.relabel_core.specs.declared.options.Options.{Options}
 use Rattle.tool_words.specs.Items.{Item, items_of}
 use Rattle.tool_words.specs.Tools.{base_letter, tool_named}
-use Rattle.tool_words.specs.Values.{first_wrong, kind_named, workers_named}
+use Rattle.tool_words.specs.Values.{count_named, first_wrong, kind_named, workers_named}
 use Rattle.tool_words.specs.declared.command.Command.{Command}
-use Rattle.tool_words.specs.declared.command.Command.TheVariants.{Relabel, Lookup}
+use Rattle.tool_words.specs.declared.command.Command.TheVariants.{Relabel, Lookup, Sample as OfSample}
 use Rattle.tool_words.specs.declared.command.LookupWords.{LookupWords}
 use Rattle.tool_words.specs.declared.command.RelabelWords.{RelabelWords}
 use Rattle.tool_words.specs.declared.faults.Paths.{Paths}
 use Rattle.tool_words.specs.declared.item.Says.{Says}
 use Rattle.tool_words.specs.declared.item.Says.TheVariants.{Flag, Given, Operand}
-use Rattle.tool_words.specs.declared.letters.TheConstants.{ASKED, BARE, DRY, EXCLUDED, FORCE, IGNORE_ABSENT, KEPT, ONE_DEVICE, OUTPUT, RECURSE, RECURSE_TOO, SOFT_ERRORS, STRICT_LINKS, VERBOSE, VERIFY, WARN_UNMATCHED, WORKERS}
+use Rattle.tool_words.specs.declared.letters.TheConstants.{ASKED, BARE, COUNT, DIGESTS, DRY, EXCLUDED, FORCE, IGNORE_ABSENT, IGNORE_DIGESTS, KEPT, ONE_DEVICE, OUTPUT, RECURSE, RECURSE_TOO, SOFT_ERRORS, STRICT_LINKS, VERBOSE, VERIFY, WARN_UNMATCHED, WORKERS}
 use Rattle.tool_words.specs.declared.asked.TheConstants.{DEFAULT_BASE, DEFAULT_WORKERS}
 use Rattle.tool_words.specs.declared.tool.Tool.{Tool}
-use Rattle.tool_words.specs.declared.tool.Tool.TheVariants.{Setfiles, Matchpathcon}
+use Rattle.tool_words.specs.declared.tool.Tool.TheVariants.{Setfiles, Matchpathcon, Sample}
 use Rattle.tool_words.specs.declared.usage.Usage.{Usage}
 use Rattle.tool_words.specs.declared.usage.UsageWhy.{UsageWhy}
 use Rattle.tool_words.specs.declared.usage.UsageWhy.TheVariants.{MissingOperand, NoOutput, UnknownTool}
@@ -53,9 +53,15 @@ has_flag letter items = list_any (λ item. is_flag letter item.says) items
 abbrev pub has_value : ℕ → List Item → Bool
 has_value letter items = list_any (λ item. is_given letter item.says) items
 
--- an operand that is a path; where there is none, setfiles may lack its first one too
-abbrev pub has_operand : List Item → Bool
-has_operand items = list_any (λ item. is_operand item.says) items
+-- an operand that is a path
+abbrev pub has_path : List Item → Bool
+has_path items = list_any (λ item. is_operand item.says) items
+
+-- the operand that the tool needs: a path, and for sample a number; where there is no path,
+-- setfiles may lack its first operand too
+abbrev pub has_operand : Tool → List Item → Bool
+has_operand Sample items = has_value COUNT items
+has_operand tool items = has_path items
 
 abbrev pub text_if : Bool → List ℕ → Option (List ℕ)
 text_if true text = Some text
@@ -110,6 +116,8 @@ abbrev pub options_of : List Item → Options
 options_of items = record {
   force = has_flag FORCE items;
   dry = has_flag DRY items;
+  digests = has_flag DIGESTS items;
+  ignore_digests = has_flag IGNORE_DIGESTS items;
   verbose = has_flag VERBOSE items;
   warn_unmatched = has_flag WARN_UNMATCHED items;
   strict_links = has_flag STRICT_LINKS items;
@@ -140,8 +148,13 @@ lookup_of items = record {
   paths = (paths_in items).operands;
 }
 
+-- the number of files of a sample
+abbrev pub count_of : List Item → ℕ
+count_of items = unwrap_or (option_and_then count_named (value_of COUNT items)) 0
+
 abbrev pub asked_by : Tool → List Item → Command
 asked_by Matchpathcon items = Lookup (lookup_of items)
+asked_by Sample items = OfSample (count_of items)
 asked_by tool items = Relabel (relabel_of tool items)
 
 -- ---- what is refused
@@ -149,6 +162,7 @@ asked_by tool items = Relabel (relabel_of tool items)
 -- what changes would go nowhere
 abbrev pub lacks_output : Tool → List Item → Bool
 lacks_output Matchpathcon items = false
+lacks_output Sample items = false
 lacks_output tool items = not (has_flag DRY items || has_value OUTPUT items)
 
 abbrev pub usage : ℕ → UsageWhy → Usage
@@ -157,7 +171,7 @@ usage index why = record { index = index; why = why }
 -- what is missing at the end of so many words
 unfoldable pub end_wrong : Tool → List Item → ℕ → Option Usage
 end_wrong tool items count =
-    if not (has_operand items) then Some (usage count MissingOperand)
+    if not (has_operand tool items) then Some (usage count MissingOperand)
     else if lacks_output tool items then Some (usage count NoOutput)
     else None
 

@@ -2,19 +2,20 @@ ghost use Rattle.std.specs.Prelude.{◌≡◌, ◌∷◌, [], ◌++◌, IfOk};
 ghost use Rattle.std.specs.List.{last_or};
 ghost use Rattle.std.specs.Option.{option_and_then, option_copied};
 ghost use Rattle.label_base.specs.Answers.{Answers, cause_of};
-ghost use Rattle.tool_words.specs.Values.{kind_named, workers_named};
-ghost use Rattle.tool_words.specs.Words.{asked_by, base_of, end_wrong, has_flag, has_value, is_flag, is_given, is_operand, has_operand, lacks_output, lookup_of, options_of, paths_in, recurses, relabel_of, value_of, values_of, workers_of};
+ghost use Rattle.tool_words.specs.Values.{count_named, kind_named, workers_named};
+ghost use Rattle.tool_words.specs.Words.{asked_by, base_of, count_of, end_wrong, has_flag, has_operand, has_path, has_value, is_flag, is_given, is_operand, lacks_output, lookup_of, options_of, paths_in, recurses, relabel_of, value_of, values_of, workers_of};
 
 use crate::command::{Command, LookupWords, RelabelWords};
 use crate::faults::Paths;
 use crate::item::{Item, Says};
 use crate::letters::{
-    ASKED, BARE, DRY, FORCE, IGNORE_ABSENT, KEPT, ONE_DEVICE, OUTPUT, RECURSE, RECURSE_TOO,
-    SOFT_ERRORS, STRICT_LINKS, VERBOSE, VERIFY, WARN_UNMATCHED, WORKERS,
+    ASKED, BARE, COUNT, DIGESTS, DRY, FORCE, IGNORE_ABSENT, IGNORE_DIGESTS, KEPT, ONE_DEVICE,
+    OUTPUT, RECURSE, RECURSE_TOO, SOFT_ERRORS, STRICT_LINKS, VERBOSE, VERIFY, WARN_UNMATCHED,
+    WORKERS,
 };
 use crate::tool::{Tool, base_letter};
 use crate::usage::{Usage, UsageWhy};
-use crate::values::{kind_named, workers_named};
+use crate::values::{count_named, kind_named, workers_named};
 use label_base::{EntryKind, Name, OutOfMemory};
 use relabel_core::Options;
 use std::alloc::Global;
@@ -65,17 +66,26 @@ fn has_value(letter: u8, items: &[Item<'_>]) -> bool
     items.iter().any(|item| is_given(letter, item))
 }
 
-fn has_operand(items: &[Item<'_>]) -> bool
-    ensures { result ≡ has_operand items.now }
+fn has_path(items: &[Item<'_>]) -> bool
+    ensures { result ≡ has_path items.now }
 {
     items.iter().any(|item| is_operand(item))
+}
+
+fn has_operand(tool: Tool, items: &[Item<'_>]) -> bool
+    ensures { result ≡ has_operand tool items.now }
+{
+    match tool {
+        Tool::Sample => has_value(COUNT, items),
+        Tool::Setfiles | Tool::Restorecon | Tool::Matchpathcon => has_path(items),
+    }
 }
 
 fn lacks_output(tool: Tool, items: &[Item<'_>]) -> bool
     ensures { result ≡ lacks_output tool items.now }
 {
     match tool {
-        Tool::Matchpathcon => false,
+        Tool::Matchpathcon | Tool::Sample => false,
         Tool::Setfiles | Tool::Restorecon => !(has_flag(DRY, items) || has_value(OUTPUT, items)),
     }
 }
@@ -85,7 +95,7 @@ fn lacks_output(tool: Tool, items: &[Item<'_>]) -> bool
 pub fn end_wrong(tool: Tool, items: &[Item<'_>], count: u32) -> Option<Usage>
     ensures { result ≡ end_wrong tool items.now count }
 {
-    if !has_operand(items) {
+    if !has_operand(tool, items) {
         Some(Usage {
             index: count,
             why: UsageWhy::MissingOperand,
@@ -159,12 +169,24 @@ fn kind_asked(items: &[Item<'_>]) -> Option<EntryKind>
     kind_named(value_of(ASKED, items)?)
 }
 
+fn count_asked(items: &[Item<'_>]) -> Option<u32>
+    ensures { result ≡ option_and_then count_named (value_of COUNT items.now) }
+{
+    count_named(value_of(COUNT, items)?)
+}
+
+fn count_of(items: &[Item<'_>]) -> u32
+    ensures { result ≡ count_of items.now }
+{
+    count_asked(items).unwrap_or(0)
+}
+
 fn recurses(tool: Tool, items: &[Item<'_>]) -> bool
     ensures { result ≡ recurses tool items.now }
 {
     match tool {
         Tool::Setfiles => true,
-        Tool::Restorecon | Tool::Matchpathcon => {
+        Tool::Restorecon | Tool::Matchpathcon | Tool::Sample => {
             has_flag(RECURSE, items) || has_flag(RECURSE_TOO, items)
         }
     }
@@ -176,6 +198,8 @@ fn options_of(items: &[Item<'_>]) -> Options
     Options {
         force: has_flag(FORCE, items),
         dry: has_flag(DRY, items),
+        digests: has_flag(DIGESTS, items),
+        ignore_digests: has_flag(IGNORE_DIGESTS, items),
         verbose: has_flag(VERBOSE, items),
         warn_unmatched: has_flag(WARN_UNMATCHED, items),
         strict_links: has_flag(STRICT_LINKS, items),
@@ -233,6 +257,7 @@ pub fn asked_by(
 {
     match tool {
         Tool::Matchpathcon => Ok(Command::Lookup(lookup_of(alloc, items, paths)?)),
+        Tool::Sample => Ok(Command::Sample(count_of(items))),
         Tool::Setfiles | Tool::Restorecon => {
             Ok(Command::Relabel(relabel_of(alloc, tool, items, paths)?))
         }

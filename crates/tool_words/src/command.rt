@@ -44,4 +44,6 @@ pub enum Command {
     Relabel(RelabelWords),
     /// To look up: matchpathcon.
     Lookup(LookupWords),
+    /// To walk a sample of a tree with so many files, at most [`MOST_FILES`](crate::MOST_FILES).
+    Sample(u32),
 }

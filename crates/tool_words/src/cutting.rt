@@ -1,11 +1,11 @@
 ghost use Rattle.std.specs.Prelude.{◌≡◌, ◌∷◌, ◌++◌, ◌<◌, ◌≤◌, ◌^◌, [], drop, get_or, length, IfOk, OnOk};
-ghost use Rattle.tool_words.specs.Items.{any_taken, ahead, is_cluster, item, items_of, letters_say, names_base, operand_taken, taken, unended, valued_says, wrong};
+ghost use Rattle.tool_words.specs.Items.{any_taken, ahead, is_cluster, item, items_of, letters_say, operand_says, operand_taken, taken, unended, valued_says, wrong};
 ghost use Rattle.tool_words.specs.declared.cutting.Expects.TheVariants.{Any};
 ghost use Rattle.tool_words.specs.declared.item.Says.TheVariants.{Given};
 ghost use Rattle.tool_words.specs.Words.{word_texts};
 
 use crate::item::{Item, Says};
-use crate::letters::BASE;
+use crate::letters::{BASE, COUNT};
 use crate::tool::{Letter, Tool, letter_of};
 use crate::usage::UsageWhy;
 use label_base::{OutOfMemory, Row};
@@ -32,8 +32,8 @@ pub enum Expects {
 #[derive(Clone, Copy, Debug)]
 pub struct Ahead {
     pub expects: Expects,
-    /// Whether the next operand names the file of specifications.
-    pub base: bool,
+    /// Whether no operand stands before the next word.
+    pub first: bool,
 }
 
 // Adds something that the words say.
@@ -104,7 +104,6 @@ fn add_letters<'a>(
         match letter_of(tool, letter) {
             Letter::Alone => add(Says::Flag(letter), index, "", items)?,
             Letter::WithValue => return add_valued(letter, index, behind_first(left), items),
-            Letter::Later => return add_refused(UsageWhy::NotYet, index, items),
             Letter::Unknown => return add_refused(UsageWhy::UnknownOption, index, items),
         }
         left = behind_first(left);
@@ -134,26 +133,35 @@ fn is_cluster(word: &str) -> bool
     }
 }
 
+// What an operand says: the first of setfiles names the file of specifications, and sample has one
+// alone, a number.
+fn operand_says(tool: Tool, first: bool) -> Says
+    ensures { result ≡ operand_says tool first }
+{
+    match tool {
+        Tool::Setfiles if first => Says::Given(BASE),
+        Tool::Sample if first => Says::Given(COUNT),
+        Tool::Sample => Says::Wrong(UsageWhy::BadNumber),
+        Tool::Setfiles | Tool::Restorecon | Tool::Matchpathcon => Says::Operand,
+    }
+}
+
 fn add_operand<'a>(
+    tool: Tool,
     ahead: Ahead,
     index: u32,
     word: &'a str,
     items: &mut Row<Item<'a>>,
 ) -> Result<Ahead, OutOfMemory>
     ensures ahead { IfOk result (λ next.
-        next ≡ (operand_taken ahead.expects ahead.base index word.now).1) }
+        next ≡ (operand_taken tool ahead.expects ahead.first index word.now).1) }
     ensures items { OnOk result
-        (items.new ≡ items.old ++ (operand_taken ahead.expects ahead.base index word.now).0) }
+        (items.new ≡ items.old ++ (operand_taken tool ahead.expects ahead.first index word.now).0) }
 {
-    let says = if ahead.base {
-        Says::Given(BASE)
-    } else {
-        Says::Operand
-    };
-    add(says, index, word, items)?;
+    add(operand_says(tool, ahead.first), index, word, items)?;
     Ok(Ahead {
         expects: ahead.expects,
-        base: false,
+        first: false,
     })
 }
 
@@ -161,30 +169,30 @@ fn add_operand<'a>(
 #[tactic(auto, unfolding(crate::specs::Items::any_taken))]
 fn add_any<'a>(
     tool: Tool,
-    base: bool,
+    first: bool,
     index: u32,
     word: &'a str,
     items: &mut Row<Item<'a>>,
 ) -> Result<Ahead, OutOfMemory>
-    ensures ahead { IfOk result (λ next. next ≡ (any_taken tool base index word.now).1) }
+    ensures ahead { IfOk result (λ next. next ≡ (any_taken tool first index word.now).1) }
     ensures items { OnOk result
-        (items.new ≡ items.old ++ (any_taken tool base index word.now).0) }
+        (items.new ≡ items.old ++ (any_taken tool first index word.now).0) }
 {
     if word == END {
         return Ok(Ahead {
             expects: Expects::Operands,
-            base,
+            first,
         });
     }
     if is_cluster(word) {
         let expects = add_letters(tool, index, behind_first(word), items)?;
-        return Ok(Ahead { expects, base });
+        return Ok(Ahead { expects, first });
     }
     let ahead = Ahead {
         expects: Expects::Any,
-        base,
+        first,
     };
-    add_operand(ahead, index, word, items)
+    add_operand(tool, ahead, index, word, items)
 }
 
 // Adds what a word says, and tells what is ahead of the next one.
@@ -199,26 +207,26 @@ fn add_word<'a>(
     ensures items { OnOk result (items.new ≡ items.old ++ (taken tool ahead index word.now).0) }
 {
     match ahead.expects {
-        Expects::Any => add_any(tool, ahead.base, index, word, items),
-        Expects::ValueOf(letter) => add_value(letter, ahead.base, index, word, items),
-        Expects::Operands => add_operand(ahead, index, word, items),
+        Expects::Any => add_any(tool, ahead.first, index, word, items),
+        Expects::ValueOf(letter) => add_value(letter, ahead.first, index, word, items),
+        Expects::Operands => add_operand(tool, ahead, index, word, items),
     }
 }
 
 fn add_value<'a>(
     letter: u8,
-    base: bool,
+    first: bool,
     index: u32,
     word: &'a str,
     items: &mut Row<Item<'a>>,
 ) -> Result<Ahead, OutOfMemory>
-    ensures ahead { IfOk result (λ next. next ≡ ahead Any base) }
+    ensures ahead { IfOk result (λ next. next ≡ ahead Any first) }
     ensures items { OnOk result (items.new ≡ items.old ++ item (Given letter) index word.now ∷ []) }
 {
     add(Says::Given(letter), index, word, items)?;
     Ok(Ahead {
         expects: Expects::Any,
-        base,
+        first,
     })
 }
 
@@ -236,15 +244,6 @@ fn add_unended<'a>(
     }
 }
 
-fn names_base(tool: Tool) -> bool
-    ensures { result ≡ names_base tool }
-{
-    match tool {
-        Tool::Setfiles => true,
-        Tool::Restorecon | Tool::Matchpathcon => false,
-    }
-}
-
 /// What the words behind the tool's name say, one thing at a time.
 #[tactic(auto, unfolding(crate::specs::Items::items_from))]
 pub fn items_of<'a>(
@@ -258,7 +257,7 @@ pub fn items_of<'a>(
     let mut items = Row::new(alloc);
     let mut ahead = Ahead {
         expects: Expects::Any,
-        base: names_base(tool),
+        first: true,
     };
     let mut index = 1;
     'words: for word in words {

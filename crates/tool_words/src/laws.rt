@@ -1,6 +1,6 @@
-ghost use Rattle.std.specs.Prelude.{◌≡◌, ◌↔◌, Err};
+ghost use Rattle.std.specs.Prelude.{◌≡◌, ◌↔◌, Err, true};
 ghost use Rattle.tool_words.specs.Grammar.{AreWords};
-ghost use Rattle.tool_words.specs.Items.{items_of, names_base};
+ghost use Rattle.tool_words.specs.Items.{items_of};
 ghost use Rattle.tool_words.specs.Refusals.{IsWrong};
 ghost use Rattle.tool_words.specs.Words.{command_of, word_texts};
 
@@ -9,7 +9,7 @@ ghost use Rattle.tool_words.specs.Words.{command_of, word_texts};
 #[tactic(auto, using(crate::proofs::GrammarLemmas::words_mean))]
 pub fn words_follow_grammar(_words: &[String])
     ensures { (tool : _) → (items : _) → (items_of tool (word_texts _words.now) ≡ items)
-        ↔ AreWords tool (names_base tool) 1 (word_texts _words.now) items }
+        ↔ AreWords tool true 1 (word_texts _words.now) items }
 {}
 
 /// A law on all words: [`read_words`](crate::read_words) refuses them at an index for a reason

@@ -3,6 +3,12 @@
 /// Errors of the walk end the run with status 1.
 pub const SOFT_ERRORS: u8 = b'C';
 
+/// Stored digests are used, and digests are made anew.
+pub const DIGESTS: u8 = b'D';
+
+/// Stored digests are not used, and digests are made anew.
+pub const IGNORE_DIGESTS: u8 = b'I';
+
 /// Conflicting hard links are errors.
 pub const STRICT_LINKS: u8 = b'E';
 
@@ -58,3 +64,6 @@ pub const BARE: u8 = b'n';
 
 /// What the paths have is compared to what they should have.
 pub const VERIFY: u8 = b'V';
+
+/// The number of files of sample. It is no option: sample's one operand counts as its value.
+pub const COUNT: u8 = b'N';

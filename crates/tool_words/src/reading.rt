@@ -48,8 +48,8 @@ fn unknown_tool() -> Fault<Usage>
     })
 }
 
-/// Reads the words of a command, of which the first names the tool: setfiles(8), restorecon(8) or
-/// matchpathcon(8).
+/// Reads the words of a command, of which the first names the tool: setfiles(8), restorecon(8),
+/// matchpathcon(8) or sample.
 ///
 /// Words are looked at from left to right, and the first that is wrong is told with its index, from
 /// 0; where nothing is wrong, so is what is missing, with the number of words as its index.

@@ -49,7 +49,7 @@ fn refused(alloc: Global, words: &[&str]) -> Option<(u32, UsageWhy)> {
 fn no_tool(rt: HostRuntime) {
     for words in [
         [].as_slice(),
-        &["sample", "7"],
+        &["samples", "7"],
         &["setfile", "-n", "fc", "/"],
         &["-n", "setfiles"],
         &[""],
@@ -57,6 +57,45 @@ fn no_tool(rt: HostRuntime) {
         assert_eq!(rt;
             refused(rt.alloc(), words),
             Some((0, UsageWhy::UnknownTool))
+        );
+    }
+}
+
+// The number of files that a sample is asked for.
+fn sample(alloc: Global, words: &[&str]) -> Option<u32> {
+    match read(alloc, words) {
+        Ok(Command::Sample(count)) => Some(count),
+        _ => None,
+    }
+}
+
+#[test]
+fn samples(rt: HostRuntime) {
+    for (words, count) in [
+        (["sample", "7"].as_slice(), 7),
+        (&["sample", "--", "007"], 7),
+        (&["sample", "0", "--"], 0),
+        (&["sample", "1000000"], 1_000_000),
+    ] {
+        assert_eq!(rt; sample(rt.alloc(), words), Some(count));
+    }
+}
+
+#[test]
+fn wrong_samples(rt: HostRuntime) {
+    for (words, index, why) in [
+        (["sample"].as_slice(), 1, UsageWhy::MissingOperand),
+        (&["sample", "--"], 2, UsageWhy::MissingOperand),
+        (&["sample", "1000001"], 1, UsageWhy::BadNumber),
+        (&["sample", "--", "-7"], 2, UsageWhy::BadNumber),
+        (&["sample", "7", "8"], 2, UsageWhy::BadNumber),
+        (&["sample", "x", "-n"], 1, UsageWhy::BadNumber),
+        (&["sample", "-n", "7"], 1, UsageWhy::UnknownOption),
+    ] {
+        assert_eq!(rt;
+            refused(rt.alloc(), words),
+            Some((index, why)),
+            "at {index}"
         );
     }
 }
@@ -79,8 +118,6 @@ fn wrong_options(rt: HostRuntime) {
             UsageWhy::UnknownOption,
         ),
         (&["restorecon", "-R\u{e9}", "/"], 1, UsageWhy::UnknownOption),
-        (&["setfiles", "-nvD", "fc", "/"], 1, UsageWhy::NotYet),
-        (&["restorecon", "-n", "-I", "/"], 2, UsageWhy::NotYet),
         (&["restorecon", "-n", "-T"], 2, UsageWhy::MissingValue),
         (&["matchpathcon", "/", "-nm"], 2, UsageWhy::MissingValue),
     ] {
@@ -172,10 +209,12 @@ fn bit(set: bool, value: u32) -> u32 {
     if set { value } else { 0 }
 }
 
-// The flags C, E, F, R, W, i, n, v and x, as digits in this order.
+// The flags D, I, C, E, F, R, W, i, n, v and x, as digits in this order.
 fn flags(asked: &RelabelWords) -> u32 {
     let options = &asked.options;
-    bit(asked.soft_errors, 0b1_0000_0000)
+    bit(options.digests, 0b100_0000_0000)
+        | bit(options.ignore_digests, 0b10_0000_0000)
+        | bit(asked.soft_errors, 0b1_0000_0000)
         | bit(options.strict_links, 0b1000_0000)
         | bit(options.force, 0b100_0000)
         | bit(asked.choice.recurse, 0b10_0000)
@@ -193,6 +232,8 @@ fn flags_by(alloc: Global, words: &[&str]) -> Result<u32, OutOfMemory> {
 #[test]
 fn flags_of_restorecon(rt: HostRuntime) -> Result<(), Fail> {
     for (word, told) in [
+        ("-D", 0b100_0000_0000),
+        ("-I", 0b10_0000_0000),
         ("-C", 0b1_0000_0000),
         ("-E", 0b1000_0000),
         ("-F", 0b100_0000),

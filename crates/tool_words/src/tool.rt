@@ -1,5 +1,5 @@
 ghost use Rattle.std.specs.Prelude.{◌≡◌};
-ghost use Rattle.tool_words.specs.Tools.{base_letter, flags_of, is_among, later_of, letter_of, tool_named, valued_of};
+ghost use Rattle.tool_words.specs.Tools.{base_letter, flags_of, is_among, letter_of, tool_named, valued_of};
 
 use crate::letters::{BASE, LOOKUP_BASE};
 
@@ -9,12 +9,14 @@ const RESTORECON: &str = "restorecon";
 
 const MATCHPATHCON: &str = "matchpathcon";
 
-// The letters that stand alone, those that take a value, and those that aren't taken yet.
-const SETFILES_FLAGS: &[u8] = b"CEFWinvx";
+const SAMPLE: &str = "sample";
+
+// The letters that stand alone, and those that take a value.
+const SETFILES_FLAGS: &[u8] = b"CDEFIWinvx";
 
 const SETFILES_VALUED: &[u8] = b"KTeo";
 
-const RESTORECON_FLAGS: &[u8] = b"CEFRWinrvx";
+const RESTORECON_FLAGS: &[u8] = b"CDEFIRWinrvx";
 
 const RESTORECON_VALUED: &[u8] = b"KSTeo";
 
@@ -22,9 +24,8 @@ const MATCHPATHCON_FLAGS: &[u8] = b"NVn";
 
 const MATCHPATHCON_VALUED: &[u8] = b"fm";
 
-const RELABEL_LATER: &[u8] = b"DI";
-
-const LOOKUP_LATER: &[u8] = b"";
+// None of either.
+const SAMPLE_LETTERS: &[u8] = b"";
 
 /// The tools.
 #[derive(Clone, Copy, Debug, PartialEq, Eq)]
@@ -32,6 +33,7 @@ pub enum Tool {
     Setfiles,
     Restorecon,
     Matchpathcon,
+    Sample,
 }
 
 /// What a letter is to a tool.
@@ -41,8 +43,6 @@ pub enum Letter {
     Alone,
     /// An option with a value.
     WithValue,
-    /// An option that isn't taken yet.
-    Later,
     /// No option of the tool.
     Unknown,
 }
@@ -57,6 +57,8 @@ pub fn tool_named(word: &str) -> Option<Tool>
         Some(Tool::Restorecon)
     } else if word == MATCHPATHCON {
         Some(Tool::Matchpathcon)
+    } else if word == SAMPLE {
+        Some(Tool::Sample)
     } else {
         None
     }
@@ -69,6 +71,7 @@ fn flags(tool: Tool) -> &'static [u8]
         Tool::Setfiles => SETFILES_FLAGS,
         Tool::Restorecon => RESTORECON_FLAGS,
         Tool::Matchpathcon => MATCHPATHCON_FLAGS,
+        Tool::Sample => SAMPLE_LETTERS,
     }
 }
 
@@ -79,15 +82,7 @@ fn valued(tool: Tool) -> &'static [u8]
         Tool::Setfiles => SETFILES_VALUED,
         Tool::Restorecon => RESTORECON_VALUED,
         Tool::Matchpathcon => MATCHPATHCON_VALUED,
-    }
-}
-
-fn later(tool: Tool) -> &'static [u8]
-    ensures { result.now ≡ later_of tool }
-{
-    match tool {
-        Tool::Setfiles | Tool::Restorecon => RELABEL_LATER,
-        Tool::Matchpathcon => LOOKUP_LATER,
+        Tool::Sample => SAMPLE_LETTERS,
     }
 }
 
@@ -96,7 +91,7 @@ pub fn base_letter(tool: Tool) -> u8
     ensures { result ≡ base_letter tool }
 {
     match tool {
-        Tool::Setfiles | Tool::Restorecon => BASE,
+        Tool::Setfiles | Tool::Restorecon | Tool::Sample => BASE,
         Tool::Matchpathcon => LOOKUP_BASE,
     }
 }
@@ -116,8 +111,6 @@ pub fn letter_of(tool: Tool, letter: u8) -> Letter
         Letter::Alone
     } else if is_among(valued(tool), letter) {
         Letter::WithValue
-    } else if is_among(later(tool), letter) {
-        Letter::Later
     } else {
         Letter::Unknown
     }

@@ -7,18 +7,17 @@ pub enum UsageWhy {
     UnknownOption,
     /// The word ends with a letter that takes a value, and no word follows.
     MissingValue,
-    /// The value is no number of workers.
+    /// The value is no number of workers, or the operand of sample no number of files, or its second.
     BadNumber,
     /// The value or operand is no absolute path, or a file's name is empty.
     BadPath,
     /// The value is no type of files.
     BadKind,
-    /// The words end without a path, or without the file of specifications of setfiles.
+    /// The words end without a path, without the file of specifications of setfiles, or without the
+    /// number of sample.
     MissingOperand,
     /// Neither is a dump asked for nor is the run to change nothing.
     NoOutput,
-    /// The word holds a letter of the tool that this version doesn't take.
-    NotYet,
 }
 
 /// The first wrong word.

@@ -1,13 +1,16 @@
 ghost use Rattle.std.specs.Prelude.{◌≡◌};
-ghost use Rattle.tool_words.specs.Values.{kind_named, name_wrong, plain_value_wrong, unless_some, workers_named};
+ghost use Rattle.tool_words.specs.Values.{count_named, kind_named, name_wrong, plain_value_wrong, unless_some, workers_named};
 ghost use Rattle.tool_words.specs.declared.usage.UsageWhy.TheVariants.{BadKind, BadNumber};
 
-use crate::letters::{ASKED, WORKERS};
+use crate::letters::{ASKED, COUNT, WORKERS};
 use crate::usage::UsageWhy;
 use label_base::{EntryKind, read_number};
 
 /// The most workers that can be asked for.
 pub const MOST_WORKERS: u64 = 64;
+
+/// The most files that a sample can have.
+pub const MOST_FILES: u64 = 1_000_000;
 
 // The types of files, as matchpathcon(8) names them.
 const REGULAR_NAME: &str = "file";
@@ -30,6 +33,18 @@ pub fn workers_named(text: &str) -> Option<u32>
 {
     let number = read_number(text.as_bytes())?;
     if number <= MOST_WORKERS {
+        Some(number as u32)
+    } else {
+        None
+    }
+}
+
+/// The number of files that an operand of sample names.
+pub fn count_named(text: &str) -> Option<u32>
+    ensures { result ≡ count_named text.now }
+{
+    let number = read_number(text.as_bytes())?;
+    if number <= MOST_FILES {
         Some(number as u32)
     } else {
         None
@@ -68,6 +83,15 @@ fn workers_wrong(text: &str) -> Option<UsageWhy>
     }
 }
 
+fn count_wrong(text: &str) -> Option<UsageWhy>
+    ensures { result ≡ unless_some BadNumber (count_named text.now) }
+{
+    match count_named(text) {
+        Some(_) => None,
+        None => Some(UsageWhy::BadNumber),
+    }
+}
+
 fn kind_wrong(text: &str) -> Option<UsageWhy>
     ensures { result ≡ unless_some BadKind (kind_named text.now) }
 {
@@ -95,6 +119,8 @@ pub fn plain_value_wrong(letter: u8, text: &str) -> Option<UsageWhy>
         workers_wrong(text)
     } else if letter == ASKED {
         kind_wrong(text)
+    } else if letter == COUNT {
+        count_wrong(text)
     } else {
         name_wrong(text)
     }

@@ -1,5 +1,5 @@
 use Rattle.std.proofs.Common.{◌≡◌, ◌∙◌, ◌++◌, ◌<◌, ap, sym, refl, subst, append-nil, drop, IfOk, OnOk}
-use Rattle.tool_words.specs.declared.tool.Letter.TheVariants.{Alone, WithValue, Later, Unknown}
+use Rattle.tool_words.specs.declared.tool.Letter.TheVariants.{Alone, WithValue, Unknown}
 use Rattle.tool_words.proofs.LetterLemmas.{alone_ascii, alone_more, letter_more, letters_end, valued_letter_ascii}
 use Rattle.tool_words.proofs.cutting.add_letters.Goals as goal
 
@@ -22,25 +22,15 @@ returns-in-WithValue-clause-items c =
     let says = letter_more c.args.tool c.args.index c.letters.left.now c.behind_first.result.now _ WithValue c.letters-test.true c.first_byte-letter.ensures c.in-WithValue.ensures.value c.behind_first.ensures in
     subst (λ xs. OnOk c.add_valued.result (c.add_valued.new.items ≡ xs)) (sym (ap (λ s. c.letters.items ++ s.0) says) ∙ c.letters.invariant.items) c.add_valued.ensures.items
 
-pub returns-in-Later-clause-expects : goal.returns-in-Later-clause-expects
-returns-in-Later-clause-expects c =
-    let says = letter_more c.args.tool c.args.index c.letters.left.now (drop 1 c.letters.left.now) _ Later c.letters-test.true c.first_byte-letter.ensures c.in-Later.ensures.value refl in
-    subst (λ e. IfOk c.add_refused.result (λ expects. expects ≡ e)) (sym (ap (λ s. s.1) says) ∙ c.letters.invariant.expects) c.add_refused.ensures.expects
-
-pub returns-in-Later-clause-items : goal.returns-in-Later-clause-items
-returns-in-Later-clause-items c =
-    let says = letter_more c.args.tool c.args.index c.letters.left.now (drop 1 c.letters.left.now) _ Later c.letters-test.true c.first_byte-letter.ensures c.in-Later.ensures.value refl in
-    subst (λ xs. OnOk c.add_refused.result (c.add_refused.new.items ≡ xs)) (sym (ap (λ s. c.letters.items ++ s.0) says) ∙ c.letters.invariant.items) c.add_refused.ensures.items
-
 pub returns-in-Unknown-clause-expects : goal.returns-in-Unknown-clause-expects
 returns-in-Unknown-clause-expects c =
     let says = letter_more c.args.tool c.args.index c.letters.left.now (drop 1 c.letters.left.now) _ Unknown c.letters-test.true c.first_byte-letter.ensures c.in-Unknown.ensures.value refl in
-    subst (λ e. IfOk c.add_refused-in-Unknown.result (λ expects. expects ≡ e)) (sym (ap (λ s. s.1) says) ∙ c.letters.invariant.expects) c.add_refused-in-Unknown.ensures.expects
+    subst (λ e. IfOk c.add_refused.result (λ expects. expects ≡ e)) (sym (ap (λ s. s.1) says) ∙ c.letters.invariant.expects) c.add_refused.ensures.expects
 
 pub returns-in-Unknown-clause-items : goal.returns-in-Unknown-clause-items
 returns-in-Unknown-clause-items c =
     let says = letter_more c.args.tool c.args.index c.letters.left.now (drop 1 c.letters.left.now) _ Unknown c.letters-test.true c.first_byte-letter.ensures c.in-Unknown.ensures.value refl in
-    subst (λ xs. OnOk c.add_refused-in-Unknown.result (c.add_refused-in-Unknown.new.items ≡ xs)) (sym (ap (λ s. c.letters.items ++ s.0) says) ∙ c.letters.invariant.items) c.add_refused-in-Unknown.ensures.items
+    subst (λ xs. OnOk c.add_refused.result (c.add_refused.new.items ≡ xs)) (sym (ap (λ s. c.letters.items ++ s.0) says) ∙ c.letters.invariant.items) c.add_refused.ensures.items
 
 pub letters-preserved : goal.letters-preserved
 letters-preserved c =
