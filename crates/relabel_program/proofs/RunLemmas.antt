@@ -17,7 +17,7 @@ use Rattle.label_base.specs.declared.store.SaveFault.{SaveFault}
 use Rattle.label_base.specs.declared.store.SaveFault.TheVariants as save
 use Rattle.find_records.specs.Record.{Record}
 use Rattle.tool_words.specs.declared.command.Command.{Command}
-use Rattle.tool_words.specs.declared.command.Command.TheVariants.{Relabel, Lookup}
+use Rattle.tool_words.specs.declared.command.Command.TheVariants.{Relabel, Lookup, Sample}
 use Rattle.tool_words.specs.declared.command.LookupWords.{LookupWords}
 use Rattle.tool_words.specs.declared.command.RelabelWords.{RelabelWords}
 use Rattle.tool_words.specs.declared.usage.Usage.{Usage}
@@ -29,6 +29,7 @@ use Rattle.relabel_program.specs.Faults.{fault_line}
 use Rattle.relabel_program.specs.Files.{policy}
 use Rattle.relabel_program.specs.Input.{entries_for}
 use Rattle.relabel_program.specs.Names.{names_for, names_in, no_names}
+use Rattle.relabel_program.specs.Sample.{told_by_sample}
 use Rattle.relabel_program.specs.Run.{Ends, FileFailed, FilesDecide, InputFailed, LineOrFront, LosesDump, LosesReport, OthersStay, Reports, ReportsFront, Run, Saves, WritesReport, files_with}
 use Rattle.relabel_program.specs.declared.cause.Cause.{Cause}
 use Rattle.relabel_program.specs.declared.cause.Cause.TheVariants as causes
@@ -178,10 +179,15 @@ lookup_saves : (words : LookupWords) (found : Policy) (entries : List Record) �
 unfolding told_by_lookup
 lookup_saves words found entries = saves_none words.verify _ _ refl refl
 
+sample_saves : (found : Policy) (entries : List Record) → option_map name_in (told_by_sample found entries).saved ≡ None
+unfolding told_by_sample
+sample_saves found entries = refl
+
 -- the dump goes to the file that is asked for
 output_saved : (command : Command) (found : Policy) (entries : List Record) → option_map name_in (told_by command found entries).saved ≡ output_of command
 output_saved (Relabel words) found entries = walk_saves words found entries
 output_saved (Lookup words) found entries = lookup_saves words found entries
+output_saved (Sample count) found entries = sample_saves found entries
 
 stay_same : (old new : Option Files) (output : Option (List ℕ)) → new ≡ old → OthersStay old new output
 stay_same old new None is = is

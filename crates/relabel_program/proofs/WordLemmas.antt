@@ -7,7 +7,7 @@ use Rattle.std.specs.declared.alloc.Global.{Global}
 use Rattle.std.proofs.lemmas.List.{length-map, length-append}
 use Rattle.std.proofs.lemmas.List.Elements.{filter_map-append}
 use Rattle.label_base.specs.Path.{path_read, same_bytes}
-use Rattle.tool_words.specs.Items.{Item, Letters, Taken, ahead, any_taken, is_cluster, item, items_from, items_of, letters_say, letters_taken, names_base, operand_says, operand_taken, taken, unended, with_letter, word_taken}
+use Rattle.tool_words.specs.Items.{Item, Letters, Taken, ahead, any_taken, is_cluster, item, items_from, items_of, letters_say, letters_taken, operand_says, operand_taken, taken, unended, with_letter, word_taken}
 use Rattle.tool_words.specs.Tools.{letter_of, tool_named}
 use Rattle.tool_words.specs.Words.{asked_by, command_for, command_in, command_of, end_wrong, is_operand, operands_of, or_at_end, path_in, paths_of, text_if, unless_wrong, word_texts}
 use Rattle.tool_words.specs.Values.{first_wrong}
@@ -17,9 +17,9 @@ use Rattle.tool_words.specs.declared.cutting.Expects.{Expects}
 use Rattle.tool_words.specs.declared.cutting.Expects.TheVariants.{Any, ValueOf, Operands}
 use Rattle.tool_words.specs.declared.cutting.TheConstants.{END}
 use Rattle.tool_words.specs.declared.tool.Letter.{Letter}
-use Rattle.tool_words.specs.declared.tool.Letter.TheVariants.{Alone, WithValue, Later, Unknown}
+use Rattle.tool_words.specs.declared.tool.Letter.TheVariants.{Alone, WithValue, Unknown}
 use Rattle.tool_words.specs.declared.tool.Tool.{Tool}
-use Rattle.tool_words.specs.declared.tool.Tool.TheVariants.{Setfiles, Restorecon, Matchpathcon}
+use Rattle.tool_words.specs.declared.tool.Tool.TheVariants.{Setfiles, Restorecon, Matchpathcon, Sample}
 use Rattle.tool_words.specs.declared.usage.Usage.{Usage}
 use Rattle.relabel_program.specs.Asked.{paths_in}
 
@@ -34,7 +34,6 @@ with_none : (index letter : ℕ) (kind : Letter) (rest : List ℕ) (more : Lette
 with_none index letter Alone rest more none_more = none_more
 with_none index letter WithValue [] more none_more = refl
 with_none index letter WithValue (b ∷ bs) more none_more = refl
-with_none index letter Later rest more none_more = refl
 with_none index letter Unknown rest more none_more = refl
 
 letters_none : (tool : Tool) (index : ℕ) (text : List ℕ) → count (letters_say tool index text).0 ≡ 0
@@ -42,9 +41,13 @@ unfolding letters_say
 letters_none tool index [] = refl
 letters_none tool index (b ∷ bs) = with_none index b (letter_of tool b) bs (letters_say tool index bs) (letters_none tool index bs)
 
-operand_few : (base : Bool) (index : ℕ) (word : List ℕ) → count (item (operand_says base) index word ∷ []) ≤ 1
-operand_few true index word = omega arith
-operand_few false index word = omega arith
+operand_few : (tool : Tool) (first : Bool) (index : ℕ) (word : List ℕ) → count (item (operand_says tool first) index word ∷ []) ≤ 1
+operand_few Setfiles true index word = omega arith
+operand_few Setfiles false index word = omega arith
+operand_few Restorecon first index word = omega arith
+operand_few Matchpathcon first index word = omega arith
+operand_few Sample true index word = omega arith
+operand_few Sample false index word = omega arith
 
 one_of : (b c : Bool) (x y z : Taken) → count x.0 ≤ 1 → count y.0 ≤ 1 → count z.0 ≤ 1 → count (cond b x (cond c y z)).0 ≤ 1
 one_of true c x y z first second third = first
@@ -57,12 +60,12 @@ letters_few tool base index text = omega (arith, letters_none tool index text)
 any_few : (tool : Tool) (base : Bool) (index : ℕ) (word : List ℕ) → count (any_taken tool base index word).0 ≤ 1
 unfolding any_taken
 any_few tool base index word =
-    one_of (same_bytes word END.now) (is_cluster word) _ _ _ (omega arith) (letters_few tool base index _) (operand_few base index word)
+    one_of (same_bytes word END.now) (is_cluster word) _ _ _ (omega arith) (letters_few tool base index _) (operand_few tool base index word)
 
 word_few : (tool : Tool) (expects : Expects) (base : Bool) (index : ℕ) (word : List ℕ) → count (word_taken tool expects base index word).0 ≤ 1
 word_few tool Any base index word = any_few tool base index word
 word_few tool (ValueOf letter) base index word = omega arith
-word_few tool Operands base index word = operand_few base index word
+word_few tool Operands base index word = operand_few tool base index word
 
 unended_none : (expects : Expects) (index : ℕ) → count (unended expects index) ≡ 0
 unended_none Any index = refl
@@ -76,7 +79,7 @@ items_few tool a index (word ∷ words) =
     omega (
       arith,
       counted (taken tool a index word).0 (items_from tool (taken tool a index word).1 (index + 1) words),
-      word_few tool a.expects a.base index word,
+      word_few tool a.expects a.first index word,
       items_few tool (taken tool a index word).1 (index + 1) words,
     )
 
@@ -92,6 +95,7 @@ asked_few : (tool : Tool) (items : List Item) → length (paths_in (asked_by too
 asked_few Setfiles items = paths_kept (operands_of items)
 asked_few Restorecon items = paths_kept (operands_of items)
 asked_few Matchpathcon items = paths_kept (operands_of items)
+asked_few Sample items = omega arith
 
 accepted : (found : Option Usage) (meant command : Command) → unless_wrong found meant ≡ Ok command → meant ≡ command
 accepted None meant command is = cc
@@ -105,7 +109,7 @@ tool_few tool items n command is =
 named_few : (tool : Option Tool) (words : List (List ℕ)) (command : Command) → command_for tool words ≡ Ok command → length (paths_in command) ≤ length words
 named_few None words command is = absurd (cc)
 named_few (Some tool) words command is =
-    omega (arith, tool_few tool (items_of tool words) (length words + 1) command is, items_few tool (ahead Any (names_base tool)) 1 words)
+    omega (arith, tool_few tool (items_of tool words) (length words + 1) command is, items_few tool (ahead Any true) 1 words)
 
 texts_few : (words : List (List ℕ)) (command : Command) → command_of words ≡ Ok command → length (paths_in command) ≤ length words
 unfolding command_of

@@ -11,13 +11,14 @@ use Rattle.relabel_core.specs.Verified.{count_unverified, verified_messages}
 use Rattle.relabel_core.specs.Walk.{Walk, errors, messages}
 use Rattle.relabel_core.specs.Walked.{walk_for}
 use Rattle.tool_words.specs.declared.command.Command.{Command}
-use Rattle.tool_words.specs.declared.command.Command.TheVariants.{Relabel, Lookup}
+use Rattle.tool_words.specs.declared.command.Command.TheVariants.{Relabel, Lookup, Sample}
 use Rattle.tool_words.specs.declared.command.LookupWords.{LookupWords}
 use Rattle.tool_words.specs.declared.command.RelabelWords.{RelabelWords}
 use Rattle.tool_words.specs.declared.usage.Usage.{Usage}
 use Rattle.relabel_program.specs.Causes.{and_then}
 use Rattle.relabel_program.specs.Files.{policy}
 use Rattle.relabel_program.specs.Input.{entries_for}
+use Rattle.relabel_program.specs.Sample.{told_by_sample}
 use Rattle.relabel_program.specs.declared.cause.Cause.{Cause}
 use Rattle.relabel_program.specs.declared.cause.Cause.TheVariants as causes
 use Rattle.relabel_program.specs.declared.policy.Policy.{Policy}
@@ -87,6 +88,7 @@ told_by_lookup words policy entries =
 abbrev pub told_by : Command → Policy → List Record → Told
 told_by (Relabel words) policy entries = told_by_walk words policy entries
 told_by (Lookup words) policy entries = told_by_lookup words policy entries
+told_by (Sample count) policy entries = told_by_sample policy entries
 
 -- what a command tells, or the first refusal: the files, then the input
 unfoldable pub answer_for : Command → Files → List ℕ → Result Told Cause

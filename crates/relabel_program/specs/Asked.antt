@@ -2,18 +2,20 @@
 use Rattle.std.specs.Prelude.{Bool, true, false, ℕ, List, [], Option, Some, None, is_some, Result, Ok, Err, if◌then◌else◌}
 use Rattle.label_base.specs.Path.{Path}
 use Rattle.tool_words.specs.declared.command.Command.{Command}
-use Rattle.tool_words.specs.declared.command.Command.TheVariants.{Relabel, Lookup}
+use Rattle.tool_words.specs.declared.command.Command.TheVariants.{Relabel, Lookup, Sample}
 use Rattle.tool_words.specs.declared.usage.Usage.{Usage}
 
 -- the name of the base file
 abbrev pub base_of : Command → List ℕ
 base_of (Relabel words) = words.base
 base_of (Lookup words) = words.base
+base_of (Sample count) = []
 
 -- the name of the file of stored digests
 abbrev pub kept_of : Command → Option (List ℕ)
 kept_of (Relabel words) = words.kept
 kept_of (Lookup words) = None
+kept_of (Sample count) = None
 
 abbrev pub asks_kept : Command → Bool
 asks_kept command = is_some (kept_of command)
@@ -22,21 +24,25 @@ asks_kept command = is_some (kept_of command)
 abbrev pub output_of : Command → Option (List ℕ)
 output_of (Relabel words) = words.output
 output_of (Lookup words) = None
+output_of (Sample count) = None
 
 -- the paths that are named
 abbrev pub paths_in : Command → List Path
 paths_in (Relabel words) = words.choice.operands
 paths_in (Lookup words) = words.paths
+paths_in (Sample count) = []
 
--- matchpathcon takes records with -V alone
+-- matchpathcon takes records with -V alone, and a sample makes its own
 abbrev pub takes_records : Command → Bool
 takes_records (Relabel words) = true
 takes_records (Lookup words) = words.verify
+takes_records (Sample count) = false
 
 -- errors of the walk end with 1
 abbrev pub is_soft : Command → Bool
 is_soft (Relabel words) = words.soft_errors
 is_soft (Lookup words) = false
+is_soft (Sample count) = false
 
 -- ---- where the words may be wrong
 

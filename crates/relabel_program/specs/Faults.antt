@@ -42,7 +42,6 @@ usage_text usage.BadPath = texts.BAD_PATH.now
 usage_text usage.BadKind = texts.BAD_TYPE.now
 usage_text usage.MissingOperand = texts.MISSING_OPERAND.now
 usage_text usage.NoOutput = texts.NO_OUTPUT.now
-usage_text usage.NotYet = texts.NOT_YET.now
 
 -- where in a pattern's text, counted from 0, the fault stands
 abbrev pub pattern_text : PatternWhy → List ℕ

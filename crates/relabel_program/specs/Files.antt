@@ -21,10 +21,11 @@ use Rattle.setfattr_dump.specs.declared.dump.Dump.{Dump}
 use Rattle.setfattr_dump.specs.declared.dump.Section.{Section}
 use Rattle.setfattr_dump.specs.declared.fault.DumpWhy.{DumpWhy}
 use Rattle.tool_words.specs.declared.command.Command.{Command}
-use Rattle.tool_words.specs.declared.command.Command.TheVariants.{Relabel, Lookup}
+use Rattle.tool_words.specs.declared.command.Command.TheVariants.{Relabel, Lookup, Sample}
 use Rattle.relabel_program.specs.Asked.{asks_kept}
 use Rattle.relabel_program.specs.Causes.{and_then}
 use Rattle.relabel_program.specs.Names.{name_of, names_for}
+use Rattle.relabel_program.specs.Sample.{sample_files, sample_words}
 use Rattle.relabel_program.specs.declared.cause.Cause.{Cause}
 use Rattle.relabel_program.specs.declared.cause.Cause.TheVariants.{Missing, SpecRefused, SubRefused, CustomRefused, DumpRefused, Limit}
 use Rattle.relabel_program.specs.declared.cause.LimitKind.TheVariants.{File, Specs}
@@ -94,10 +95,19 @@ list_of names files =
     and_then (part_specs names Local (MOST_SPECS - length first - length home) files) (λ local.
     Ok (in_order (first ++ home ++ local)))))
 
--- matchpathcon looks at no type names
+-- matchpathcon looks at no type names; a sample has its own files
 abbrev pub types_for : Command → Files → Result NameSet Cause
 types_for (Relabel words) files = customizable_types (names_for (Relabel words)) files
 types_for (Lookup words) files = Ok (set_of [])
+types_for (Sample count) files = Ok (set_of [])
+
+-- specifications, the two lists of substitutions, and the customizable types
+abbrev pub rules_with : List SpecValue → (first second : List SubValue) → NameSet → Rules
+rules_with list first second types = record {
+  rules = list;
+  subs = record { first = first; second = second };
+  types = types;
+}
 
 -- the rules that the files give; each file's faults come before those of the next
 unfoldable pub rules_for : Command → Files → Result Rules Cause
@@ -106,11 +116,7 @@ rules_for command files =
     and_then (part_subs (names_for command) Subs files) (λ first.
     and_then (part_subs (names_for command) SubsDist files) (λ second.
     and_then (types_for command files) (λ types.
-    Ok (record {
-      rules = list;
-      subs = record { first = first; second = second };
-      types = types;
-    })))))
+    Ok (rules_with list first second types)))))
 
 abbrev pub dump_from : Result (List Section) (RefusedLine DumpWhy) → Result Dump Cause
 dump_from (Ok sections) = Ok (record { sections = sections })
@@ -134,6 +140,11 @@ with_kept rules (Ok kept) = Ok (record { rules = rules; kept = kept })
 with_kept rules (Err cause) = Err cause
 
 -- the rules and the stored digests that the files give, or the first refusal
-unfoldable pub policy : Command → Files → Result Policy Cause
-policy command files =
+unfoldable pub policy_in : Command → Files → Result Policy Cause
+policy_in command files =
     and_then (rules_for command files) (λ rules. with_kept rules (kept_for command files))
+
+-- the same; a sample has files of its own
+abbrev pub policy : Command → Files → Result Policy Cause
+policy (Sample count) files = policy_in (Relabel sample_words) sample_files
+policy command files = policy_in command files

@@ -7,6 +7,8 @@ use Rattle.find_records.specs.declared.fault.RecordsFault.TheVariants as records
 use Rattle.find_records.specs.declared.reading.RecordLimits.{RecordLimits}
 use Rattle.tree_model.specs.Entries.{tree_of}
 use Rattle.tool_words.specs.declared.command.Command.{Command}
+use Rattle.tool_words.specs.declared.command.Command.TheVariants.{Sample}
+use Rattle.sample_tree.specs.Sample.{sample_records}
 use Rattle.relabel_program.specs.Asked.{takes_records}
 use Rattle.relabel_program.specs.declared.cause.Cause.{Cause}
 use Rattle.relabel_program.specs.declared.cause.Cause.TheVariants.{RecordRefused, Unended, Doubled, Limit, ReadFault, OutOfMemory}
@@ -41,6 +43,13 @@ entries_of bytes =
     if nat_lt MOST_RECORD_BYTES (length bytes) then Err (Limit RecordBytes)
     else entries_read (records_of record_limits bytes)
 
--- the entries that a command looks at; one that takes no records has none
+-- the entries that a command looks at that takes no records: a sample makes its own, and any other
+-- has none
+abbrev pub entries_without : Command → Result (List Record) Cause
+entries_without (Sample count) = entries_of (sample_records count)
+entries_without command = Ok []
+
+-- the entries that a command looks at
 unfoldable pub entries_for : Command → List ℕ → Result (List Record) Cause
-entries_for command input = if takes_records command then entries_of input else Ok []
+entries_for command input =
+    if takes_records command then entries_of input else entries_without command

@@ -1,6 +1,7 @@
 pub mod Asked
 pub mod Names
 pub mod Causes
+pub mod Sample
 pub mod Files
 pub mod Input
 pub mod Faults

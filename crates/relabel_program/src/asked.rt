@@ -3,13 +3,14 @@ ghost use Rattle.relabel_program.specs.Asked.{asks_kept, is_soft, takes_records}
 
 use tool_words::Command;
 
-/// Whether a command takes records: matchpathcon does with `-V` alone.
+/// Whether a command takes records: matchpathcon does with `-V` alone, and a sample makes its own.
 pub fn takes_records(command: &Command) -> bool
     ensures { result ≡ takes_records command.now }
 {
     match command {
         Command::Relabel(_) => true,
         Command::Lookup(words) => words.verify,
+        Command::Sample(_) => false,
     }
 }
 
@@ -19,7 +20,7 @@ pub fn asks_kept(command: &Command) -> bool
 {
     match command {
         Command::Relabel(words) => words.kept.is_some(),
-        Command::Lookup(_) => false,
+        Command::Lookup(_) | Command::Sample(_) => false,
     }
 }
 
@@ -29,6 +30,6 @@ pub fn is_soft(command: &Command) -> bool
 {
     match command {
         Command::Relabel(words) => words.soft_errors,
-        Command::Lookup(_) => false,
+        Command::Lookup(_) | Command::Sample(_) => false,
     }
 }

@@ -79,8 +79,6 @@ const MISSING_OPERAND: &str = "missing operand";
 
 const NO_OUTPUT: &str = "needs -n or -o";
 
-const NOT_YET: &str = "not yet";
-
 const MISSING_CONTEXT: &str = "missing context";
 
 const BAD_TYPE: &str = "bad type";
@@ -187,7 +185,6 @@ fn usage_words(why: UsageWhy) -> &'static str
         UsageWhy::BadKind => BAD_TYPE,
         UsageWhy::MissingOperand => MISSING_OPERAND,
         UsageWhy::NoOutput => NO_OUTPUT,
-        UsageWhy::NotYet => NOT_YET,
     }
 }
 

@@ -1,12 +1,12 @@
 ghost use Rattle.std.specs.Prelude.{◌≡◌, ℕ, ◌≤◌, ◌-◌, IfOk, IfErr, IfSome, OnOk, length};
 ghost use Rattle.relabel_program.specs.Causes.{Counts, Gives, IsFileCause};
-ghost use Rattle.relabel_program.specs.Files.{absent, customizable_types, list_of, most_bytes, part_bytes, part_specs, part_subs, rules_for, types_for};
+ghost use Rattle.relabel_program.specs.Files.{absent, customizable_types, list_of, most_bytes, part_bytes, part_specs, part_subs, rules_for, rules_with, types_for};
 ghost use Rattle.relabel_program.specs.Names.{names_for};
 
 use crate::cause::{Cause, LimitKind};
 use crate::names::FileNames;
 use context_syntax::{TypeNames, read_customizable};
-use label_base::{Bytes, Fault, FileFault, LinesWhy, Name, Part, Row, Store};
+use label_base::{Bytes, Fault, FileFault, LinesWhy, Name, OutOfMemory, Part, Row, Store};
 use path_subs::{Sub, SubList, Subs, read_subs};
 use relabel_core::Rules;
 use spec_match::RuleSet;
@@ -183,8 +183,29 @@ fn read_types_for<S: Store>(
 {
     match command {
         Command::Relabel(_) => read_types(alloc, names, store),
-        Command::Lookup(_) => Ok(TypeNames::new(alloc)),
+        Command::Lookup(_) | Command::Sample(_) => Ok(TypeNames::new(alloc)),
     }
+}
+
+// Makes rules ready for look-ups.
+fn rules_with(
+    alloc: Global,
+    list: Row<Spec>,
+    first: Row<Sub>,
+    second: Row<Sub>,
+    types: TypeNames,
+) -> Result<Rules, OutOfMemory>
+    requires { length list ≤ MOST_SPECS }
+    ensures { IfOk result (λ rules. rules ≡ rules_with list first second types) }
+{
+    Ok(Rules {
+        rules: RuleSet::new(alloc, list)?,
+        subs: Subs {
+            first: SubList::new(alloc, first)?,
+            second: SubList::new(alloc, second)?,
+        },
+        types,
+    })
 }
 
 /// Reads the files of a policy: the base file, then `.homedirs`, `.local`, `.subs` and `.subs_dist`
@@ -208,12 +229,5 @@ pub fn read_rules<S: Store>(
     let first = read_subs_part(alloc, names, Part::Subs, store)?;
     let second = read_subs_part(alloc, names, Part::SubsDist, store)?;
     let types = read_types_for(alloc, command, names, store)?;
-    Ok(Rules {
-        rules: RuleSet::new(alloc, list)?,
-        subs: Subs {
-            first: SubList::new(alloc, first)?,
-            second: SubList::new(alloc, second)?,
-        },
-        types,
-    })
+    Ok(rules_with(alloc, list, first, second, types)?)
 }

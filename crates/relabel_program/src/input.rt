@@ -2,12 +2,14 @@ ghost use Rattle.std.specs.Prelude.{◌≡◌, ℕ, ◌≤◌, ◌<◌, ◌-◌,
 ghost use Rattle.relabel_program.specs.Causes.{Counts, Gives, IsInputCause};
 ghost use Rattle.tree_model.specs.Entries.{tree_of};
 ghost use Rattle.relabel_program.specs.Asked.{input_for, takes_records};
-ghost use Rattle.relabel_program.specs.Input.{entries_for, entries_from, entries_of, records_refusal};
+ghost use Rattle.relabel_program.specs.Input.{entries_for, entries_from, entries_of, entries_without, records_refusal};
+ghost use Rattle.sample_tree.specs.Sample.{sample_records};
 
 use crate::asked::takes_records;
 use crate::cause::{Cause, LimitKind};
 use find_records::{RecordLimits, Records, RecordsFault, read_records};
-use label_base::Source;
+use label_base::{Source, SureSource};
+use sample_tree::sample_records;
 use std::alloc::Global;
 use tool_words::Command;
 use tree_model::{Tree, TreeFault};
@@ -16,6 +18,8 @@ use tree_model::{Tree, TreeFault};
 const MOST_RECORDS: u32 = 2_097_152;
 /// The greatest number of bytes of all records together.
 const MOST_RECORD_BYTES: u64 = 536_870_912;
+// How many bytes of a sample are read at a time.
+const SAMPLE_PIECE: usize = 65_536;
 
 #[tactic(auto, using(crate::proofs::EntryCounts::tree_few))]
 fn tree_from(alloc: Global, records: Records) -> Result<Tree, Cause>
@@ -80,6 +84,32 @@ fn read_tree<I: Source>(alloc: Global, input: &mut I) -> Result<Tree, Cause>
     }
 }
 
+// Reads the records of a sample, by the reader of any other input.
+#[tactic(auto, using(crate::proofs::SampleLemmas::calm_counts))]
+fn read_sample(alloc: Global, count: u32) -> Result<Tree, Cause>
+    ensures answer { Gives (entries_of (sample_records count)) result }
+    ensures counts { (count : ℕ) → Counts count count result }
+    ensures kinds { IfErr result IsInputCause }
+    ensures few { IfOk result (λ tree. length tree ≤ MOST_RECORDS) }
+{
+    let records = sample_records(alloc, count)?;
+    let mut source = SureSource::new(records, SAMPLE_PIECE);
+    read_tree(alloc, &mut source)
+}
+
+// The tree of a command that takes no records: a sample makes its own, and any other has none.
+fn entries_without(alloc: Global, command: &Command) -> Result<Tree, Cause>
+    ensures answer { Gives (entries_without command.now) result }
+    ensures counts { (count : ℕ) → Counts count count result }
+    ensures kinds { IfErr result IsInputCause }
+    ensures few { IfOk result (λ tree. length tree ≤ MOST_RECORDS) }
+{
+    match command {
+        Command::Sample(count) => read_sample(alloc, *count),
+        Command::Relabel(_) | Command::Lookup(_) => no_entries(alloc),
+    }
+}
+
 /// Reads the records that a command takes, as a tree. One that takes none leaves the input alone.
 #[tactic(auto, unfolding(crate::specs::Input::entries_for))]
 pub fn read_entries<I: Source>(
@@ -99,5 +129,5 @@ pub fn read_entries<I: Source>(
     if takes_records(command) {
         return read_tree(alloc, input);
     }
-    no_entries(alloc)
+    entries_without(alloc, command)
 }

@@ -1,4 +1,5 @@
-//! The program: setfiles(8), restorecon(8) and matchpathcon(8) over the files of a policy and the records of a tree.
+//! The program: setfiles(8), restorecon(8) and matchpathcon(8) over the files of a policy and the records of a tree, and
+//! a sample of a tree, walked twice.
 #![tactic(auto)]
 
 ghost use Rattle.std.specs.Prelude.{◌<◌, ◌^◌, IfOk, length};
@@ -12,6 +13,7 @@ mod input;
 mod names;
 mod policy;
 mod runs;
+mod sample;
 mod saving;
 #[cfg(test)]
 mod tests;

@@ -43,6 +43,7 @@ fn base_of(command: &Command) -> &str
     match command {
         Command::Relabel(words) => words.base.as_str(),
         Command::Lookup(words) => words.base.as_str(),
+        Command::Sample(_) => "",
     }
 }
 
@@ -54,7 +55,7 @@ fn kept_or_none(command: &Command) -> &str
             Some(name) => name.as_str(),
             None => "",
         },
-        Command::Lookup(_) => "",
+        Command::Lookup(_) | Command::Sample(_) => "",
     }
 }
 

@@ -1,14 +1,18 @@
 ghost use Rattle.std.specs.Prelude.{◌≡◌, ℕ, ◌<◌, ◌^◌, IfErr, IfOk, IfSome, length};
 ghost use Rattle.relabel_program.specs.Causes.{Counts, Gives, IsFileCause};
-ghost use Rattle.relabel_program.specs.Files.{kept_dump, kept_for, policy, with_kept};
+ghost use Rattle.relabel_program.specs.Files.{kept_dump, kept_for, policy, policy_in, with_kept};
+ghost use Rattle.relabel_program.specs.Sample.{sample_files, sample_words};
+ghost use Rattle.tool_words.specs.declared.command.Command.TheVariants as commands;
 ghost use Rattle.relabel_program.specs.Names.{names_for};
 
 use crate::asked::asks_kept;
 use crate::cause::Cause;
 use crate::files::{read_part, read_rules};
 use crate::names::FileNames;
-use label_base::{Fault, Part, Row, Store};
+use crate::sample::{SAMPLE_FILE, sample_words};
+use label_base::{Fault, OutOfMemory, Part, Row, Store, SureStore};
 use relabel_core::Rules;
+use sample_tree::SPECS;
 use setfattr_dump::Dump;
 use std::alloc::Global;
 use tool_words::Command;
@@ -75,8 +79,50 @@ fn with_kept(rules: Rules, kept: Result<Dump, Cause>) -> Result<Policy, Cause>
     }
 }
 
-/// Reads the files that a command asks for: those of the policy, then that of the stored digests.
-#[tactic(auto, using(crate::proofs::PolicyLemmas::kept_gives, crate::proofs::PolicyLemmas::kept_counts, crate::proofs::PolicyLemmas::kept_kinds), unfolding(crate::specs::Files::policy))]
+// Reads the files of a policy, then that of the stored digests.
+#[tactic(auto, using(crate::proofs::PolicyLemmas::kept_gives, crate::proofs::PolicyLemmas::kept_counts, crate::proofs::PolicyLemmas::kept_kinds), unfolding(crate::specs::Files::policy_in))]
+fn read_files<S: Store>(
+    alloc: Global,
+    command: &Command,
+    names: &FileNames,
+    store: &mut S,
+) -> Result<Policy, Cause>
+    requires { names.now ≡ names_for command.now }
+    ensures files { S.files store.new ≡ S.files store.old }
+    ensures writes { S.write_faults store.new ≡ S.write_faults store.old }
+    ensures answer { IfSome (S.files store.old) (λ files.
+        Gives (policy_in command.now files) result) }
+    ensures counts { Counts (S.read_faults store.old) (S.read_faults store.new) result }
+    ensures kinds { IfErr result IsFileCause }
+{
+    let rules = read_rules(alloc, command, names, store)?;
+    with_kept(rules, read_kept(alloc, command, names, store))
+}
+
+// A store with the files of a sample.
+fn sample_store(alloc: Global) -> Result<SureStore, OutOfMemory>
+    ensures { IfOk result (λ store. store ≡ sample_files) }
+{
+    let mut store = SureStore::new(alloc);
+    store.put(alloc, SAMPLE_FILE, SPECS.as_bytes())?;
+    Ok(store)
+}
+
+// Reads the files of a sample, by the readers of any others.
+#[tactic(auto, using(crate::proofs::SampleLemmas::calm_counts))]
+fn read_sample(alloc: Global) -> Result<Policy, Cause>
+    ensures answer { Gives (policy_in (commands.Relabel sample_words) sample_files) result }
+    ensures counts { (count : ℕ) → Counts count count result }
+    ensures kinds { IfErr result IsFileCause }
+{
+    let command = Command::Relabel(sample_words(alloc)?);
+    let names = FileNames::of(alloc, &command)?;
+    let mut store = sample_store(alloc)?;
+    read_files(alloc, &command, &names, &mut store)
+}
+
+/// Reads the files that a command asks for: those of the policy, then that of the stored digests. A sample has files of its
+/// own, and leaves the store alone.
 pub fn read_policy<S: Store>(
     alloc: Global,
     command: &Command,
@@ -91,6 +137,8 @@ pub fn read_policy<S: Store>(
     ensures counts { Counts (S.read_faults store.old) (S.read_faults store.new) result }
     ensures kinds { IfErr result IsFileCause }
 {
-    let rules = read_rules(alloc, command, names, store)?;
-    with_kept(rules, read_kept(alloc, command, names, store))
+    match command {
+        Command::Sample(_) => read_sample(alloc),
+        Command::Relabel(_) | Command::Lookup(_) => read_files(alloc, command, names, store),
+    }
 }

@@ -186,8 +186,8 @@ const REFUSED_WORDS: &[(&[&str], &[u8])] = &[
         b"relabel: usage: word 3: needs -n or -o\n",
     ),
     (
-        &["restorecon", "-nD", "/"],
-        b"relabel: usage: word 1: not yet\n",
+        &["sample", "1000001"],
+        b"relabel: usage: word 1: bad number\n",
     ),
 ];
 
@@ -423,6 +423,30 @@ fn a_lookup_reads_no_types_and_no_records(rt: HostRuntime) -> Result<(), Fail> {
     let ran = run(rt.alloc(), words, files, RECORDS, &later)?;
     let lines = b"/etc/foo.conf\tu:r:foo_t:s0\n/x\t<<none>>\n".as_slice();
     assert!(rt; ran.refused(0, lines));
+    Ok(())
+}
+
+// A sample looks at no file and no record: no call of the store or the input may fail.
+#[test]
+fn a_sample_is_walked_twice(rt: HostRuntime) -> Result<(), Fail> {
+    let first = Failing {
+        store: 1,
+        input: 1,
+        ..NONE_FAILS
+    };
+    for (count, lines) in [
+        (
+            "0",
+            b"entries 1\nrelabelled 0\nconflicts 0\nerrors 0\nskipped again 1\nrelabelled again 0\n".as_slice(),
+        ),
+        (
+            "7",
+            b"entries 15\nrelabelled 2\nconflicts 3\nerrors 0\nskipped again 1\nrelabelled again 0\n",
+        ),
+    ] {
+        let ran = run(rt.alloc(), &["sample", count], &[], RECORDS, &first)?;
+        assert!(rt; ran.refused(0, lines), "at {count}");
+    }
     Ok(())
 }
 

@@ -6,6 +6,7 @@ ghost use Rattle.relabel_program.specs.Asked.{paths_in};
 ghost use Rattle.relabel_program.specs.Answer.{lookup_end, saved_as, told_by, told_by_looking_up, told_by_lookup, told_by_verifying, told_by_walk, told_of, walk_end};
 
 use crate::policy::Policy;
+use crate::sample::tell_sample;
 use label_base::{Bytes, Name, OutOfMemory};
 use relabel_core::{
     Stored, Walked, add_found_report, add_verified_report, walk_input, walk_uncounted,
@@ -206,5 +207,6 @@ pub fn tell_command(
     match command {
         Command::Relabel(words) => tell_walk(alloc, words, policy, tree),
         Command::Lookup(words) => tell_lookup(alloc, words, policy, tree),
+        Command::Sample(_) => tell_sample(alloc, policy, tree),
     }
 }

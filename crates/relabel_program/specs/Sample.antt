@@ -1,0 +1,131 @@
+-- A sample of a tree, walked twice.
+use Rattle.std.specs.Prelude.{ℕ, zero, suc, ◌+◌, Bool, true, false, List, [], ◌∷◌, ◌++◌, map, Option, Some, None, Result}
+use Rattle.std.specs.FinMap as map_of
+use Rattle.std.specs.Fmt.{decimal}
+use Rattle.label_base.specs.Bounded.{all_numbers}
+use Rattle.label_base.specs.Store.{Files}
+use Rattle.context_syntax.specs.declared.label.Label.{Label}
+use Rattle.find_records.specs.Record.{Record}
+use Rattle.tree_model.specs.Groups.{groups_in}
+use Rattle.tree_model.specs.Labelled.{labelled}
+use Rattle.tree_model.specs.declared.selection.Choice.{Choice}
+use Rattle.report_text.specs.Message.{MessageValue, Relabel, Conflict, Skipped}
+use Rattle.relabel_core.specs.Stored.{digests_listed, no_digests}
+use Rattle.relabel_core.specs.Walk.{StoredDigests, Walk, count, digests, errors, line, new_label, one_if}
+use Rattle.relabel_core.specs.Walked.{walk_for}
+use Rattle.relabel_core.specs.declared.options.Options.{Options}
+use Rattle.sample_tree.specs.declared.records.TheConstants.{SPECS}
+use Rattle.tool_words.specs.declared.command.RelabelWords.{RelabelWords}
+use Rattle.relabel_program.specs.declared.policy.Policy.{Policy}
+use Rattle.relabel_program.specs.declared.sample.LineKind.{LineKind}
+use Rattle.relabel_program.specs.declared.sample.LineKind.TheVariants as kinds
+use Rattle.relabel_program.specs.declared.sample.Summary.{Summary}
+use Rattle.relabel_program.specs.declared.sample.TheConstants.{CONFLICTS, ENTRIES, ERRORS, LINE_END, RELABELLED, RELABELLED_AGAIN, SAMPLE_FILE, SKIPPED_AGAIN}
+use Rattle.relabel_program.specs.declared.told.End.TheVariants.{Done}
+use Rattle.relabel_program.specs.declared.told.Told.{Told}
+
+-- what the walks are asked for: setfiles -F -v -D over the root
+abbrev pub sample_choice : Choice
+sample_choice = record { operands = [] ∷ []; excluded = []; recurse = true; one_device = false }
+
+abbrev pub sample_options : Options
+sample_options = record {
+  force = true;
+  dry = false;
+  digests = true;
+  ignore_digests = false;
+  verbose = true;
+  warn_unmatched = false;
+  strict_links = false;
+  ignore_absent = false;
+}
+
+abbrev pub sample_words : RelabelWords
+sample_words = record {
+  base = SAMPLE_FILE.now;
+  choice = sample_choice;
+  options = sample_options;
+  workers = 1;
+  soft_errors = false;
+  kept = None;
+  output = None;
+}
+
+-- the base file is the only file
+abbrev pub sample_files : Files
+sample_files = map_of.insert map_of.empty SAMPLE_FILE.now SPECS.now
+
+-- a walk over entries that have these digests
+abbrev pub sample_walk : Policy → List Record → StoredDigests → Walk
+sample_walk policy entries stored =
+    walk_for entries sample_choice policy.rules sample_options stored
+
+-- the first walk, where no digest is stored
+unfoldable pub first_walk : Policy → List Record → Walk
+first_walk policy entries = sample_walk policy entries no_digests
+
+-- the labels of the groups after a walk
+abbrev pub labels_after : Walk → List Label
+labels_after w = map (new_label w) (all_numbers (groups_in w.entries))
+
+-- the walk over the tree that another walk leaves, with its labels and its digests
+unfoldable pub walk_after : Policy → Walk → Walk
+walk_after policy w =
+    sample_walk policy (labelled (labels_after w) w.entries) (digests_listed (digests w))
+
+-- ---- what is told
+
+-- the line is of this kind
+abbrev pub is_of : LineKind → MessageValue → Bool
+is_of kinds.Relabelled (Relabel path from to dry) = true
+is_of kinds.Conflicting (Conflict first second used) = true
+is_of kinds.Skipping (Skipped path) = true
+is_of kind message = false
+
+abbrev pub has_line_of : LineKind → Option MessageValue → Bool
+has_line_of kind None = false
+has_line_of kind (Some message) = is_of kind message
+
+-- how many entries below n have a line of a kind
+abbrev pub lines_below : LineKind → Walk → ℕ → ℕ
+lines_below kind w zero = 0
+lines_below kind w (suc n) = lines_below kind w n + one_if (has_line_of kind (line w n))
+
+unfoldable pub lines_of : LineKind → Walk → ℕ
+lines_of kind w = lines_below kind w (count w)
+
+-- of the first walk the entries, the lines of labels that change, those of conflicts, and the errors;
+-- of the second the lines of directories that are skipped, and of labels that change
+abbrev pub summary_of : Walk → Walk → Summary
+summary_of first second = record {
+  entries = count first;
+  relabelled = lines_of kinds.Relabelled first;
+  conflicts = lines_of kinds.Conflicting first;
+  errors = errors first;
+  skipped_again = lines_of kinds.Skipping second;
+  relabelled_again = lines_of kinds.Relabelled second;
+}
+
+abbrev pub sample_summary : Policy → List Record → Summary
+sample_summary policy entries =
+    summary_of (first_walk policy entries) (walk_after policy (first_walk policy entries))
+
+unfoldable pub number_line : List ℕ → ℕ → List ℕ
+number_line name number = name ++ decimal number ++ LINE_END.now
+
+unfoldable pub summary_text : Summary → List ℕ
+summary_text s =
+    number_line ENTRIES.now s.entries
+    ++ number_line RELABELLED.now s.relabelled
+    ++ number_line CONFLICTS.now s.conflicts
+    ++ number_line ERRORS.now s.errors
+    ++ number_line SKIPPED_AGAIN.now s.skipped_again
+    ++ number_line RELABELLED_AGAIN.now s.relabelled_again
+
+-- what a sample tells, by the rules of its file and the entries of its tree
+unfoldable pub told_by_sample : Policy → List Record → Told
+told_by_sample policy entries = record {
+  report = summary_text (sample_summary policy entries);
+  end = Done;
+  saved = None;
+}

@@ -1,0 +1,298 @@
+ghost use Rattle.std.specs.Prelude.{◌≡◌, ℕ, ◌<◌, ◌≤◌, ◌++◌, ◌∷◌, ◌^◌, [], None, IfOk, OnOk, length, map};
+ghost use Rattle.std.specs.Fmt.{decimal};
+ghost use Rattle.label_base.specs.Bounded.{all_numbers};
+ghost use Rattle.report_text.specs.Message.{message_of};
+ghost use Rattle.relabel_core.specs.Answer.{walk_in};
+ghost use Rattle.relabel_core.specs.DigestAfter.{digest_told};
+ghost use Rattle.relabel_core.specs.Digests.{walk_before};
+ghost use Rattle.relabel_core.specs.Stored.{no_digests};
+ghost use Rattle.relabel_core.specs.Walk.{count, digests, line, one_if};
+ghost use Rattle.relabel_core.specs.Stored as stored_digests;
+ghost use Rattle.relabel_program.specs.declared.sample.LineKind.TheVariants as kinds;
+ghost use Rattle.relabel_program.specs.Sample.{first_walk, has_line_of, is_of, lines_of, number_line, sample_choice, sample_options, sample_summary, sample_walk, sample_words, summary_of, summary_text, told_by_sample, walk_after};
+
+use crate::policy::Policy;
+use crate::told::{End, Told};
+use label_base::{Bytes, Name, NormPath, OutOfMemory, Row};
+use relabel_core::{
+    DigestAfter, Digests, Options, Stored, VOID_DIGEST, Walked, next_labels, walk_input,
+    walk_uncounted,
+};
+use report_text::Message;
+use std::alloc::Global;
+use tool_words::RelabelWords;
+use tree_model::{Choice, Tree};
+
+/// The name of the base file of a sample, which stands in memory alone.
+pub const SAMPLE_FILE: &str = "file_contexts";
+
+// What stands before the numbers of the summary.
+const ENTRIES: &str = "entries ";
+
+const RELABELLED: &str = "relabelled ";
+
+const CONFLICTS: &str = "conflicts ";
+
+const ERRORS: &str = "errors ";
+
+const SKIPPED_AGAIN: &str = "skipped again ";
+
+const RELABELLED_AGAIN: &str = "relabelled again ";
+
+const LINE_END: &str = "\n";
+
+/// The lines of entries that a summary counts.
+#[derive(Clone, Copy, Debug)]
+pub enum LineKind {
+    /// A label changes.
+    Relabelled,
+    /// Two names of one inode are given different contexts.
+    Conflicting,
+    /// A directory is skipped.
+    Skipping,
+}
+
+/// What is counted of two walks over a sample.
+#[derive(Clone, Copy, Debug)]
+pub struct Summary {
+    pub entries: u32,
+    pub relabelled: u32,
+    pub conflicts: u32,
+    pub errors: u32,
+    pub skipped_again: u32,
+    pub relabelled_again: u32,
+}
+
+fn sample_choice(alloc: Global) -> Result<Choice, OutOfMemory>
+    ensures { IfOk result (λ choice. choice ≡ sample_choice) }
+{
+    let mut operands = Row::new(alloc);
+    operands.push(NormPath::root(alloc))?;
+    Ok(Choice {
+        operands,
+        excluded: Row::new(alloc),
+        recurse: true,
+        one_device: false,
+    })
+}
+
+fn sample_options() -> Options
+    ensures { result ≡ sample_options }
+{
+    Options {
+        force: true,
+        dry: false,
+        digests: true,
+        ignore_digests: false,
+        verbose: true,
+        warn_unmatched: false,
+        strict_links: false,
+        ignore_absent: false,
+    }
+}
+
+/// The words of a walk over a sample.
+pub fn sample_words(alloc: Global) -> Result<RelabelWords, OutOfMemory>
+    ensures { IfOk result (λ words. words ≡ sample_words) }
+{
+    Ok(RelabelWords {
+        base: Name::copy_of(alloc, SAMPLE_FILE)?,
+        choice: sample_choice(alloc)?,
+        options: sample_options(),
+        workers: 1,
+        soft_errors: false,
+        kept: None,
+        output: None,
+    })
+}
+
+fn is_of(kind: LineKind, message: &Message<'_>) -> bool
+    ensures { result ≡ is_of kind (message_of message.now) }
+{
+    match message {
+        Message::Relabel { .. } => match kind {
+            LineKind::Relabelled => true,
+            LineKind::Conflicting | LineKind::Skipping => false,
+        },
+        Message::Conflict { .. } => match kind {
+            LineKind::Conflicting => true,
+            LineKind::Relabelled | LineKind::Skipping => false,
+        },
+        Message::Skipped { .. } => match kind {
+            LineKind::Skipping => true,
+            LineKind::Relabelled | LineKind::Conflicting => false,
+        },
+        _ => false,
+    }
+}
+
+// One where an entry has a line of a kind, and else nothing.
+fn line_at(kind: LineKind, walked: &Walked<'_>, e: u32) -> u32
+    requires { e < count (walk_in walked.now) }
+    ensures value { result ≡ one_if (has_line_of kind (line (walk_in walked.now) e)) }
+    ensures few { result ≤ 1 }
+{
+    match walked.message_at(e) {
+        None => 0,
+        Some(message) => { if is_of(kind, &message) { 1 } else { 0 } }
+    }
+}
+
+// How many entries have a line of a kind.
+#[tactic(auto, using(crate::proofs::SampleLemmas::one_more_line), unfolding(crate::specs::Sample::lines_of))]
+fn lines_of(kind: LineKind, walked: &Walked<'_>) -> u32
+    ensures { result ≡ lines_of kind (walk_in walked.now) }
+{
+    let mut lines = 0;
+    'entries: for e in 0..walked.len() {
+        lines += line_at(kind, walked, e);
+    }
+    lines
+}
+
+// The digest of an entry after a walk before which none was stored.
+fn digest_of(alloc: Global, after: &DigestAfter<'_>) -> Result<Option<Bytes>, OutOfMemory>
+    ensures { IfOk result (λ digest. digest ≡ digest_told after.now None) }
+{
+    match after {
+        DigestAfter::Stays => Ok(None),
+        DigestAfter::Void => Ok(Some(Bytes::copy_of(alloc, VOID_DIGEST)?)),
+        DigestAfter::Anew(digest) => Ok(Some(Bytes::copy_of(alloc, digest.as_slice())?)),
+    }
+}
+
+// The digests of the entries after a walk before which none was stored.
+fn digests_of(alloc: Global, walked: &Walked<'_>) -> Result<Row<Option<Bytes>>, OutOfMemory>
+    requires { (walk_in walked.now).stored ≡ no_digests }
+    ensures { IfOk result (λ row. row ≡ digests (walk_in walked.now)) }
+{
+    let after = walked.digests(alloc)?;
+    let mut row = Row::with_capacity(alloc, walked.len() as usize)?;
+    'entries: for d in 0..walked.len() {
+        row.push(digest_of(alloc, &after.at(d))?)?;
+    }
+    Ok(row)
+}
+
+// Walks over a tree that has these digests, and counts the lines of two kinds.
+fn walk_again(
+    alloc: Global,
+    choice: &Choice,
+    policy: &Policy,
+    tree: &Tree,
+    stored: &Stored,
+) -> Result<(u32, u32), OutOfMemory>
+    requires choice { choice.now ≡ sample_choice }
+    requires tree { length tree.now < 2 ^ 31 }
+    ensures skipped { IfOk result (λ lines. lines.0
+        ≡ lines_of kinds.Skipping (sample_walk policy.now tree.now (stored_digests.digests_of stored.now))) }
+    ensures relabelled { IfOk result (λ lines. lines.1
+        ≡ lines_of kinds.Relabelled (sample_walk policy.now tree.now (stored_digests.digests_of stored.now))) }
+{
+    let chosen = tree.select(alloc, choice)?;
+    let input = walk_input(
+        tree,
+        choice,
+        &chosen,
+        &policy.rules,
+        sample_options(),
+        stored,
+    );
+    let walked = walk_uncounted(alloc, &input)?;
+    Ok((
+        lines_of(LineKind::Skipping, &walked),
+        lines_of(LineKind::Relabelled, &walked),
+    ))
+}
+
+// Walks over the tree that a walk leaves, with its labels and its digests.
+#[tactic(auto, unfolding(crate::specs::Sample::walk_after))]
+fn walk_after(
+    alloc: Global,
+    choice: &Choice,
+    policy: &Policy,
+    tree: &Tree,
+    first: &Walked<'_>,
+) -> Result<(u32, u32), OutOfMemory>
+    requires choice { choice.now ≡ sample_choice }
+    requires tree { length tree.now < 2 ^ 31 }
+    requires walk { (walk_in first.now).entries ≡ tree.now }
+    requires stored { (walk_in first.now).stored ≡ no_digests }
+    ensures skipped { IfOk result (λ lines. lines.0
+        ≡ lines_of kinds.Skipping (walk_after policy.now (walk_in first.now))) }
+    ensures relabelled { IfOk result (λ lines. lines.1
+        ≡ lines_of kinds.Relabelled (walk_after policy.now (walk_in first.now))) }
+{
+    let labels = next_labels(alloc, first)?;
+    let digests = digests_of(alloc, first)?;
+    let next = tree.with_labels(alloc, &labels)?;
+    let stored = Stored::of(alloc, &next, &digests)?;
+    walk_again(alloc, choice, policy, &next, &stored)
+}
+
+// Walks over a tree twice.
+#[tactic(auto, unfolding(crate::specs::Sample::first_walk))]
+fn summarize(alloc: Global, policy: &Policy, tree: &Tree) -> Result<Summary, OutOfMemory>
+    requires { length tree.now < 2 ^ 31 }
+    ensures { IfOk result (λ summary. summary ≡ sample_summary policy.now tree.now) }
+{
+    let choice = sample_choice(alloc)?;
+    let chosen = tree.select(alloc, &choice)?;
+    let stored = Stored::none(alloc);
+    let input = walk_input(
+        tree,
+        &choice,
+        &chosen,
+        &policy.rules,
+        sample_options(),
+        &stored,
+    );
+    let first = walk_uncounted(alloc, &input)?;
+    let (skipped_again, relabelled_again) = walk_after(alloc, &choice, policy, tree, &first)?;
+    Ok(Summary {
+        entries: first.len(),
+        relabelled: lines_of(LineKind::Relabelled, &first),
+        conflicts: lines_of(LineKind::Conflicting, &first),
+        errors: first.errors(),
+        skipped_again,
+        relabelled_again,
+    })
+}
+
+#[tactic(auto, unfolding(crate::specs::Sample::number_line))]
+fn add_line(alloc: Global, name: &str, number: u32, text: &mut Bytes) -> Result<(), OutOfMemory>
+    ensures { OnOk result (text.new ≡ text.old ++ number_line name.now number) }
+{
+    text.push(name.as_bytes())?;
+    text.push(format!(in alloc; "{number}")?.as_bytes())?;
+    text.push(LINE_END.as_bytes())
+}
+
+#[tactic(auto, unfolding(crate::specs::Sample::summary_text))]
+fn summary_text(alloc: Global, summary: &Summary) -> Result<Bytes, OutOfMemory>
+    ensures { IfOk result (λ text. text ≡ summary_text summary.now) }
+{
+    let mut text = Bytes::new(alloc);
+    add_line(alloc, ENTRIES, summary.entries, &mut text)?;
+    add_line(alloc, RELABELLED, summary.relabelled, &mut text)?;
+    add_line(alloc, CONFLICTS, summary.conflicts, &mut text)?;
+    add_line(alloc, ERRORS, summary.errors, &mut text)?;
+    add_line(alloc, SKIPPED_AGAIN, summary.skipped_again, &mut text)?;
+    add_line(alloc, RELABELLED_AGAIN, summary.relabelled_again, &mut text)?;
+    Ok(text)
+}
+
+/// What a sample tells, by the rules of its file and the tree of its records: it is walked, and walked again with the labels
+/// and digests that the first walk leaves.
+#[tactic(auto, unfolding(crate::specs::Sample::told_by_sample))]
+pub fn tell_sample(alloc: Global, policy: &Policy, tree: &Tree) -> Result<Told, OutOfMemory>
+    requires { length tree.now < 2 ^ 31 }
+    ensures { IfOk result (λ told. told ≡ told_by_sample policy.now tree.now) }
+{
+    let summary = summarize(alloc, policy, tree)?;
+    Ok(Told {
+        report: summary_text(alloc, &summary)?,
+        end: End::Done,
+        saved: None,
+    })
+}
