@@ -20,6 +20,22 @@ pub record Kinds : Type 1 where
   pub digest_of : Listing → Digest
   pub zero_digest : Digest
 
+-- the fact holds of these labels, contexts, listings and digests, however they are compared and made
+abbrev pub HoldsOf : (Kinds → Type 0) → (Label Context Listing Digest : Type 0) → Type 0
+HoldsOf Fact Label Context Listing Digest =
+    (same_label : Label → Label → Bool) (same_digest : Digest → Digest → Bool)
+    (digest_of : Listing → Digest) (zero_digest : Digest)
+    → Fact (record {
+      Label = Label;
+      Context = Context;
+      Listing = Listing;
+      Digest = Digest;
+      same_label = same_label;
+      same_digest = same_digest;
+      digest_of = digest_of;
+      zero_digest = zero_digest;
+    })
+
 -- A tree. Its entries are the numbers below count, in the order of the walk. group_of: the group of
 -- an entry, which are the names of one inode. in_extent d e: the entry e is d, or lies below it.
 pub record Tree : Type 0 where

@@ -6,8 +6,7 @@
 //! that a crate above says it of its own.
 #![tactic(auto)]
 
-ghost use Rattle.std.specs.Prelude.{◌≡◌, Bool};
-ghost use Rattle.skip_runs.specs.Relabel.{Kinds};
+ghost use Rattle.skip_runs.specs.Relabel.{HoldsOf};
 ghost use Rattle.skip_runs.specs.Skipping.{AlikeStaysAlike, OneMoreKeepsLabels, SkippingKeepsLabels};
 ghost use Rattle.skip_runs.specs.Ways.{Breaks, DifferByClash, DifferByListings, DifferByOldDigests, DifferByUnsettled, Happens, dry_renews, left_standing, names_outside, numbers, right_way, with_exclusions, zero_counts};
 
@@ -18,51 +17,18 @@ ghost use Rattle.skip_runs.specs.Ways.{Breaks, DifferByClash, DifferByListings, 
 /// is wanted; runs with equal listings of a directory decide the same in its extent, and change labels alike; and no
 /// two listings that are digested differ and have one digest. Nothing is asked of the tree.
 pub fn skipping_keeps_labels<Label, Context, Listing, Digest>()
-    ensures { (same_label : Label → Label → Bool) (same_digest : Digest → Digest → Bool)
-        (digest_of : Listing → Digest) (zero_digest : Digest)
-        → SkippingKeepsLabels (record {
-          Label = Label;
-          Context = Context;
-          Listing = Listing;
-          Digest = Digest;
-          same_label = same_label;
-          same_digest = same_digest;
-          digest_of = digest_of;
-          zero_digest = zero_digest;
-        }) }
+    ensures { HoldsOf SkippingKeepsLabels Label Context Listing Digest }
 {}
 
 /// After runs that began without digests, one more run leaves the labels that all of them leave with skipping off. Of
 /// the state before it only the labels of the tree's groups and the digests of its directories are asked.
 pub fn one_more_run_keeps_labels<Label, Context, Listing, Digest>()
-    ensures { (same_label : Label → Label → Bool) (same_digest : Digest → Digest → Bool)
-        (digest_of : Listing → Digest) (zero_digest : Digest)
-        → OneMoreKeepsLabels (record {
-          Label = Label;
-          Context = Context;
-          Listing = Listing;
-          Digest = Digest;
-          same_label = same_label;
-          same_digest = same_digest;
-          digest_of = digest_of;
-          zero_digest = zero_digest;
-        }) }
+    ensures { HoldsOf OneMoreKeepsLabels Label Context Listing Digest }
 {}
 
 /// From states that are alike on a tree, a run leaves states that are alike on it.
 pub fn alike_stays_alike<Label, Context, Listing, Digest>()
-    ensures { (same_label : Label → Label → Bool) (same_digest : Digest → Digest → Bool)
-        (digest_of : Listing → Digest) (zero_digest : Digest)
-        → AlikeStaysAlike (record {
-          Label = Label;
-          Context = Context;
-          Listing = Listing;
-          Digest = Digest;
-          same_label = same_label;
-          same_digest = same_digest;
-          digest_of = digest_of;
-          zero_digest = zero_digest;
-        }) }
+    ensures { HoldsOf AlikeStaysAlike Label Context Listing Digest }
 {}
 
 /// The premises are met by runs of which the second skips a directory.
