@@ -7,6 +7,7 @@ mod cut;
 mod escape;
 mod fault;
 mod file_store;
+mod greatest;
 mod kind;
 mod lines;
 mod mem_sink;
@@ -34,6 +35,7 @@ pub use cut::{
 pub use escape::{EscapeFault, octal_byte, read_escaped, write_escaped};
 pub use fault::Fault;
 pub use file_store::FileStore;
+pub use greatest::greater;
 pub use kind::{Asked, EntryKind, Part};
 pub use lines::{COMMENT_MARK, LineReader, LinesWhy, RefusedLine, read_lines, read_lines_within};
 pub use mem_sink::{MemSink, SureSink};

@@ -1,6 +1,5 @@
 ghost use Rattle.std.specs.Prelude.{◌≡◌, ◌≤◌, ◌<◌, ℕ, if◌then◌else◌, List, true, length, slice_get, Some, IfOk, IfSome, OnOk};
 ghost use Rattle.std.specs.Option.{option_copied};
-ghost use Rattle.label_base.specs.Bounded.{greater};
 ghost use Rattle.label_base.specs.Path.{are_names};
 ghost use Rattle.label_base.specs.PathRef.{path_of};
 ghost use Rattle.path_subs.specs.Listed.{IsListed, has_text, last_covering, number_under};
@@ -8,7 +7,7 @@ ghost use Rattle.path_subs.specs.Subs.{SubValue, covering, covers};
 
 use crate::sub::Sub;
 use indexmap::IndexMap;
-use label_base::{OutOfMemory, PathRef, Row};
+use label_base::{OutOfMemory, PathRef, Row, greater};
 use std::alloc::Global;
 use std::marker::Model;
 
@@ -42,17 +41,6 @@ fn number_under(last: &IndexMap<Vec<u8>, usize>, text: &[u8]) -> Option<usize>
     match last.get(text) {
         Some(number) => Some(*number),
         None => None,
-    }
-}
-
-// The greater of two numbers.
-fn greater(a: Option<usize>, b: Option<usize>) -> Option<usize>
-    ensures { result ≡ greater a b }
-{
-    match (a, b) {
-        (None, b) => b,
-        (Some(a), None) => Some(a),
-        (Some(a), Some(b)) => Some(a.max(b)),
     }
 }
 

@@ -1,5 +1,5 @@
 ghost use Rattle.std.specs.Prelude.{◌≡◌, ◌<◌, ◌%◌, ◌^◌, ◌&&◌, ◌==◌, IfOk, length, map};
-ghost use Rattle.label_base.specs.Bounded.{greater, greatest_below};
+ghost use Rattle.label_base.specs.Bounded.{greatest_below};
 ghost use Rattle.spec_match.specs.Chains.{AreStartsOf, fits_from, hashed, is_in, mixed};
 ghost use Rattle.pattern_match.specs.States.{AreStatesOf};
 ghost use Rattle.pattern_syntax.specs.Literal.{literal_start_of};
@@ -9,7 +9,7 @@ ghost use Rattle.spec_match.specs.StatesFor.{AreStatesFor, patterns_of, spec_in}
 
 use crate::answering::is_fit;
 use crate::rule::Rule;
-use label_base::{Asked, OutOfMemory};
+use label_base::{Asked, OutOfMemory, greater};
 use pattern_match::States;
 use std::alloc::Global;
 
@@ -46,17 +46,6 @@ fn hash_of(text: &[u8]) -> u64
         hash = mixed(hash, text[i]);
     }
     hash
-}
-
-// The greater of two numbers.
-fn greater(a: Option<usize>, b: Option<usize>) -> Option<usize>
-    ensures { result ≡ greater a b }
-{
-    match (a, b) {
-        (None, b) => b,
-        (Some(a), None) => Some(a),
-        (Some(a), Some(b)) => Some(a.max(b)),
-    }
 }
 
 // Whether a specification fits a text, and its pattern's literal start has so many bytes.
