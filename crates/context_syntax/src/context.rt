@@ -40,7 +40,12 @@ impl Model for Context {
     ghost invariant = { λ c. IsContext
         (record { user = c.user; role = c.role; kind = c.kind; range = c.range }) };
 
-    ghost inverse = { λ v. record { user = v.user; role = v.role; kind = v.kind; range = v.range } };
+    ghost inverse = { λ v. record {
+      user = v.user;
+      role = v.role;
+      kind = v.kind;
+      range = v.range;
+    } };
 }
 
 /// Why bytes gave no context.

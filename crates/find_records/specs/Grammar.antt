@@ -150,29 +150,36 @@ abbrev pub path_of : List ℕ → Result Path RecordWhy
 path_of bytes = path_from (path_read bytes)
 
 -- the record of the fields' values, or the first of them that is bad
-abbrev pub record_from : Option EntryKind → Option ℕ → Option ℕ → Label → Result Path RecordWhy → Result Record RecordWhy
+abbrev pub record_from : Option EntryKind → Option ℕ → Option ℕ → Label → Result Path RecordWhy
+    → Result Record RecordWhy
 record_from None device inode label path = Err BadType
 record_from (Some kind) None inode label path = Err BadNumber
 record_from (Some kind) (Some device) None label path = Err BadNumber
 record_from (Some kind) (Some device) (Some inode) label (Err why) = Err why
-record_from (Some kind) (Some device) (Some inode) label (Ok path) = Ok (record { kind = kind; device = device; inode = inode; label = label; path = path })
+record_from (Some kind) (Some device) (Some inode) label (Ok path) =
+    Ok (record { kind = kind; device = device; inode = inode; label = label; path = path })
 
 -- the record of the fields
 abbrev pub with_path : List ℕ → List ℕ → List ℕ → List ℕ → List ℕ → Result Record RecordWhy
-with_path letter device inode label path = record_from (kind_of letter) (number_of device) (number_of inode) (label_of label) (path_of path)
+with_path letter device inode label path =
+    record_from (kind_of letter) (number_of device) (number_of inode) (label_of label)
+    (path_of path)
 
 -- the fields so far, and what stands behind the last one's space, if it has one
-abbrev pub with_label : List ℕ → List ℕ → List ℕ → List ℕ → Option (List ℕ) → Result Record RecordWhy
+abbrev pub with_label : List ℕ → List ℕ → List ℕ → List ℕ → Option (List ℕ)
+    → Result Record RecordWhy
 with_label letter device inode label None = Err MissingField
 with_label letter device inode label (Some path) = with_path letter device inode label path
 
 abbrev pub with_inode : List ℕ → List ℕ → List ℕ → Option (List ℕ) → Result Record RecordWhy
 with_inode letter device inode None = Err MissingField
-with_inode letter device inode (Some rest) = with_label letter device inode (front is_space rest) (behind is_space rest)
+with_inode letter device inode (Some rest) =
+    with_label letter device inode (front is_space rest) (behind is_space rest)
 
 abbrev pub with_device : List ℕ → List ℕ → Option (List ℕ) → Result Record RecordWhy
 with_device letter device None = Err MissingField
-with_device letter device (Some rest) = with_inode letter device (front is_space rest) (behind is_space rest)
+with_device letter device (Some rest) =
+    with_inode letter device (front is_space rest) (behind is_space rest)
 
 abbrev pub with_letter : List ℕ → Option (List ℕ) → Result Record RecordWhy
 with_letter letter None = Err MissingField
@@ -206,10 +213,12 @@ ended number bytes true = numbered number (record_of bytes)
 
 -- what the piece with this number gives: too many first, then the end, then the grammar
 unfoldable pub meaning : ℕ → ℕ → List ℕ → Bool → Result Record RecordsFault
-meaning most number bytes is_ended = if nat_lt most number then Err TooMany else ended number bytes is_ended
+meaning most number bytes is_ended =
+    if nat_lt most number then Err TooMany else ended number bytes is_ended
 
 -- a first record before others; the first refusal decides
-abbrev pub onto : Result Record RecordsFault → Result (List Record) RecordsFault → Result (List Record) RecordsFault
+abbrev pub onto : Result Record RecordsFault → Result (List Record) RecordsFault
+    → Result (List Record) RecordsFault
 onto (Err why) rest = Err why
 onto (Ok first) (Err why) = Err why
 onto (Ok first) (Ok rest) = Ok (first ∷ rest)
@@ -217,7 +226,8 @@ onto (Ok first) (Ok rest) = Ok (first ∷ rest)
 -- all records of the pieces, of which the first has this number, or the first refusal
 abbrev pub all_from : ℕ → ℕ → List (List ℕ × Bool) → Result (List Record) RecordsFault
 all_from most number [] = Ok []
-all_from most number (piece ∷ pieces) = onto (meaning most number piece.0 piece.1) (all_from most (number + 1) pieces)
+all_from most number (piece ∷ pieces) =
+    onto (meaning most number piece.0 piece.1) (all_from most (number + 1) pieces)
 
 unfoldable pub records_from : ℕ → ℕ → List ℕ → Result (List Record) RecordsFault
 records_from most number bytes = all_from most number (pieces_of bytes)

@@ -45,7 +45,8 @@ impl Claims {
     ) -> Result<(Claims, Row<ClaimPass>), OutOfMemory>
         requires { 0 < passes }
         ensures groups { IfOk result (λ made. groups_of made.0 ≡ groups) }
-        ensures passes { IfOk result (λ made. (passes_of made.0 ≡ passes) × (length made.1 ≡ passes)) }
+        ensures passes { IfOk result (λ made. (passes_of made.0 ≡ passes)
+            × (length made.1 ≡ passes)) }
         ensures each { IfOk result
             (λ made. All (λ p. IsPassOf made.0 p × (claim_view p ≡ fresh 1)) made.1) }
     {
@@ -101,7 +102,8 @@ impl Claims {
         passes: u32,
     ) -> Result<Row<ClaimPass>, OutOfMemory>
         requires some { 0 < passes }
-        requires seat { (seat.table_id ≡ self.now.table.shared.table_id) × (seat.me ≡ (fresh passes, [])) }
+        requires seat { (seat.table_id ≡ self.now.table.shared.table_id)
+            × (seat.me ≡ (fresh passes, [])) }
         ensures len { IfOk result (λ all. length all ≡ passes) }
         ensures each { IfOk result
             (λ all. All (λ p. IsPassOf self.now p × (claim_view p ≡ fresh 1)) all) }
@@ -123,7 +125,8 @@ impl Claims {
 
     fn another(&self, seat: &mut Seat<u8, ClaimView>) -> ClaimPass
         requires table { seat.old.table_id ≡ self.now.table.shared.table_id }
-        requires view { (1 < seat.old.me.0.stands_for) × (seat.old.me.0.calls ≡ []) × (seat.old.me.1 ≡ []) }
+        requires view { (1 < seat.old.me.0.stands_for) × (seat.old.me.0.calls ≡ [])
+            × (seat.old.me.1 ≡ []) }
         ensures table { seat.new.table_id ≡ seat.old.table_id }
         ensures view { seat.new.me ≡ (fresh (seat.old.me.0.stands_for - 1), []) }
         ensures pass { IsPassOf self.now result × (claim_view result ≡ fresh 1) }

@@ -27,7 +27,8 @@ last_with subs n text = greatest_below n (λ i. has_text text (sub_at subs i))
 
 -- under the text of each source of the first n lines stands the last line of that source, and no source
 -- has more names than the deepest
-pub record IsListed {A : Type 0} (subs : List SubValue) (n : ℕ) (entries : List (Vec ℕ A × ℕ)) (deepest : ℕ) : Type 0 where
+pub record IsListed {A : Type 0} (subs : List SubValue) (n : ℕ) (entries : List (Vec ℕ A × ℕ))
+    (deepest : ℕ) : Type 0 where
   pub last : (text : List ℕ) → number_under text entries ≡ last_with subs n text
   pub some : (i : ℕ) → i < n → 0 < length (sub_at subs i).source
   pub named : (i : ℕ) → i < n → are_names (sub_at subs i).source ≡ true

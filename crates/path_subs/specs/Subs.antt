@@ -46,4 +46,6 @@ plain first second path = not (has_below first path) && not (has_below second (b
 
 -- names that are added to the path are added to its substitution
 abbrev pub KeepsBelow : List SubValue → List SubValue → Path → Type 0
-KeepsBelow first second path = (names : Path) → substituted first second (path ++ names) ≡ substituted first second path ++ names
+KeepsBelow first second path =
+    (names : Path)
+    → substituted first second (path ++ names) ≡ substituted first second path ++ names

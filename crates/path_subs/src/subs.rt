@@ -65,7 +65,8 @@ impl Subs {
     #[tactic(auto, using(crate::proofs::PlainPaths::plain_keeps))]
     pub fn plain_at(&self, path: &PathRef<'_>) -> bool
         ensures value { result ≡ plain self.now.first self.now.second (path_of path.now) }
-        ensures below { OnTrue result (KeepsBelow self.now.first self.now.second (path_of path.now)) }
+        ensures below { OnTrue result
+            (KeepsBelow self.now.first self.now.second (path_of path.now)) }
     {
         !has_source_below(&self.first, path)
             && !has_source_below_first(&self.second, &self.first, path)

@@ -12,7 +12,8 @@ HoldsTrees stack trees = reverse stack ≡ map automaton trees
 
 -- a node makes a stack of trees' automata into that of the trees after the node
 abbrev pub Builds : Node → List Automaton → List Automaton → Type 0
-Builds node old new = (trees : List Tree) → HoldsTrees old trees → HoldsTrees new (after_node node trees)
+Builds node old new =
+    (trees : List Tree) → HoldsTrees old trees → HoldsTrees new (after_node node trees)
 
 -- the stack holds the trees of the nodes before a later place
 pub record IsPut (nodes : List Node) (stack : List Automaton) (at next : ℕ) : Type 0 where

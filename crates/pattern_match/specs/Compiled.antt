@@ -11,4 +11,6 @@ pub record IsCompiled (m : Inside) : Type 0 where
   pub bare : m.is_bare ≡ is_bare (tree_of m.nodes.items)
   pub none : m.is_bare ≡ true → m.width ≡ 0
   pub rows : m.is_bare ≡ false → m.rows ≡ length (all_places (automaton (tree_of m.nodes.items)))
-  pub tables : m.is_bare ≡ false → AreTables m.width m.follow.items m.accept.items m.classes.items (all_places (automaton (tree_of m.nodes.items)))
+  pub tables : m.is_bare ≡ false
+      → AreTables m.width m.follow.items m.accept.items m.classes.items
+      (all_places (automaton (tree_of m.nodes.items)))

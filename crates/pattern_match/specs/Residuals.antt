@@ -29,22 +29,29 @@ and_then second residual = (residual.0, Both residual.1 second)
 -- the residuals of a repeat, from those of its piece: behind the first copy of the piece, the second and so on
 abbrev pub of_copies : ℕ → ℕ → Tree → List Residual → List Residual
 of_copies least zero piece rs = []
-of_copies least (suc most) piece rs = map (and_then (Repeat (pred least) (Some most) piece)) rs ++ of_copies (pred least) most piece rs
+of_copies least (suc most) piece rs =
+    map (and_then (Repeat (pred least) (Some most) piece)) rs
+    ++ of_copies (pred least) most piece rs
 
 abbrev pub of_endless : ℕ → Tree → List Residual → List Residual
 of_endless zero piece rs = map (and_then (Repeat 0 None piece)) rs
 of_endless (suc zero) piece rs = map (and_then (Repeat 0 None piece)) rs
-of_endless (suc (suc least)) piece rs = map (and_then (Repeat (suc least) None piece)) rs ++ of_endless (suc least) piece rs
+of_endless (suc (suc least)) piece rs =
+    map (and_then (Repeat (suc least) None piece)) rs ++ of_endless (suc least) piece rs
 
 -- the byte sets of a pattern from left to right, repeats written out, each with its residual; a set that leads to no text is left out
 abbrev pub residuals : Tree → List Residual
 residuals (Set []) = []
 residuals (Set (b ∷ bs)) = (b ∷ bs, Nothing) ∷ []
 residuals Nothing = []
-residuals (Both first second) = if has_texts first && has_texts second then map (and_then second) (residuals first) ++ residuals second else []
+residuals (Both first second) =
+    if has_texts first && has_texts second
+    then map (and_then second) (residuals first) ++ residuals second
+    else []
 residuals (Either left right) = residuals left ++ residuals right
 residuals (Repeat least None piece) = of_endless least piece (residuals piece)
-residuals (Repeat least (Some most) piece) = if nat_le least most then of_copies least most piece (residuals piece) else []
+residuals (Repeat least (Some most) piece) =
+    if nat_le least most then of_copies least most piece (residuals piece) else []
 
 -- with the whole pattern at the end, which is what is left before the first byte: there the byte 0 leads, which is in no text
 abbrev pub all_residuals : Tree → List Residual

@@ -28,12 +28,15 @@ pub record IsSkip (nodes : List Node) (start end : ℕ) : Type 0 where
 
 -- for each node, the last node of the greatest such part that begins there; another number where there is none
 abbrev pub AreSkips : List Node → List ℕ → Type 0
-AreSkips nodes skips = (start : ℕ) → start < slice_index skips start → IsSkip nodes start (slice_index skips start)
+AreSkips nodes skips =
+    (start : ℕ) → start < slice_index skips start → IsSkip nodes start (slice_index skips start)
 
 -- the nodes from each of these places on are one tree, up to the place of the next
 abbrev pub AreStarts : List Node → List ℕ → ℕ → Type 0
 AreStarts nodes [] k = Unit {0}
-AreStarts nodes (start ∷ starts) k = (start < k) × ((part : Tree) × (trees_before nodes k ≡ part ∷ trees_before nodes start)) × AreStarts nodes starts start
+AreStarts nodes (start ∷ starts) k =
+    (start < k) × ((part : Tree) × (trees_before nodes k ≡ part ∷ trees_before nodes start))
+    × AreStarts nodes starts start
 
 -- what is known before a node
 pub record IsNoted (nodes : List Node) (starts skips : List ℕ) (k : ℕ) : Type 0 where

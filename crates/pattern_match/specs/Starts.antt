@@ -11,7 +11,9 @@ unless_literal (Some bytes) tree = Nothing
 
 -- the sequence without its literal start; a choice of several has none
 abbrev pub behind_start : Tree → Tree
-behind_start (Both first second) = unless_literal (joined (single_bytes first) (single_byte second)) (Both (behind_start first) second)
+behind_start (Both first second) =
+    unless_literal (joined (single_bytes first) (single_byte second))
+    (Both (behind_start first) second)
 behind_start (Set bytes) = Set bytes
 behind_start Nothing = Nothing
 behind_start (Either left right) = Either left right

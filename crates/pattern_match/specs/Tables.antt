@@ -24,11 +24,13 @@ bytes_in place = place.bytes
 
 -- a row of so many words for each place, with the places that may follow it; the places that end a text; and the class of
 -- each place
-pub record AreTables (width : ℕ) (follow accept : List ℕ) (classes : List Class) (places : List Place) : Type 0 where
+pub record AreTables (width : ℕ) (follow accept : List ℕ) (classes : List Class)
+    (places : List Place) : Type 0 where
   pub wide : width ≡ (length places + 63) / 64
   pub rows : length follow ≡ length places * width
   pub accepts : length accept ≡ width
-  pub follows : (p q : ℕ) → p < length places → q < 64 * width → bit follow (64 * (p * width) + q) ≡ leads (slice_get places p) q
+  pub follows : (p q : ℕ) → p < length places → q < 64 * width
+      → bit follow (64 * (p * width) + q) ≡ leads (slice_get places p) q
   pub last : (p : ℕ) → p < 64 * width → bit accept p ≡ ends (slice_get places p)
   pub bytes : map class_bytes classes ≡ map bytes_in places
 

@@ -32,7 +32,8 @@ pub fn set_bit(words: &mut [u64], start: usize, k: usize)
 /// Adds the bits of the row that starts at a word.
 pub fn add_row(to: &mut Vec<u64>, table: &[u64], start: usize)
     requires { start + length to.old.items ≤ length table.now }
-    ensures bits { (k : ℕ) → k < 64 * length to.old.items → bit to.new.items k ≡ (bit to.old.items k || bit table.now (64 * start + k)) }
+    ensures bits { (k : ℕ) → k < 64 * length to.old.items
+        → bit to.new.items k ≡ (bit to.old.items k || bit table.now (64 * start + k)) }
     ensures words { length to.new.items ≡ length to.old.items }
 {
     for i in 0..to.len() {
@@ -43,7 +44,8 @@ pub fn add_row(to: &mut Vec<u64>, table: &[u64], start: usize)
 /// The word, with bit k set too if it is wanted.
 pub fn with_bit_if(word: u64, k: usize, is_wanted: bool) -> u64
     requires { k < 64 }
-    ensures { (j : ℕ) → j < 64 → (bit_at result j == 1) ≡ ((bit_at word j == 1) || (is_wanted && (j == k))) }
+    ensures { (j : ℕ) → j < 64
+        → (bit_at result j == 1) ≡ ((bit_at word j == 1) || (is_wanted && (j == k))) }
 {
     if is_wanted {
         return word | 1 << k;
@@ -64,8 +66,13 @@ pub fn clear(words: &mut Vec<u64>)
 // Adds the rows of the bits that are set in word i of the marks.
 fn add_marked(to: &mut Vec<u64>, word: u64, i: usize, table: &[u64])
     requires word { i < length to.old.items }
-    requires rows { (j : ℕ) → j < 64 → bit_at word j ≡ 1 → (64 * i + j) * length to.old.items + length to.old.items ≤ length table.now }
-    ensures bits { (k : ℕ) → k < 64 * length to.old.items → bit to.new.items k ≡ (bit to.old.items k || any_bit (λ j. (bit_at word j == 1) && bit table.now (64 * ((64 * i + j) * length to.old.items) + k))) }
+    requires rows { (j : ℕ) → j < 64 → bit_at word j ≡ 1
+        → (64 * i + j) * length to.old.items + length to.old.items ≤ length table.now }
+    ensures bits { (k : ℕ) → k < 64 * length to.old.items
+        → bit to.new.items k
+        ≡ (bit to.old.items k
+        || any_bit (λ j. (bit_at word j == 1)
+        && bit table.now (64 * ((64 * i + j) * length to.old.items) + k))) }
     ensures words { length to.new.items ≡ length to.old.items }
 {
     let mut left = word;
@@ -79,7 +86,9 @@ fn add_marked(to: &mut Vec<u64>, word: u64, i: usize, table: &[u64])
 /// The bits of all rows whose number is marked, where the marks and the rows are one word each.
 pub fn gathered(marks: u64, table: &[u64]) -> u64
     requires { (j : ℕ) → j < 64 → bit_at marks j ≡ 1 → j < length table.now }
-    ensures { (k : ℕ) → (bit_at result k == 1) ≡ any_bit (λ j. (bit_at marks j == 1) && (bit_at (slice_index table.now j) k == 1)) }
+    ensures { (k : ℕ)
+        → (bit_at result k == 1)
+        ≡ any_bit (λ j. (bit_at marks j == 1) && (bit_at (slice_index table.now j) k == 1)) }
 {
     let mut reached = 0;
     let mut left = marks;
@@ -93,8 +102,12 @@ pub fn gathered(marks: u64, table: &[u64]) -> u64
 /// Makes the bits those of all rows whose number is marked.
 pub fn gather(to: &mut Vec<u64>, marks: &[u64], table: &[u64])
     requires words { length marks.now ≡ length to.old.items }
-    requires rows { (p : ℕ) → bit marks.now p ≡ true → p * length to.old.items + length to.old.items ≤ length table.now }
-    ensures bits { (k : ℕ) → k < 64 * length to.old.items → bit to.new.items k ≡ any_below (λ p. bit marks.now p && bit table.now (64 * (p * length to.old.items) + k)) (64 * length to.old.items) }
+    requires rows { (p : ℕ) → bit marks.now p ≡ true
+        → p * length to.old.items + length to.old.items ≤ length table.now }
+    ensures bits { (k : ℕ) → k < 64 * length to.old.items
+        → bit to.new.items k
+        ≡ any_below (λ p. bit marks.now p
+        && bit table.now (64 * (p * length to.old.items) + k)) (64 * length to.old.items) }
     ensures words { length to.new.items ≡ length to.old.items }
 {
     clear(to);
@@ -105,7 +118,8 @@ pub fn gather(to: &mut Vec<u64>, marks: &[u64], table: &[u64])
 
 /// Sets bit k if it is wanted, and among the words.
 pub fn set_if(words: &mut Vec<u64>, k: usize, is_wanted: bool)
-    ensures bits { (j : ℕ) → j < 64 * length words.old.items → bit words.new.items j ≡ (bit words.old.items j || (is_wanted && (k == j))) }
+    ensures bits { (j : ℕ) → j < 64 * length words.old.items
+        → bit words.new.items j ≡ (bit words.old.items j || (is_wanted && (k == j))) }
     ensures words { length words.new.items ≡ length words.old.items }
 {
     if is_wanted {

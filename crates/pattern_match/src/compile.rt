@@ -93,7 +93,8 @@ fn put(alloc: Global, stack: &mut Vec<Fragment>, node: &Node) -> Result<(), OutO
 
 // A part that is repeated zero times.
 fn put_none(alloc: Global, stack: &mut Vec<Fragment>) -> Result<(), OutOfMemory>
-    ensures { OnOk result ((trees : List Tree) (part : Tree) → HoldsTrees stack.old.items trees → HoldsTrees stack.new.items (tree.Repeat 0 (Some 0) part ∷ trees)) }
+    ensures { OnOk result ((trees : List Tree) (part : Tree) → HoldsTrees stack.old.items trees
+        → HoldsTrees stack.new.items (tree.Repeat 0 (Some 0) part ∷ trees)) }
 {
     stack.push(Fragment::bare(alloc, true))?;
     Ok(())

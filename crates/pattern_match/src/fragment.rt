@@ -22,7 +22,12 @@ impl Model for Fragment {
 
     ghost Value = { Automaton };
 
-    ghost view = { λ f. record { places = f.positions.items; first = f.first.items; holds_empty = f.holds_empty; is_live = f.is_live } };
+    ghost view = { λ f. record {
+      places = f.positions.items;
+      first = f.first.items;
+      holds_empty = f.holds_empty;
+      is_live = f.is_live;
+    } };
 }
 
 // Lets another part follow, of which the first positions are given.
@@ -31,7 +36,8 @@ fn follow_each(
     holds_empty: bool,
     first: &[u32],
 ) -> Result<(), OutOfMemory>
-    ensures { OnOk result (positions.new.items ≡ map (followed holds_empty first.now) positions.old.items) }
+    ensures { OnOk result (positions.new.items
+        ≡ map (followed holds_empty first.now) positions.old.items) }
 {
     for position in positions.iter_mut() {
         position.follow(holds_empty, first)?;
@@ -45,7 +51,8 @@ fn append_moved(
     others: Vec<Position>,
     by: u32,
 ) -> Result<(), OutOfMemory>
-    ensures { OnOk result (positions.new.items ≡ positions.old.items ++ map (moved by) others.items) }
+    ensures { OnOk result (positions.new.items
+        ≡ positions.old.items ++ map (moved by) others.items) }
 {
     for other in others {
         let mut position = other;
@@ -82,7 +89,8 @@ fn counted_up(alloc: Global, numbers: &[u32], by: u32) -> Result<Vec<u32>, OutOf
 
 // The first positions of two parts in turn.
 fn first_of(is_optional: bool, first: Vec<u32>, later: &[u32]) -> Result<Vec<u32>, OutOfMemory>
-    ensures { IfOk result (λ all. all.items ≡ (if is_optional then first.items ++ later.now else first.items)) }
+    ensures { IfOk result (λ all. all.items
+        ≡ (if is_optional then first.items ++ later.now else first.items)) }
 {
     if !is_optional {
         return Ok(first);
@@ -100,7 +108,10 @@ fn append_copy(
     holds_empty: bool,
     first: &[u32],
 ) -> Result<(), OutOfMemory>
-    ensures { OnOk result (positions.new.items ≡ positions.old.items ++ map (moved (length positions.old.items)) (map (followed holds_empty first.now) piece.now)) }
+    ensures { OnOk result (positions.new.items
+        ≡ positions.old.items
+        ++ map (moved (length positions.old.items))
+        (map (followed holds_empty first.now) piece.now)) }
 {
     let by = count(positions.len())?;
     'piece: for position in piece {

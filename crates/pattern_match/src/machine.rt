@@ -94,7 +94,8 @@ impl Machine {
     /// The marks before the first byte of a text.
     pub fn marks(&self, alloc: Global) -> Result<Marks, OutOfMemory>
         ensures made { IfOk result (λ marks. AreMarksOf self.now marks) }
-        ensures starts { IfOk result (λ marks. (text : List ℕ) → IsBehind self.now marks text ↔ In self.now text) }
+        ensures starts { IfOk result (λ marks. (text : List ℕ) → IsBehind self.now marks text
+            ↔ In self.now text) }
     {
         let mut marks = Marks::new(alloc, self.width)?;
         marks.restart(self.rows);
@@ -115,7 +116,8 @@ impl Machine {
         requires some { is_bare self.now ≡ false }
         requires made { AreMarksOf self.now marks.old }
         ensures made { AreMarksOf self.now marks.new }
-        ensures behind { (text : List ℕ) → IsBehind self.now marks.old (byte ∷ text) ↔ IsBehind self.now marks.new text }
+        ensures behind { (text : List ℕ) → IsBehind self.now marks.old (byte ∷ text)
+            ↔ IsBehind self.now marks.new text }
     {
         marks.step(self.follow.as_slice(), self.classes.as_slice(), byte);
     }

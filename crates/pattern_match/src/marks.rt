@@ -57,7 +57,8 @@ impl Marks {
 
     /// Leaves the last of so many states alone.
     pub(crate) fn restart(&mut self, rows: usize)
-        ensures bits { (k : ℕ) → k < 64 * length self.old → bit self.new k ≡ (nat_lt 0 rows && (rows - 1 == k)) }
+        ensures bits { (k : ℕ) → k < 64 * length self.old
+            → bit self.new k ≡ (nat_lt 0 rows && (rows - 1 == k)) }
         ensures words { length self.new ≡ length self.old }
     {
         clear(&mut self.marks);
@@ -66,9 +67,14 @@ impl Marks {
 
     /// Goes on to the states that follow, and whose classes have the byte.
     pub(crate) fn step(&mut self, follow: &[u64], classes: &[Class], byte: u8)
-        requires rows { (p : ℕ) → bit self.old p ≡ true → p * length self.old + length self.old ≤ length follow.now }
+        requires rows { (p : ℕ) → bit self.old p ≡ true
+            → p * length self.old + length self.old ≤ length follow.now }
         requires room { 64 * length self.old < length classes.now + 64 }
-        ensures bits { (k : ℕ) → k < 64 * length self.old → bit self.new k ≡ (any_below (λ p. bit self.old p && bit follow.now (64 * (p * length self.old) + k)) (64 * length self.old) && takes_at classes.now k byte) }
+        ensures bits { (k : ℕ) → k < 64 * length self.old
+            → bit self.new k
+            ≡ (any_below (λ p. bit self.old p
+            && bit follow.now (64 * (p * length self.old) + k)) (64 * length self.old)
+            && takes_at classes.now k byte) }
         ensures words { length self.new ≡ length self.old }
     {
         if self.marks.len() == 1 {

@@ -22,7 +22,11 @@ impl Model for Position {
 
     ghost use Rattle.pattern_match.specs.Class.{class_bytes};
 
-    ghost view = { λ p. record { bytes = class_bytes p.class; is_last = p.is_last; next = p.next.items } };
+    ghost view = { λ p. record {
+      bytes = class_bytes p.class;
+      is_last = p.is_last;
+      next = p.next.items;
+    } };
 }
 
 impl Position {

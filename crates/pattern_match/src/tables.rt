@@ -12,7 +12,8 @@ use std::alloc::Global;
 
 // Marks the positions that may follow one.
 fn mark_next(row: &mut Vec<u64>, position: &Position)
-    ensures bits { (k : ℕ) → k < 64 * length row.old.items → bit row.new.items k ≡ list_any (λ n. n == k) position.now.next }
+    ensures bits { (k : ℕ) → k < 64 * length row.old.items
+        → bit row.new.items k ≡ list_any (λ n. n == k) position.now.next }
     ensures words { length row.new.items ≡ length row.old.items }
 {
     clear(row);
@@ -23,7 +24,8 @@ fn mark_next(row: &mut Vec<u64>, position: &Position)
 
 // Marks the positions behind which a text may end.
 fn mark_last(row: &mut Vec<u64>, positions: &[Position])
-    ensures bits { (k : ℕ) → k < 64 * length row.old.items → bit row.new.items k ≡ ends (slice_get positions.now k) }
+    ensures bits { (k : ℕ) → k < 64 * length row.old.items
+        → bit row.new.items k ≡ ends (slice_get positions.now k) }
     ensures words { length row.new.items ≡ length row.old.items }
 {
     clear(row);
@@ -39,7 +41,8 @@ pub fn follow_table(
     width: usize,
 ) -> Result<Vec<u64>, OutOfMemory>
     ensures words { IfOk result (λ table. length table.items ≡ length positions.now * width) }
-    ensures bits { IfOk result (λ table. (p k : ℕ) → p < length positions.now → k < 64 * width → bit table.items (64 * (p * width) + k) ≡ leads (slice_get positions.now p) k) }
+    ensures bits { IfOk result (λ table. (p k : ℕ) → p < length positions.now → k < 64 * width
+        → bit table.items (64 * (p * width) + k) ≡ leads (slice_get positions.now p) k) }
 {
     let mut row = no_bits(alloc, width)?;
     let mut table = Vec::new(alloc);
@@ -57,7 +60,8 @@ pub fn accept_row(
     width: usize,
 ) -> Result<Vec<u64>, OutOfMemory>
     ensures words { IfOk result (λ row. length row.items ≡ width) }
-    ensures bits { IfOk result (λ row. (k : ℕ) → k < 64 * width → bit row.items k ≡ ends (slice_get positions.now k)) }
+    ensures bits { IfOk result (λ row. (k : ℕ) → k < 64 * width
+        → bit row.items k ≡ ends (slice_get positions.now k)) }
 {
     let mut row = no_bits(alloc, width)?;
     mark_last(&mut row, positions);

@@ -19,7 +19,8 @@ fn has_at(classes: &[Class], i: usize, b: u8) -> bool
 /// The bits of a word whose classes have a byte, the classes counted from `start` on.
 pub fn taking(word: u64, start: usize, classes: &[Class], b: u8) -> u64
     requires { start + 64 < 2 ^ 64 }
-    ensures { (k : ℕ) → k < 64 → (bit_at result k == 1) ≡ ((bit_at word k == 1) && takes_at classes.now (start + k) b) }
+    ensures { (k : ℕ) → k < 64
+        → (bit_at result k == 1) ≡ ((bit_at word k == 1) && takes_at classes.now (start + k) b) }
 {
     let mut kept = 0;
     let mut left = word;
@@ -35,7 +36,8 @@ pub fn taking(word: u64, start: usize, classes: &[Class], b: u8) -> u64
 pub fn keep_taking(to: &mut Vec<u64>, from: &[u64], classes: &[Class], b: u8)
     requires words { length from.now ≡ length to.old.items }
     requires room { 64 * length to.old.items < length classes.now + 64 }
-    ensures bits { (k : ℕ) → k < 64 * length to.old.items → bit to.new.items k ≡ (bit from.now k && takes_at classes.now k b) }
+    ensures bits { (k : ℕ) → k < 64 * length to.old.items
+        → bit to.new.items k ≡ (bit from.now k && takes_at classes.now k b) }
     ensures words { length to.new.items ≡ length to.old.items }
 {
     'words: for i in 0..to.len() {

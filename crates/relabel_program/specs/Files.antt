@@ -60,7 +60,8 @@ abbrev pub spec_refusal : Part → LinesWhy SpecWhy → Cause
 spec_refusal part (Refused line) = SpecRefused part line.number line.why
 spec_refusal part TooMany = Limit Specs
 
-abbrev pub specs_from : Part → Result (List SpecValue) (LinesWhy SpecWhy) → Result (List SpecValue) Cause
+abbrev pub specs_from : Part → Result (List SpecValue) (LinesWhy SpecWhy)
+    → Result (List SpecValue) Cause
 specs_from part (Ok specs) = Ok specs
 specs_from part (Err why) = Err (spec_refusal part why)
 
@@ -69,7 +70,8 @@ unfoldable pub part_specs : FileNames → Part → ℕ → Files → Result (Lis
 part_specs names part room files =
     and_then (part_bytes names part files) (λ bytes. specs_from part (specs_of part room bytes))
 
-abbrev pub subs_from : Part → Result (List SubValue) (RefusedLine NoSub) → Result (List SubValue) Cause
+abbrev pub subs_from : Part → Result (List SubValue) (RefusedLine NoSub)
+    → Result (List SubValue) Cause
 subs_from part (Ok subs) = Ok subs
 subs_from part (Err line) = Err (SubRefused part line.number)
 
@@ -132,7 +134,8 @@ no_dump = record { sections = [] }
 
 -- no digests are stored where none are asked for
 abbrev pub kept_for : Command → Files → Result Dump Cause
-kept_for command files = if asks_kept command then kept_dump (names_for command) files else Ok no_dump
+kept_for command files =
+    if asks_kept command then kept_dump (names_for command) files else Ok no_dump
 
 -- rules with stored digests, where these were read
 abbrev pub with_kept : Rules → Result Dump Cause → Result Policy Cause

@@ -185,9 +185,11 @@ fn walk_again(
     requires choice { choice.now ≡ sample_choice }
     requires tree { length tree.now < 2 ^ 31 }
     ensures skipped { IfOk result (λ lines. lines.0
-        ≡ lines_of kinds.Skipping (sample_walk policy.now tree.now (stored_digests.digests_of stored.now))) }
+        ≡ lines_of kinds.Skipping
+        (sample_walk policy.now tree.now (stored_digests.digests_of stored.now))) }
     ensures relabelled { IfOk result (λ lines. lines.1
-        ≡ lines_of kinds.Relabelled (sample_walk policy.now tree.now (stored_digests.digests_of stored.now))) }
+        ≡ lines_of kinds.Relabelled
+        (sample_walk policy.now tree.now (stored_digests.digests_of stored.now))) }
 {
     let chosen = tree.select(alloc, choice)?;
     let input = walk_input(

@@ -20,7 +20,8 @@ list_behind trail zero = 0
 list_behind trail (suc k) = list_at trail k
 
 -- each list is right behind its byte and those before it
-pub record IsRightAt (patterns : List Tree) (lists : List (List Alive)) (trail : List Passed) (k : ℕ)
+pub record IsRightAt (patterns : List Tree) (lists : List (List Alive)) (trail : List Passed)
+    (k : ℕ)
     : Type 0 where
   pub within : list_at trail k < length lists
   pub alive : AreAlive patterns (map byte_in (take (suc k) trail)) (length patterns)

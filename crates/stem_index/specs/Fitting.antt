@@ -4,7 +4,8 @@ use Rattle.std.specs.List.{AllPairs, Contains}
 use Rattle.stem_index.specs.Stems.{fits, stem_at}
 
 -- these are the indices of the texts that have no stem or the name for their stem, the last first
-pub record AreCandidates (stems : List (List ℕ)) (name : List ℕ) (candidates : List ℕ) : Type 0 where
+pub record AreCandidates (stems : List (List ℕ)) (name : List ℕ)
+    (candidates : List ℕ) : Type 0 where
   pub each : (i : ℕ) → Contains candidates i
       ↔ ((i < length stems) × (fits name (stem_at stems i) ≡ true))
   pub falling : AllPairs (λ i j. j < i) candidates

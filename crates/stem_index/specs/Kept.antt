@@ -16,14 +16,17 @@ last_with stems n stem = greatest_below n (λ i. same_bytes stem (stem_at stems 
 
 -- under each stem stands the last text that has it, and with each text the one before it that has its
 -- stem
-pub record IsKept {A : Type 0} (stems : List (List ℕ)) (entries : List (Vec ℕ A × ℕ)) (before : List (Option ℕ)) : Type 0 where
+pub record IsKept {A : Type 0} (stems : List (List ℕ)) (entries : List (Vec ℕ A × ℕ))
+    (before : List (Option ℕ)) : Type 0 where
   pub last : (stem : List ℕ) → number_under stem entries ≡ last_with stems (length stems) stem
   pub sized : length before ≡ length stems
-  pub links : (i : ℕ) → i < length stems → get_or before i None ≡ last_with stems i (stem_at stems i)
+  pub links : (i : ℕ) → i < length stems
+      → get_or before i None ≡ last_with stems i (stem_at stems i)
   pub few : length stems < 2 ^ 32
 
 -- below a bound, the last text without a stem and the last one with this name for its stem
-pub record AreHeads (stems : List (List ℕ)) (name : List ℕ) (bound : ℕ) (free own : Option ℕ) : Type 0 where
+pub record AreHeads (stems : List (List ℕ)) (name : List ℕ) (bound : ℕ)
+    (free own : Option ℕ) : Type 0 where
   pub within : bound ≤ length stems
   pub free_is : free ≡ greatest_below bound (λ i. is_none (stem_at stems i))
   pub own_is : own ≡ greatest_below bound (λ i. is_stem name (stem_at stems i))

@@ -14,7 +14,9 @@ name_before name (Some rest) = name
 abbrev pub stem_of : List ℕ → List ℕ
 stem_of [] = []
 stem_of (b ∷ bs) =
-    if b == SLASH then name_before (front (λ c. c == SLASH) bs) (behind (λ c. c == SLASH) bs) else []
+    if b == SLASH
+    then name_before (front (λ c. c == SLASH) bs) (behind (λ c. c == SLASH) bs)
+    else []
 
 -- the first name of a path; that of the root is empty
 abbrev pub first_name : Path → List ℕ

@@ -137,7 +137,8 @@ impl StemIndex {
     /// The indices of the texts without a stem and of those whose stem is the path's first name, each
     /// once, in descending order.
     pub fn candidates<'a>(&'a self, path: &PathRef<'a>) -> Candidates<'a>
-        ensures { result ≡ candidates_below self.now (length self.now) (first_name (path_of path.now)) }
+        ensures { result
+            ≡ candidates_below self.now (length self.now) (first_name (path_of path.now)) }
     {
         Candidates::new(self, first_name(path))
     }

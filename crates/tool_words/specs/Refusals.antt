@@ -85,7 +85,8 @@ abbrev pub AreGood : List Item → Type 0
 AreGood items = AllByRecursion (λ item. item_wrong item ≡ None) items
 
 -- the first wrong thing that the words say
-pub record HasWrong (tool : Tool) (words : List (List ℕ)) (items : List Item) (wrong : Usage) : Type 0 where
+pub record HasWrong (tool : Tool) (words : List (List ℕ)) (items : List Item)
+    (wrong : Usage) : Type 0 where
   pub front : List Item
   pub item : Item
   pub rest : List Item
@@ -102,7 +103,8 @@ Lacks tool items NoOutput = (has_operand tool items ≡ true) × (lacks_output t
 Lacks tool items why = ⊥
 
 -- nothing that the words say is wrong, and something is missing at their end
-pub record HasWrongEnd (tool : Tool) (words : List (List ℕ)) (items : List Item) (wrong : Usage) : Type 0 where
+pub record HasWrongEnd (tool : Tool) (words : List (List ℕ)) (items : List Item)
+    (wrong : Usage) : Type 0 where
   pub good : AreGood items
   pub index : wrong.index ≡ length words
   pub lacks : Lacks tool items wrong.why
