@@ -144,9 +144,9 @@ impl<'a> Listings<'a> {
     fn add_relevant(
         &self,
         alloc: Global,
-        scratch: &mut Scratch,
         dir: &PathRef<'_>,
         path: &PathRef<'_>,
+        scratch: &mut Scratch,
         to: &mut Bytes,
     ) -> Result<(), OutOfMemory>
         requires own { IsScratchOf self.now.rules.now scratch.old }
@@ -185,7 +185,7 @@ impl<'a> Listings<'a> {
         add_field(LISTING_MARK, to)?;
         add_field(path.as_text(), to)?;
         to.push(self.shared.as_slice())?;
-        self.add_relevant(alloc, scratch, dir, path, to)
+        self.add_relevant(alloc, dir, path, scratch, to)
     }
 
     /// Writes the listing of a directory in place of what a buffer had. After want of memory the buffer has a front

@@ -58,6 +58,18 @@ fn text(alloc: Global, given: &Given<'_>) -> Result<Bytes, Fail> {
     Ok(answered.text)
 }
 
+// What a run with these options writes, where stored digests are these.
+fn text_with(alloc: Global, kept: &[u8], options: Options) -> Result<Bytes, Fail> {
+    text(
+        alloc,
+        &Given {
+            kept,
+            options,
+            ..SRV
+        },
+    )
+}
+
 #[test]
 fn a_first_run_digests(rt: HostRuntime) -> Result<(), Fail> {
     let text = text(rt.alloc(), &SRV)?;
@@ -103,33 +115,22 @@ fn a_new_specification_is_looked_at_where_it_reaches(rt: HostRuntime) -> Result<
 
 #[test]
 fn digests_are_ignored(rt: HostRuntime) -> Result<(), Fail> {
-    let text = text(
-        rt.alloc(),
-        &Given {
-            kept: SRV_DIGESTS,
-            options: Options {
-                ignore_digests: true,
-                ..SKIPPING
-            },
-            ..SRV
-        },
-    )?;
+    let options = Options {
+        ignore_digests: true,
+        ..SKIPPING
+    };
+    let text = text_with(rt.alloc(), SRV_DIGESTS, options)?;
     assert_eq!(rt; text.as_slice(), b"".as_slice());
     Ok(())
 }
 
 #[test]
 fn a_dry_run_makes_no_digest(rt: HostRuntime) -> Result<(), Fail> {
-    let text = text(
-        rt.alloc(),
-        &Given {
-            options: Options {
-                dry: true,
-                ..SKIPPING
-            },
-            ..SRV
-        },
-    )?;
+    let options = Options {
+        dry: true,
+        ..SKIPPING
+    };
+    let text = text_with(rt.alloc(), b"", options)?;
     assert_eq!(rt; text.as_slice(), b"".as_slice());
     Ok(())
 }

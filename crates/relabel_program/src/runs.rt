@@ -114,7 +114,7 @@ pub fn top<S: Store, I: Source, O: Sink>(
     input: &mut I,
     out: &mut O,
 ) -> Outcome
-    requires { length words.now < 2 ^ 31 }
+    requires few { length words.now < 2 ^ 31 }
     ensures status { result.status
         ≡ status_of (is_soft_in (command_of (word_texts words.now))) result.cause }
     ensures run { Run S.files S.read_faults S.write_faults I.left I.faults O.written O.faults
