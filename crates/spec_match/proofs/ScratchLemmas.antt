@@ -7,7 +7,7 @@ use Rattle.pattern_match.specs.States.{AreStatesOf, Progress}
 use Rattle.pattern_syntax.specs.Tree.{Tree, Nothing}
 use Rattle.spec_match.specs.StatesFor.{AreStatesFor, no_progress, pattern_in, patterns_of, spec_in}
 use Rattle.spec_match.specs.Remembering.{IsTableOf}
-use Rattle.spec_match.specs.Trail.{IsTrail}
+use Rattle.spec_match.specs.Trail.{IsTrail, trace_in}
 use Rattle.spec_match.specs.Scratches.{IsScratchOf}
 use Rattle.spec_match.specs.Alive.{AreAlive, IsOwn}
 use Rattle.spec_match.specs.Carrying.{Carrying, IsAliveAt, IsCarriedOf, StandsAt}
@@ -34,7 +34,7 @@ module _ (rules : List Rule) (specs : List SpecValue) (same : map spec_in rules 
     states = subst (λ ps. AreStatesFor ps w.states.items) patterns_same ready.states;
     table = subst (λ ps. IsTableOf ps specs (kept_in w.table)) patterns_same (subst (λ ss. IsTableOf (patterns_of rules) ss (kept_in w.table)) same ready.table);
     draft = ready.draft;
-    trail = subst (λ ps. IsTrail ps w.table.lists.lists w.table.trail.items) patterns_same ready.trail;
+    trail = subst (λ ps. IsTrail ps w.table.lists.lists (trace_in w.table.trail)) patterns_same ready.trail;
   }
 
   pub ready_in : (w : Workspace) → IsScratchOf specs (room_in w) → IsWorkspaceFor rules w
@@ -43,7 +43,7 @@ module _ (rules : List Rule) (specs : List SpecValue) (same : map spec_in rules 
     states = subst (λ ps. AreStatesFor ps w.states.items) (sym patterns_same) own.states;
     table = subst (λ ss. IsTableOf (patterns_of rules) ss (kept_in w.table)) (sym same) (subst (λ ps. IsTableOf ps specs (kept_in w.table)) (sym patterns_same) own.table);
     draft = own.draft;
-    trail = subst (λ ps. IsTrail ps w.table.lists.lists w.table.trail.items) (sym patterns_same) own.trail;
+    trail = subst (λ ps. IsTrail ps w.table.lists.lists (trace_in w.table.trail)) (sym patterns_same) own.trail;
   }
 
   pub carried_of : (carried : Carrying) → All (IsOwn (patterns_of rules)) carried.alive → IsCarriedOf specs carried

@@ -115,14 +115,14 @@ step_noted ps specs k from byte to t f b o leads = record {
   answers = t.answers;
 }
 
-pub step_recalled : (ps : List Tree) (specs : List SpecValue) (k : Kept) (from byte known : ℕ) → IsTableOf ps specs k → from < length k.lists → byte < 256 → known ≡ get_or k.next (256 * from + byte) known → 0 < known → HasStep ps k.lists from byte known
-step_recalled ps specs k from byte known t f b e h =
+pub step_known : (ps : List Tree) (lists : List (List Alive)) (next : List ℕ) (from byte known : ℕ) → Remembers (IsStep ps lists) next → from < length lists → byte < 256 → length next ≡ 256 * length lists → known ≡ slice_index next (256 * from + byte) → 0 < known → HasStep ps lists from byte known
+step_known ps lists next from byte known t f b rows e h =
     let q : (256 * from + byte) / 256 ≡ from = omega (arith, b) in
     let r : (256 * from + byte) % 256 ≡ byte = omega (arith, b) in
     let s : suc (known - 1) ≡ known = omega (arith, h) in
     let p = 256 * from + byte in
-    let had : HasStep ps k.lists (p / 256) (p % 256) (suc (known - 1)) = recalled (IsStep ps k.lists) k.next p known t.steps (omega (arith, t.rows, f, b)) e h in
-    subst (λ n. HasStep ps k.lists n byte known) q (subst (λ n. HasStep ps k.lists (p / 256) n known) r (subst (λ n. HasStep ps k.lists (p / 256) (p % 256) n) s had))
+    let had : HasStep ps lists (p / 256) (p % 256) (suc (known - 1)) = t.entry p (known - 1) (sym e ∙ sym s) in
+    subst (λ n. HasStep ps lists n byte known) q (subst (λ n. HasStep ps lists (p / 256) n known) r (subst (λ n. HasStep ps lists (p / 256) (p % 256) n) s had))
 
 asked_back : (asked : Asked) → asked_of (asked_number asked) ≡ asked
 asked_back Any = refl

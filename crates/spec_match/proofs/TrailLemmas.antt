@@ -1,24 +1,19 @@
 -- The trail of the text that was read last.
-use Rattle.std.proofs.Common.{◌≡◌, ◌∙◌, refl, sym, ap, subst, ℕ, zero, suc, ◌+◌, ◌<◌, ◌≤◌, ◌⊎◌, inl, inr, Bool, true, false, cond, List, [], ◌∷◌, ◌++◌, length, length-append, length-take, get_or, take, map, arith}
-use Rattle.std.proofs.Math.ListN.{get_or-append}
+use Rattle.std.proofs.Common.{◌≡◌, ◌∙◌, refl, sym, ap, subst, ℕ, zero, suc, ◌+◌, ◌-◌, ◌*◌, ◌<◌, ◌≤◌, ◌⊎◌, inl, inr, min, Bool, true, false, List, [], ◌∷◌, ◌++◌, length, length-take, length-set, get_or, get_or-set_same, get_or-set_other, set, slice_index, take, drop, if◌then◌else◌, nat_lt, arith}
+use Rattle.std.proofs.Math.Seq.{take-add}
 use Rattle.std.proofs.lemmas.Bool.{cases_lt}
-use Rattle.std.proofs.lemmas.List.{get_or_push, get_or-take, take_all, take-append-le, take_more}
+use Rattle.std.proofs.lemmas.Bool.Decides.{nat_tests}
+use Rattle.std.proofs.lemmas.List.{take_all, take_more}
 use Rattle.pattern_syntax.specs.Tree.{Tree}
 use Rattle.spec_match.specs.Alive.{Alive, AreAlive, list_of}
-use Rattle.spec_match.specs.Remembering.{IsGrown}
-use Rattle.spec_match.specs.Trail.{IsRightAt, IsTrail, IsTrailOf, byte_in, list_at, list_behind, none_passed}
-use Rattle.spec_match.specs.declared.trail.Passed.{Passed}
-use Rattle.spec_match.proofs.TableLemmas.{grown_by, grown_longer}
+use Rattle.spec_match.specs.Remembering.{HasStep, IsGrown, IsStep, Remembers}
+use Rattle.spec_match.specs.Trail.{AreRightTo, IsOnWay, IsRead, IsRightAt, IsTrail, Trace, list_behind}
+use Rattle.spec_match.proofs.TableLemmas.{grown_by, grown_longer, step_known}
 
-pub no_trail : (ps : List Tree) (lists : List (List Alive)) → IsTrail ps lists []
-no_trail ps lists = record { right = λ k l. absurd (omega (arith, l)) }
-
-pub trail_grown : (ps : List Tree) (old new : List (List Alive)) (trail : List Passed) → IsGrown old new → IsTrail ps old trail → IsTrail ps new trail
-trail_grown ps old new trail g t = record {
-  right = λ k l. let r = t.right k l in record {
-    within = omega (arith, r.within, grown_longer old new g);
-    alive = subst (λ list. AreAlive ps (map byte_in (take (suc k) trail)) (length ps) list) (sym (grown_by old new (list_at trail k) g r.within)) r.alive;
-  };
+pub no_trail : (ps : List Tree) (lists : List (List Alive)) (trace : Trace) → trace.known ≡ 0 → IsTrail ps lists trace
+no_trail ps lists trace none = record {
+  short = omega (arith, none);
+  right = λ k l n. absurd (omega (arith, l, none));
 }
 
 take_twice : {X : Type 0} (m n : ℕ) (xs : List X) → m ≤ n → take m (take n xs) ≡ take m xs
@@ -27,80 +22,153 @@ take_twice (suc m) zero xs l = absurd (omega (arith, l))
 take_twice (suc m) (suc n) [] l = refl
 take_twice (suc m) (suc n) (x ∷ xs) l = ap (λ ys. x ∷ ys) (take_twice m n xs (omega (arith, l)))
 
-pub trail_cut : (ps : List Tree) (lists : List (List Alive)) (trail : List Passed) (n : ℕ) → IsTrail ps lists trail → IsTrail ps lists (take n trail)
-trail_cut ps lists trail n t = record {
-  right = λ k l.
-      let below : k < n = omega (arith, l, length-take n trail) in
-      let r = t.right k (omega (arith, l, length-take n trail)) in
-      let same = ap (λ (p : Passed). p.list) (get_or-take n trail k none_passed below) in record {
-        within = subst (λ j. j < length lists) (sym same) r.within;
-        alive = subst (λ j. AreAlive ps (map byte_in (take (suc k) (take n trail))) (length ps) (list_of lists j)) (sym same)
-            (subst (λ w. AreAlive ps (map byte_in w) (length ps) (list_of lists (list_at trail k))) (sym (take_twice (suc k) n trail (omega (arith, below)))) r.alive);
-      };
+-- texts with the same front have the same lesser fronts
+pub same_before : (m n : ℕ) (xs ys : List ℕ) → m ≤ n → take n xs ≡ take n ys → take m xs ≡ take m ys
+same_before m n xs ys l e = sym (take_twice m n xs l) ∙ ap (take m) e ∙ take_twice m n ys l
+
+right_grown : (ps : List Tree) (old new : List (List Alive)) (text numbers : List ℕ) (count : ℕ) → IsGrown old new → AreRightTo ps old text numbers count → AreRightTo ps new text numbers count
+right_grown ps old new text numbers count g t = λ k l n. let r = t k l n in record {
+  within = omega (arith, r.within, grown_longer old new g);
+  alive = subst (λ list. AreAlive ps (take (suc k) text) (length ps) list) (sym (grown_by old new (slice_index numbers k) g r.within)) r.alive;
 }
 
-map_push : (xs : List Passed) (x : Passed) → map byte_in (xs ++ x ∷ []) ≡ map byte_in xs ++ x.byte ∷ []
-map_push [] x = refl
-map_push (y ∷ xs) x = ap (λ ys. y.byte ∷ ys) (map_push xs x)
+right_in : (ps : List Tree) (lists : List (List Alive)) (a b numbers : List ℕ) (n count : ℕ) → count ≤ n → take n a ≡ take n b → AreRightTo ps lists a numbers count → AreRightTo ps lists b numbers count
+right_in ps lists a b numbers n count l e t = λ k h m. let r = t k h m in record {
+  within = r.within;
+  alive = subst (λ w. AreAlive ps w (length ps) (list_of lists (slice_index numbers k))) (same_before (suc k) n a b (omega (arith, h, l)) e) r.alive;
+}
+
+right_less : (ps : List Tree) (lists : List (List Alive)) (text numbers : List ℕ) (m n : ℕ) → m ≤ n → AreRightTo ps lists text numbers n → AreRightTo ps lists text numbers m
+right_less ps lists text numbers m n l t = λ k h i. t k (omega (arith, h, l)) i
+
+pub read_grown : (ps : List Tree) (old new : List (List Alive)) (text numbers : List ℕ) (at list : ℕ) → IsGrown old new → IsRead ps old text numbers at list → AreRightTo ps new text numbers at
+read_grown ps old new text numbers at list g r = right_grown ps old new text numbers at g r.right
+
+-- the list from which a text is read on
+pub begun : (ps : List Tree) (lists : List (List Alive)) (text : List ℕ) (old new : Trace) (n : ℕ)
+    → n ≤ old.known → n ≤ length old.lists → n ≤ length text → take n old.text ≡ take n text → 0 < length lists → AreAlive ps [] (length ps) (list_of lists 0)
+    → new.lists ≡ old.lists → new.known ≡ n → n ≤ length new.text → new.text ≡ take (length new.text) text
+    → IsTrail ps lists old → IsOnWay ps lists text new n (list_behind old.lists n)
+begun ps lists text old new n known room inside same some first lists_are known_is short text_is trail = record {
+  read = record {
+    inside = inside;
+    within = (start n room known same).0;
+    alive = (start n room known same).1;
+    right = subst (λ ns. AreRightTo ps lists text ns n) (sym lists_are)
+        (right_in ps lists old.text text old.lists n n (omega arith) same (right_less ps lists old.text old.lists n old.known known trail.right));
+  };
+  same = text_is;
+  short = omega (arith, known_is, short);
+  low = omega (arith, known_is);
+}
+  where
+    start : (m : ℕ) → m ≤ length old.lists → m ≤ old.known → take m old.text ≡ take m text
+        → (list_behind old.lists m < length lists) × AreAlive ps (take m text) (length ps) (list_of lists (list_behind old.lists m))
+    start zero r k e = (some, first)
+    start (suc m) r k e =
+        let a = trail.right m (omega (arith, k)) (omega (arith, r)) in
+        (a.within, subst (λ w. AreAlive ps w (length ps) (list_of lists (slice_index old.lists m))) e a.alive)
+
+noted_at : (numbers : List ℕ) (i v k : ℕ) → k < i → slice_index (set numbers i v) k ≡ slice_index numbers k
+noted_at numbers i v k l = get_or-set_other numbers i k v 0 (λ e. omega (arith, l, e))
 
 before_or_last : (i n : ℕ) → i < n + 1 → (i < n) ⊎ (n ≡ i)
 before_or_last i n l = elim (cases_lt i n) [ inl before ↦ inl before | inr after ↦ inr (omega (arith, after, l)) ]
 
-trail_more : (ps : List Tree) (lists : List (List Alive)) (trail : List Passed) (x : Passed) → IsTrail ps lists trail → x.list < length lists → AreAlive ps (map byte_in trail ++ x.byte ∷ []) (length ps) (list_of lists x.list) → IsTrail ps lists (trail ++ x ∷ [])
-trail_more ps lists trail x t w a = record {
-  right = λ k l. elim (before_or_last k (length trail) (omega (arith, l, length-append trail (x ∷ [])))) [
-    | inl before ↦ old k before
-    | inr here ↦ new k here
-  ];
+-- the text is read by a byte more, whose list is noted where there is room for it
+pub read_more_by : (ps : List Tree) (lists : List (List Alive)) (text old new : List ℕ) (i list : ℕ) (has_room : Bool)
+    → ((has_room ≡ true → i < length old) × (has_room ≡ false → length old ≤ i))
+    → i < length text → list < length lists → AreAlive ps (take i text ++ get_or text i 0 ∷ []) (length ps) (list_of lists list)
+    → new ≡ (if has_room then set old i list else old)
+    → AreRightTo ps lists text old i → IsRead ps lists text new (i + 1) list
+read_more_by ps lists text old new i list has_room room l w a e t = record {
+  inside = omega (arith, l);
+  within = w;
+  alive = whole;
+  right = subst (λ ns. AreRightTo ps lists text ns (i + 1)) (sym e) (right has_room room.0 room.1);
 }
   where
-    old : (k : ℕ) → k < length trail → IsRightAt ps lists (trail ++ x ∷ []) k
-    old k l =
-        let r = t.right k l in
-        let same = ap (λ (p : Passed). p.list) (get_or-append trail (x ∷ []) none_passed k l) in record {
-          within = subst (λ j. j < length lists) (sym same) r.within;
-          alive = subst (λ j. AreAlive ps (map byte_in (take (suc k) (trail ++ x ∷ []))) (length ps) (list_of lists j)) (sym same)
-              (subst (λ v. AreAlive ps (map byte_in v) (length ps) (list_of lists (list_at trail k))) (sym (take-append-le (suc k) trail (x ∷ []) (omega (arith, l)))) r.alive);
-        }
+    whole : AreAlive ps (take (i + 1) text) (length ps) (list_of lists list)
+    whole = subst (λ v. AreAlive ps v (length ps) (list_of lists list)) (sym (take_more text i 0 l)) a
 
-    new : (k : ℕ) → length trail ≡ k → IsRightAt ps lists (trail ++ x ∷ []) k
-    new k e =
-        let same = ap (λ (p : Passed). p.list) (get_or_push trail x none_passed k e) in
-        let whole = take_all (suc k) (trail ++ x ∷ []) (omega (arith, e, length-append trail (x ∷ []))) in record {
-          within = subst (λ j. j < length lists) (sym same) w;
-          alive = subst (λ j. AreAlive ps (map byte_in (take (suc k) (trail ++ x ∷ []))) (length ps) (list_of lists j)) (sym same)
-              (subst (λ v. AreAlive ps v (length ps) (list_of lists x.list)) (sym (ap (λ v. map byte_in v) whole ∙ map_push trail x)) a);
-        }
+    right : (has : Bool) → (has ≡ true → i < length old) → (has ≡ false → length old ≤ i) → AreRightTo ps lists text (if has then set old i list else old) (i + 1)
+    right true here _ = λ k h n. elim (before_or_last k i h) [
+      | inl before ↦ (let r = t k before (omega (arith, n, length-set old i list)) in record {
+        within = subst (λ j. j < length lists) (sym (noted_at old i list k before)) r.within;
+        alive = subst (λ j. AreAlive ps (take (suc k) text) (length ps) (list_of lists j)) (sym (noted_at old i list k before)) r.alive;
+      })
+      | inr last ↦ subst (λ j. IsRightAt ps lists text (set old i list) j) last (record {
+        within = subst (λ j. j < length lists) (sym (get_or-set_same old i list 0 (here refl))) w;
+        alive = subst (λ j. AreAlive ps (take (suc i) text) (length ps) (list_of lists j)) (sym (get_or-set_same old i list 0 (here refl)))
+            (let next : i + 1 ≡ suc i = omega arith in subst (λ m. AreAlive ps (take m text) (length ps) (list_of lists list)) next whole);
+      })
+    ]
+    right false _ none = λ k h n. t k (omega (arith, n, none refl)) n
 
--- the trail behind one byte more, whether it was noted or not
-pub trail_on : (ps : List Tree) (lists : List (List Alive)) (text : List ℕ) (old new : List Passed) (x : Passed) (i : ℕ) (noted : Bool) → i < length text → x.byte ≡ get_or text i 0 → x.list < length lists → AreAlive ps (take i text ++ x.byte ∷ []) (length ps) (list_of lists x.list) → new ≡ cond noted (old ++ x ∷ []) old → (noted ≡ true → length old ≡ i) → IsTrailOf ps lists text old → IsTrailOf ps lists text new
-trail_on ps lists text old new x i true l b w a e at t =
-    let here = at refl in
-    let bytes : map byte_in old ≡ take i text = t.bytes ∙ ap (λ n. take n text) here in
-    let count : length (old ++ x ∷ []) ≡ i + 1 = length-append old (x ∷ []) ∙ ap (λ n. n + 1) here in
-    subst (IsTrailOf ps lists text) (sym e) (record {
-      right = trail_more ps lists old x t.right w (subst (λ v. AreAlive ps (v ++ x.byte ∷ []) (length ps) (list_of lists x.list)) (sym bytes) a);
-      bytes = map_push old x ∙ ap (λ v. v ++ x.byte ∷ []) bytes ∙ ap (λ c. take i text ++ c ∷ []) b ∙ sym (take_more text i 0 l) ∙ ap (λ n. take n text) (sym count);
-    })
-trail_on ps lists text old new x i false l b w a e at t = subst (IsTrailOf ps lists text) (sym e) t
+-- a step that is known
+pub read_known : (ps : List Tree) (lists : List (List Alive)) (next text old new : List ℕ) (i from to : ℕ) (has_room : Bool)
+    → ((has_room ≡ true → i < length old) × (has_room ≡ false → length old ≤ i))
+    → i < length text → get_or text i 0 < 256 → from < length lists → length next ≡ 256 * length lists
+    → to ≡ slice_index next (256 * from + get_or text i 0) → 0 < to
+    → new ≡ (if has_room then set old i to else old)
+    → Remembers (IsStep ps lists) next → IsRead ps lists text old i from → IsRead ps lists text new (i + 1) to
+read_known ps lists next text old new i from to has_room room l b f rows e some n steps r =
+    let step : HasStep ps lists from (get_or text i 0) to = step_known ps lists next from (get_or text i 0) to steps f b rows e some in
+    read_more_by ps lists text old new i to has_room room l step.to_within (step.leads (take i text) r.alive) n r.right
 
-pub trail_begun : (ps : List Tree) (lists : List (List Alive)) (text : List ℕ) (old new : List Passed) (n : ℕ) → n ≤ length old → map byte_in (take n old) ≡ take n text → new ≡ take n old → IsTrail ps lists old → IsTrailOf ps lists text new
-trail_begun ps lists text old new n l b e t =
-    let count : length (take n old) ≡ n = omega (arith, l, length-take n old) in
-    subst (IsTrailOf ps lists text) (sym e) (record {
-      right = trail_cut ps lists old n t;
-      bytes = b ∙ ap (λ k. take k text) (sym count);
-    })
+-- texts that go on with the same bytes behind the same front
+pub take_both : (n m : ℕ) (xs ys : List ℕ) → take n xs ≡ take n ys → take m (drop n xs) ≡ take m (drop n ys) → take (n + m) xs ≡ take (n + m) ys
+take_both n m xs ys e h = take-add n m xs ∙ (λ i. e i ++ h i) ∙ sym (take-add n m ys)
 
--- the list from which a text is read on
-pub record IsStart (ps : List Tree) (lists : List (List Alive)) (text : List ℕ) (n number : ℕ) : Type 0 where
-  pub within : number < length lists
-  pub alive : AreAlive ps (take n text) (length ps) (list_of lists number)
+pub numbers_within : (ps : List Tree) (lists : List (List Alive)) (next : List ℕ) → Remembers (IsStep ps lists) next → 0 < length lists → (p : ℕ) → slice_index next p < length lists
+numbers_within ps lists next steps some p = at (slice_index next p) refl
+  where
+    at : (n : ℕ) → slice_index next p ≡ n → slice_index next p < length lists
+    at zero e = omega (arith, e, some)
+    at (suc v) e = let w = (steps.entry p v e).to_within in omega (arith, e, w)
 
-pub started_behind : (ps : List Tree) (lists : List (List Alive)) (text : List ℕ) (trail : List Passed) (n : ℕ) → n ≤ length trail → map byte_in (take n trail) ≡ take n text → IsTrail ps lists trail → 0 < length lists → AreAlive ps [] (length ps) (list_of lists 0) → IsStart ps lists text n (list_behind trail n)
-started_behind ps lists text trail zero l b t s f = record { within = s; alive = f }
-started_behind ps lists text trail (suc k) l b t s f =
-    let r = t.right k (omega (arith, l)) in record {
-      within = r.within;
-      alive = subst (λ w. AreAlive ps w (length ps) (list_of lists (list_at trail k))) b r.alive;
+pub room_for : (i n : ℕ) → (nat_lt i n ≡ true → i < n) × (nat_lt i n ≡ false → n ≤ i)
+room_for i n = ((λ e. grind (arith, nat_tests)), (λ e. grind (arith, nat_tests)))
+
+pub trail_of_way : (ps : List Tree) (lists : List (List Alive)) (text : List ℕ) (trace : Trace) (at list : ℕ) → IsOnWay ps lists text trace at list → IsTrail ps lists trace
+trail_of_way ps lists text trace at list way =
+    let whole : take (length trace.text) text ≡ take (length trace.text) trace.text = sym way.same ∙ sym (take_all (length trace.text) trace.text (omega arith)) in record {
+      short = way.short;
+      right = right_in ps lists text trace.text trace.lists (length trace.text) trace.known way.short whole (right_less ps lists text trace.lists trace.known at way.low way.read.right);
     }
+
+-- the way by a byte more
+pub way_more : (ps : List Tree) (old new : List (List Alive)) (text : List ℕ) (trace : Trace) (numbers : List ℕ) (at list to : ℕ)
+    → IsGrown old new → at < length text → to < length new → AreAlive ps (take at text ++ get_or text at 0 ∷ []) (length ps) (list_of new to)
+    → numbers ≡ (if nat_lt at (length trace.lists) then set trace.lists at to else trace.lists)
+    → IsOnWay ps old text trace at list → IsOnWay ps new text (record { text = trace.text; lists = numbers; known = trace.known }) (at + 1) to
+way_more ps old new text trace numbers at list to g l w a e way = record {
+  read = read_more_by ps new text trace.lists numbers at to (nat_lt at (length trace.lists)) (room_for at (length trace.lists)) l w a e (read_grown ps old new text trace.lists at list g way.read);
+  same = way.same;
+  short = way.short;
+  low = omega (arith, way.low);
+}
+
+-- the way as far as it was followed
+pub way_followed : (ps : List Tree) (lists : List (List Alive)) (text : List ℕ) (old new : Trace) (from at list to : ℕ)
+    → from ≤ at → new.text ≡ old.text → new.known ≡ min at (length old.text) → IsOnWay ps lists text old from list
+    → IsRead ps lists text new.lists at to → IsOnWay ps lists text new at to
+way_followed ps lists text old new from at list to l text_is known way read = record {
+  read = read;
+  same = subst (λ w. w ≡ take (length w) text) (sym text_is) way.same;
+  short = omega (arith, known, ap (λ (w : List ℕ). length w) text_is);
+  low = omega (arith, known);
+}
+
+-- a text's front, and then as much of the rest as there is room for
+pub front_taken : (old text cut new rest : List ℕ) (start : ℕ) → start ≤ length old → start ≤ length text → take start old ≡ take start text → cut ≡ take start old
+    → rest ≡ drop start text → length cut ≤ length new → ((n : ℕ) → length new ≡ length cut + n → new ≡ cut ++ take n rest) → new ≡ take (length new) text
+front_taken old text cut new rest start o t same is behind grown front =
+    let n = length new - length cut in
+    let count : length cut ≡ start = omega (arith, o, length-take start old, ap (λ (w : List ℕ). length w) is) in
+    let all : length new ≡ length cut + n = omega (arith, grown) in
+    let whole : start + n ≡ length new = omega (arith, count, all) in
+    front n all
+    ∙ (λ i. (is ∙ same) i ++ take n (behind i))
+    ∙ sym (take-add start n text)
+    ∙ ap (λ m. take m text) whole

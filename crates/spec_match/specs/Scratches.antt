@@ -4,8 +4,7 @@ use Rattle.pattern_match.specs.States.{Progress}
 use Rattle.spec_reader.specs.SpecValue.{SpecValue}
 use Rattle.spec_match.specs.Alive.{Alive}
 use Rattle.spec_match.specs.Remembering.{Kept, IsTableOf}
-use Rattle.spec_match.specs.Trail.{IsTrail}
-use Rattle.spec_match.specs.declared.trail.Passed.{Passed}
+use Rattle.spec_match.specs.Trail.{IsTrail, Trace}
 use Rattle.spec_match.specs.StatesFor.{AreStatesFor, pattern_in}
 
 -- states for each pattern, what is remembered, what is being written, and the text that was read last
@@ -13,7 +12,7 @@ pub record Room : Type 0 where
   pub states : List Progress
   pub table : Kept
   pub draft : List Alive
-  pub trail : List Passed
+  pub trail : Trace
 
 pub record IsReady (specs : List SpecValue) (room : Room) : Type 0 where
   pub states : AreStatesFor (map pattern_in specs) room.states

@@ -1,9 +1,11 @@
 -- What a table keeps, as contracts see it.
-use Rattle.std.specs.Prelude.{List, map}
+use Rattle.std.specs.Prelude.{ℕ, List, map}
 use Rattle.spec_match.specs.Remembering.{IsTableOf, Kept, kept}
 use Rattle.spec_match.specs.StatesFor.{patterns_of, spec_in}
+use Rattle.spec_match.specs.Trail.{IsOnWay, IsTrail, trace_in}
 use Rattle.spec_match.specs.declared.rule.Rule.{Rule}
 use Rattle.spec_match.specs.declared.table.Table.{Table}
+use Rattle.spec_match.specs.declared.trail.Reached.{Reached}
 
 abbrev pub kept_in : Table → Kept
 kept_in t = kept t.lists.lists t.next.items t.answers.items
@@ -11,3 +13,12 @@ kept_in t = kept t.lists.lists t.next.items t.answers.items
 -- what the table keeps is right for the specifications
 abbrev pub IsTableFor : List Rule → Table → Type 0
 IsTableFor rules t = IsTableOf (patterns_of rules) (map spec_in rules) (kept_in t)
+
+-- what it keeps of the text that was read last is right
+abbrev pub IsTrailFor : List Rule → Table → Type 0
+IsTrailFor rules t = IsTrail (patterns_of rules) t.lists.lists (trace_in t.trail)
+
+-- it has read a text up to a place
+abbrev pub IsOnWayFor : List Rule → Table → List ℕ → Reached → Type 0
+IsOnWayFor rules t text to =
+    IsOnWay (patterns_of rules) t.lists.lists text (trace_in t.trail) to.at to.list

@@ -1,38 +1,56 @@
 -- The text that was read last, and the list behind each of its bytes.
-use Rattle.std.specs.Prelude.{◌≡◌, ℕ, zero, suc, ◌<◌, List, length, map, take}
-use Rattle.std.specs.List.{slice_index_or}
+use Rattle.std.specs.Prelude.{◌≡◌, ℕ, zero, suc, ◌<◌, ◌≤◌, List, length, slice_index, take}
 use Rattle.pattern_syntax.specs.Tree.{Tree}
 use Rattle.spec_match.specs.Alive.{Alive, AreAlive, list_of}
-use Rattle.spec_match.specs.declared.trail.Passed.{Passed}
+use Rattle.spec_match.specs.declared.trail.Trail.{Trail}
 
-abbrev pub byte_in : Passed → ℕ
-byte_in passed = passed.byte
+-- a text, the numbers of the lists behind its bytes, and of how many bytes these are known
+pub record Trace : Type 0 where
+  pub text : List ℕ
+  pub lists : List ℕ
+  pub known : ℕ
 
-abbrev pub none_passed : Passed
-none_passed = record { byte = 0; list = 0 }
-
-abbrev pub list_at : List Passed → ℕ → ℕ
-list_at trail k = (slice_index_or trail k none_passed).list
+abbrev pub trace_in : Trail → Trace
+trace_in t = record { text = t.text.items; lists = t.lists.items; known = t.known }
 
 -- the number of the list behind so many bytes
-abbrev pub list_behind : List Passed → ℕ → ℕ
-list_behind trail zero = 0
-list_behind trail (suc k) = list_at trail k
+abbrev pub list_behind : List ℕ → ℕ → ℕ
+list_behind lists zero = 0
+list_behind lists (suc k) = slice_index lists k
 
--- each list is right behind its byte and those before it
-pub record IsRightAt (patterns : List Tree) (lists : List (List Alive)) (trail : List Passed)
-    (k : ℕ)
+-- the number at a place is that of the list behind the bytes up to there
+pub record IsRightAt (patterns : List Tree) (lists : List (List Alive)) (text numbers : List ℕ)
+    (k : ℕ) : Type 0 where
+  pub within : slice_index numbers k < length lists
+  pub alive : AreAlive patterns (take (suc k) text) (length patterns)
+      (list_of lists (slice_index numbers k))
+
+-- so are all numbers before a place
+abbrev pub AreRightTo : List Tree → List (List Alive) → List ℕ → List ℕ → ℕ → Type 0
+AreRightTo patterns lists text numbers count =
+    (k : ℕ) → k < count → k < length numbers → IsRightAt patterns lists text numbers k
+
+pub record IsTrail (patterns : List Tree) (lists : List (List Alive)) (trace : Trace)
     : Type 0 where
-  pub within : list_at trail k < length lists
-  pub alive : AreAlive patterns (map byte_in (take (suc k) trail)) (length patterns)
-      (list_of lists (list_at trail k))
+  pub short : trace.known ≤ length trace.text
+  pub right : AreRightTo patterns lists trace.text trace.lists trace.known
 
-pub record IsTrail (patterns : List Tree) (lists : List (List Alive)) (trail : List Passed)
-    : Type 0 where
-  pub right : (k : ℕ) → k < length trail → IsRightAt patterns lists trail k
+-- the text was read up to a place, behind which a list is
+pub record IsRead (patterns : List Tree) (lists : List (List Alive)) (text : List ℕ)
+    (numbers : List ℕ) (at list : ℕ) : Type 0 where
+  pub inside : at ≤ length text
+  pub within : list < length lists
+  pub alive : AreAlive patterns (take at text) (length patterns) (list_of lists list)
+  pub right : AreRightTo patterns lists text numbers at
 
--- the trail is one of the text, as far as it goes
-pub record IsTrailOf (patterns : List Tree) (lists : List (List Alive)) (text : List ℕ)
-    (trail : List Passed) : Type 0 where
-  pub right : IsTrail patterns lists trail
-  pub bytes : map byte_in trail ≡ take (length trail) text
+-- the trail is one of a text that was read up to a place
+pub record IsOnWay (patterns : List Tree) (lists : List (List Alive)) (text : List ℕ)
+    (trace : Trace) (at list : ℕ) : Type 0 where
+  pub read : IsRead patterns lists text trace.lists at list
+  pub same : trace.text ≡ take (length trace.text) text
+  pub short : trace.known ≤ length trace.text
+  pub low : trace.known ≤ at
+
+-- each entry is the number of a list
+abbrev pub AreNumbers : ℕ → List ℕ → Type 0
+AreNumbers count row = (p : ℕ) → slice_index row p < count

@@ -3,7 +3,7 @@ use Rattle.std.specs.Prelude.{◌≡◌, List, []}
 use Rattle.spec_match.specs.Scratches.{Room}
 use Rattle.spec_match.specs.StatesFor.{AreStatesFor, patterns_of}
 use Rattle.spec_match.specs.Tables.{IsTableFor, kept_in}
-use Rattle.spec_match.specs.Trail.{IsTrail}
+use Rattle.spec_match.specs.Trail.{IsTrail, trace_in}
 use Rattle.spec_match.specs.declared.rule.Rule.{Rule}
 use Rattle.spec_match.specs.declared.workspace.Workspace.{Workspace}
 
@@ -12,7 +12,7 @@ room_in w = record {
   states = w.states.items;
   table = kept_in w.table;
   draft = w.table.lists.draft;
-  trail = w.table.trail.items;
+  trail = trace_in w.table.trail;
 }
 
 -- look-ups in these specifications may work in it
@@ -20,4 +20,4 @@ pub record IsWorkspaceFor (rules : List Rule) (w : Workspace) : Type 0 where
   pub states : AreStatesFor (patterns_of rules) w.states.items
   pub table : IsTableFor rules w.table
   pub draft : w.table.lists.draft ≡ []
-  pub trail : IsTrail (patterns_of rules) w.table.lists.lists w.table.trail.items
+  pub trail : IsTrail (patterns_of rules) w.table.lists.lists (trace_in w.table.trail)

@@ -6,23 +6,20 @@ ghost use Rattle.spec_reader.specs.SpecValue.{SpecValue};
 ghost use Rattle.spec_match.specs.Alive.{AreAlive, IsOwn, Leads, list_of};
 ghost use Rattle.spec_match.specs.Remembering.{CanBeAdded, IsAnswer, IsGrown, IsTableOf, decoded, kept, with_list};
 ghost use Rattle.spec_match.specs.StatesFor.{AreStatesFor, patterns_of, spec_in};
-ghost use Rattle.spec_match.specs.Tables.{IsTableFor, kept_in};
-ghost use Rattle.spec_match.specs.Trail.{IsTrail};
+ghost use Rattle.spec_match.specs.Tables.{IsOnWayFor, IsTableFor, IsTrailFor, kept_in};
+ghost use Rattle.spec_match.specs.Trail.{trace_in};
 
 use crate::answering::{asked_number, first_fit};
 use crate::lists::Lists;
 use crate::rule::Rule;
 use crate::stepping::{start_all, step_all};
-use crate::trail::{Passed, common, list_behind, note_passed};
+use crate::trail::{NONE_ALIVE, Reached, Trail, follow, list_behind, note};
 use label_base::{Asked, OutOfMemory};
 use pattern_match::States;
 use std::alloc::Global;
 
 // In how many slots a list is looked for.
 const TRIES: usize = 8;
-
-// The list of no specification.
-const NONE_ALIVE: usize = 1;
 
 // After how many look-ups the lists are begun. Fewer are found sooner without them.
 const FIRST_LOOK_UPS: u64 = 32;
@@ -45,8 +42,7 @@ pub struct Table {
     pub(crate) answers: Vec<u32>,
     // Guesses at which list may be one, by its hash.
     slots: Vec<u32>,
-    // The text that was read last, and the list behind each of its bytes.
-    pub(crate) trail: Vec<Passed>,
+    pub(crate) trail: Trail,
     // How many specifications of lists were looked at.
     pub(crate) tried: u64,
     // How many look-ups there were since all was forgotten.
@@ -143,7 +139,7 @@ impl Table {
     ) -> Result<Table, OutOfMemory>
         ensures kept { IfOk result (λ table. kept_in table ≡ kept [] [] []) }
         ensures draft { IfOk result (λ table. table.lists.draft ≡ []) }
-        ensures trail { IfOk result (λ table. table.trail.items ≡ []) }
+        ensures trail { IfOk result (λ table. table.trail.known ≡ 0) }
     {
         let Some(steps) = lists.checked_mul(256) else {
             return Err(OutOfMemory);
@@ -159,7 +155,7 @@ impl Table {
             next: Vec::with_capacity(alloc, steps)?,
             answers: Vec::with_capacity(alloc, answers)?,
             slots: vec![in alloc; 0u32; slots]?,
-            trail: Vec::with_capacity(alloc, LONGEST_TRAIL)?,
+            trail: Trail::new(alloc, LONGEST_TRAIL)?,
             tried: 0,
             look_ups: 0,
             is_full: true,
@@ -174,7 +170,7 @@ impl Table {
             ≡ with_list (kept_in self.old) self.old.lists.draft) }
         ensures number { IfSome result (λ number. number ≡ length self.old.lists.lists) }
         ensures draft { self.new.lists.draft ≡ [] }
-        ensures trail { self.new.trail.items ≡ self.old.trail.items }
+        ensures trail { trace_in self.new.trail ≡ trace_in self.old.trail }
         ensures table { (patterns : List Tree) (specs : List SpecValue)
             → IsTableOf patterns specs (kept_in self.old)
             → CanBeAdded patterns self.old.lists
@@ -205,7 +201,7 @@ impl Table {
             → All (IsOwn patterns) self.old.lists.draft
             → IsTableOf patterns specs (kept_in self.new) }
         ensures draft { self.new.lists.draft ≡ [] }
-        ensures trail { self.new.trail.items ≡ self.old.trail.items }
+        ensures trail { trace_in self.new.trail ≡ trace_in self.old.trail }
         ensures grown { IsGrown self.old.lists.lists self.new.lists.lists }
         ensures within { IfSome result (λ number. number < length self.new.lists.lists) }
         ensures found { IfSome result (λ number.
@@ -227,7 +223,7 @@ impl Table {
     fn fill(&mut self)
         ensures kept { kept_in self.new ≡ kept_in self.old }
         ensures draft { self.new.lists.draft ≡ self.old.lists.draft }
-        ensures trail { self.new.trail.items ≡ self.old.trail.items }
+        ensures trail { trace_in self.new.trail ≡ trace_in self.old.trail }
     {
         self.is_full = true;
         let lists = (self.lists.len() as u64).saturating_mul(LOOK_UPS_A_LIST);
@@ -252,7 +248,7 @@ impl Table {
         ensures draft { self.new.lists.draft ≡ [] }
         ensures begun { 1 < length self.new.lists.lists }
         ensures grown { IsGrown self.old.lists.lists self.new.lists.lists }
-        ensures trail { self.new.trail.items ≡ self.old.trail.items }
+        ensures trail { trace_in self.new.trail ≡ trace_in self.old.trail }
         ensures within { IfSome result (λ to. to < length self.new.lists.lists) }
         ensures leads { IfSome result (λ to. Leads (patterns_of rules.now) (byte ∷ [])
             (list_of self.old.lists.lists from) (list_of self.new.lists.lists to)) }
@@ -282,34 +278,71 @@ impl Table {
         }
     }
 
-    // The list that a byte leads to, where it is known or there is room for it.
-    fn step(
+    // Begins a text behind what it has in common with the one that was read last.
+    fn begin(&mut self, rules: &[Rule], text: &[u8]) -> Reached
+        requires table { IsTableFor rules.now self.old }
+        requires begun { 1 < length self.old.lists.lists }
+        requires trail { IsTrailFor rules.now self.old }
+        ensures kept { kept_in self.new ≡ kept_in self.old }
+        ensures draft { self.new.lists.draft ≡ self.old.lists.draft }
+        ensures way { IsOnWayFor rules.now self.new text.now result }
+    {
+        let at = self.trail.common(text);
+        let list = list_behind(self.trail.lists.as_slice(), at);
+        self.trail.begin(text, at);
+        Reached { at, list }
+    }
+
+    // Reads a text on while it is known where to.
+    fn follow(&mut self, rules: &[Rule], text: &[u8], from: Reached) -> Reached
+        requires table { IsTableFor rules.now self.old }
+        requires begun { 1 < length self.old.lists.lists }
+        requires way { IsOnWayFor rules.now self.old text.now from }
+        ensures kept { kept_in self.new ≡ kept_in self.old }
+        ensures draft { self.new.lists.draft ≡ self.old.lists.draft }
+        ensures low { from.at ≤ result.at }
+        ensures way { IsOnWayFor rules.now self.new text.now result }
+    {
+        let count = self.lists.len();
+        let reached = follow(
+            self.next.as_slice(),
+            count,
+            &mut self.trail.lists,
+            text,
+            from,
+        );
+        self.trail.reach(reached.at);
+        reached
+    }
+
+    // Reads one byte of a text, where there is room for the list to which it leads.
+    fn read_byte(
         &mut self,
         rules: &[Rule],
         states: &mut Vec<States>,
-        from: usize,
-        byte: u8,
-    ) -> Option<usize>
+        text: &[u8],
+        from: Reached,
+    ) -> Option<Reached>
         requires states { AreStatesFor (patterns_of rules.now) states.old.items }
         requires table { IsTableFor rules.now self.old }
         requires draft { self.old.lists.draft ≡ [] }
         requires begun { 1 < length self.old.lists.lists }
-        requires from { from < length self.old.lists.lists }
+        requires inside { from.at < length text.now }
+        requires way { IsOnWayFor rules.now self.old text.now from }
         ensures states { AreStatesFor (patterns_of rules.now) states.new.items }
         ensures table { IsTableFor rules.now self.new }
         ensures draft { self.new.lists.draft ≡ [] }
         ensures begun { 1 < length self.new.lists.lists }
-        ensures grown { IsGrown self.old.lists.lists self.new.lists.lists }
-        ensures trail { self.new.trail.items ≡ self.old.trail.items }
-        ensures within { IfSome result (λ to. to < length self.new.lists.lists) }
-        ensures leads { IfSome result (λ to. Leads (patterns_of rules.now) (byte ∷ [])
-            (list_of self.old.lists.lists from) (list_of self.new.lists.lists to)) }
+        ensures trail { IsTrailFor rules.now self.new }
+        ensures at { IfSome result (λ to. to.at ≡ from.at + 1) }
+        ensures way { IfSome result (IsOnWayFor rules.now self.new text.now) }
     {
-        let known = self.next[256 * from + byte as usize];
-        if known > 0 {
-            return Some(known as usize);
-        }
-        self.learn(rules, states, from, byte)
+        let to = self.learn(rules, states, from.list, text[from.at])?;
+        note(&mut self.trail.lists, from.at, to);
+        Some(Reached {
+            at: from.at + 1,
+            list: to,
+        })
     }
 
     // What is answered at a list.
@@ -328,7 +361,7 @@ impl Table {
         ensures table { IsTableFor rules.now self.new }
         ensures draft { self.new.lists.draft ≡ [] }
         ensures lists { self.new.lists.lists ≡ self.old.lists.lists }
-        ensures trail { self.new.trail.items ≡ self.old.trail.items }
+        ensures trail { trace_in self.new.trail ≡ trace_in self.old.trail }
         ensures told { (text : List ℕ)
             → AreAlive (patterns_of rules.now) text (length (patterns_of rules.now))
             (list_of self.old.lists.lists list)
@@ -350,7 +383,7 @@ impl Table {
     fn clear(&mut self)
         ensures kept { kept_in self.new ≡ kept [] [] [] }
         ensures draft { self.new.lists.draft ≡ [] }
-        ensures trail { self.new.trail.items ≡ [] }
+        ensures trail { self.new.trail.known ≡ 0 }
     {
         self.trail.clear();
         self.lists.clear();
@@ -369,7 +402,7 @@ impl Table {
         ensures states { AreStatesFor (patterns_of rules.now) states.new.items }
         ensures table { IsTableFor rules.now self.new }
         ensures draft { self.new.lists.draft ≡ [] }
-        ensures trail { self.new.trail.items ≡ self.old.trail.items }
+        ensures trail { trace_in self.new.trail ≡ trace_in self.old.trail }
     {
         if !start_all(&mut self.lists, rules, states) {
             self.lists.drop_draft();
@@ -386,11 +419,11 @@ impl Table {
         requires states { AreStatesFor (patterns_of rules.now) states.old.items }
         requires table { IsTableFor rules.now self.old }
         requires draft { self.old.lists.draft ≡ [] }
-        requires trail { IsTrail (patterns_of rules.now) self.old.lists.lists self.old.trail.items }
+        requires trail { IsTrailFor rules.now self.old }
         ensures states { AreStatesFor (patterns_of rules.now) states.new.items }
         ensures table { IsTableFor rules.now self.new }
         ensures draft { self.new.lists.draft ≡ [] }
-        ensures trail { IsTrail (patterns_of rules.now) self.new.lists.lists self.new.trail.items }
+        ensures trail { IsTrailFor rules.now self.new }
     {
         self.look_ups = self.look_ups.saturating_add(1);
         if !self.is_full {
@@ -411,11 +444,11 @@ impl Table {
         requires states { AreStatesFor (patterns_of rules.now) states.old.items }
         requires table { IsTableFor rules.now self.old }
         requires draft { self.old.lists.draft ≡ [] }
-        requires trail { IsTrail (patterns_of rules.now) self.old.lists.lists self.old.trail.items }
+        requires trail { IsTrailFor rules.now self.old }
         ensures states { AreStatesFor (patterns_of rules.now) states.new.items }
         ensures table { IsTableFor rules.now self.new }
         ensures draft { self.new.lists.draft ≡ [] }
-        ensures trail { IsTrail (patterns_of rules.now) self.new.lists.lists self.new.trail.items }
+        ensures trail { IsTrailFor rules.now self.new }
         ensures within { IfSome result (λ list. list < length self.new.lists.lists) }
         ensures alive { IfSome result (λ list. AreAlive (patterns_of rules.now) text.now
             (length (patterns_of rules.now)) (list_of self.new.lists.lists list)) }
@@ -424,22 +457,21 @@ impl Table {
         if self.lists.len() < 2 {
             return None;
         }
-        let start = common(self.trail.as_slice(), text);
-        let mut list = list_behind(self.trail.as_slice(), start);
-        self.trail.truncate(start);
-        'text: for i in start..text.len() {
-            if list == NONE_ALIVE {
+        let mut way = self.begin(rules, text);
+        'text: while way.at < text.len() {
+            way = self.follow(rules, text, way);
+            if way.at == text.len() {
+                return Some(way.list);
+            }
+            if way.list == NONE_ALIVE {
                 return Some(NONE_ALIVE);
             }
-            match self.step(rules, states, list, text[i]) {
-                Some(next) => {
-                    note_passed(&mut self.trail, i, text[i], next);
-                    list = next;
-                }
-                None => return None,
-            }
+            let Some(next) = self.read_byte(rules, states, text, way) else {
+                return None;
+            };
+            way = next;
         }
-        Some(list)
+        Some(way.list)
     }
 
     /// The last match of a text, or `None` where there is no room to find it out.
@@ -453,11 +485,11 @@ impl Table {
         requires states { AreStatesFor (patterns_of rules.now) states.old.items }
         requires table { IsTableFor rules.now self.old }
         requires draft { self.old.lists.draft ≡ [] }
-        requires trail { IsTrail (patterns_of rules.now) self.old.lists.lists self.old.trail.items }
+        requires trail { IsTrailFor rules.now self.old }
         ensures states { AreStatesFor (patterns_of rules.now) states.new.items }
         ensures table { IsTableFor rules.now self.new }
         ensures draft { self.new.lists.draft ≡ [] }
-        ensures trail { IsTrail (patterns_of rules.now) self.new.lists.lists self.new.trail.items }
+        ensures trail { IsTrailFor rules.now self.new }
         ensures told { IfSome result (λ found.
             IsAnswer asked text.now (map spec_in rules.now) found) }
     {

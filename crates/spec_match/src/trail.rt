@@ -1,22 +1,76 @@
-ghost use Rattle.std.specs.Prelude.{◌≡◌, ◌≤◌, ◌++◌, ◌∷◌, [], true, length, map, take, if◌then◌else◌};
-ghost use Rattle.spec_match.specs.Trail.{byte_in, list_behind};
+ghost use Rattle.std.specs.Prelude.{◌≡◌, ◌≤◌, ◌<◌, ◌+◌, ◌++◌, ◌*◌, ℕ, List, length, min, take, drop, set, true, IfOk, if◌then◌else◌, nat_lt};
+ghost use Rattle.std.specs.Vec.{vec_capacity};
+ghost use Rattle.pattern_syntax.specs.Tree.{Tree};
+ghost use Rattle.spec_match.specs.Alive.{Alive};
+ghost use Rattle.spec_match.specs.Remembering.{IsStep, Remembers};
+ghost use Rattle.spec_match.specs.Trail.{AreNumbers, IsRead, list_behind};
 
-/// A byte that was read, and the number of the list behind it.
-#[derive(Clone, Copy, Debug)]
-pub struct Passed {
-    byte: u8,
-    list: u32,
+use label_base::OutOfMemory;
+use std::alloc::Global;
+
+// The list of no specification.
+pub const NONE_ALIVE: usize = 1;
+
+// How many bytes are compared at once.
+const CHUNK: usize = 16;
+
+/// The text that was read last, and the number of the list behind each of its bytes.
+#[derive(Debug, Drop)]
+pub struct Trail {
+    pub(crate) text: Vec<u8>,
+    // As many numbers as are ever kept.
+    pub(crate) lists: Vec<usize>,
+    // Behind how many bytes the numbers are right.
+    pub(crate) known: usize,
 }
 
-/// How many bytes a text has in common with the one that was read last.
-pub fn common(trail: &[Passed], text: &[u8]) -> usize
-    ensures trail { result ≤ length trail.now }
-    ensures text { result ≤ length text.now }
-    ensures same { map byte_in (take result trail.now) ≡ take result text.now }
+/// How many bytes of a text were read, and the number of the list behind them.
+#[derive(Clone, Copy, Debug)]
+pub struct Reached {
+    pub at: usize,
+    pub list: usize,
+}
+
+fn are_same(a: &[u8], b: &[u8]) -> bool
+    ensures { result ≡ true → a.now ≡ b.now }
 {
-    let most = trail.len().min(text.len());
-    'bytes: for k in 0..most {
-        if trail[k].byte != text[k] {
+    a == b
+}
+
+// Whether two texts have the same bytes from one place on, as many as are compared at once.
+fn is_same_chunk(a: &[u8], b: &[u8], at: usize) -> bool
+    requires a { at + CHUNK ≤ length a.now }
+    requires b { at + CHUNK ≤ length b.now }
+    ensures { result ≡ true → take CHUNK (drop at a.now) ≡ take CHUNK (drop at b.now) }
+{
+    are_same(&a[at..at + CHUNK], &b[at..at + CHUNK])
+}
+
+// How many bytes two texts have in common, at least, in chunks.
+fn common_chunks(a: &[u8], b: &[u8]) -> usize
+    ensures a { result ≤ length a.now }
+    ensures b { result ≤ length b.now }
+    ensures same { take result a.now ≡ take result b.now }
+{
+    let chunks = a.len().min(b.len()) / CHUNK;
+    'chunks: for i in 0..chunks {
+        if !is_same_chunk(a, b, CHUNK * i) {
+            return CHUNK * i;
+        }
+    }
+    CHUNK * chunks
+}
+
+/// How many bytes two texts have in common.
+pub fn common(a: &[u8], b: &[u8]) -> usize
+    ensures a { result ≤ length a.now }
+    ensures b { result ≤ length b.now }
+    ensures same { take result a.now ≡ take result b.now }
+{
+    let most = a.len().min(b.len());
+    let front = common_chunks(a, b);
+    'bytes: for k in front..most {
+        if a[k] != b[k] {
             return k;
         }
     }
@@ -24,34 +78,128 @@ pub fn common(trail: &[Passed], text: &[u8]) -> usize
 }
 
 /// The number of the list behind so many bytes. Behind none it is 0.
-pub fn list_behind(trail: &[Passed], k: usize) -> usize
-    requires { k ≤ length trail.now }
-    ensures { result ≡ list_behind trail.now k }
+pub fn list_behind(lists: &[usize], k: usize) -> usize
+    requires { k ≤ length lists.now }
+    ensures { result ≡ list_behind lists.now k }
 {
     if k == 0 {
         return 0;
     }
-    trail[k - 1].list as usize
+    lists[k - 1]
 }
 
-/// Notes the list behind a byte, where all bytes before it are noted and there is room.
-pub fn note_passed(trail: &mut Vec<Passed>, at: usize, byte: u8, list: usize) -> bool
-    ensures trail { trail.new.items
-        ≡ (if result then trail.old.items ++ record { byte = byte; list = list } ∷ []
-        else trail.old.items) }
-    ensures at { result ≡ true → length trail.old.items ≡ at }
+/// Notes the list behind a byte, where there is room for its number.
+pub fn note(lists: &mut Vec<usize>, at: usize, list: usize)
+    ensures { lists.new.items ≡ (if nat_lt at (length lists.old.items)
+        then set lists.old.items at list else lists.old.items) }
 {
-    if trail.len() != at {
-        return false;
+    if at < lists.len() {
+        lists[at] = list;
     }
-    if trail.len() == trail.capacity() {
-        return false;
+}
+
+/// Reads a text on from a place while it is known where to, and notes the lists. `next` has a row of 256 numbers for each of
+/// so many lists.
+pub fn follow(
+    next: &[u16],
+    count: usize,
+    lists: &mut Vec<usize>,
+    text: &[u8],
+    from: Reached,
+) -> Reached
+    requires rows { length next.now ≡ 256 * count }
+    requires numbers { AreNumbers count next.now }
+    requires list { from.list < count }
+    requires from { from.at ≤ length text.now }
+    ensures low { from.at ≤ result.at }
+    ensures read { (patterns : List Tree) (all : List (List Alive)) → length all ≡ count
+        → Remembers (IsStep patterns all) next.now
+        → IsRead patterns all text.now lists.old.items from.at from.list
+        → IsRead patterns all text.now lists.new.items result.at result.list }
+{
+    let mut list = from.list;
+    'text: for i in from.at..text.len() {
+        if list == NONE_ALIVE {
+            return Reached { at: i, list };
+        }
+        let known = next[256 * list + text[i] as usize] as usize;
+        if known == 0 {
+            return Reached { at: i, list };
+        }
+        list = known;
+        note(lists, i, list);
     }
-    let Ok(list) = u32::try_from(list) else {
-        return false;
-    };
-    let Ok(()) = trail.push(Passed { byte, list }) else {
+    Reached {
+        at: text.len(),
+        list,
+    }
+}
+
+impl Trail {
+    /// No text, with room for one of so many bytes.
+    pub fn new(alloc: Global, room: usize) -> Result<Trail, OutOfMemory>
+        ensures { IfOk result (λ trail. trail.known ≡ 0) }
+    {
+        Ok(Trail {
+            text: Vec::with_capacity(alloc, room)?,
+            lists: vec![in alloc; 0usize; room]?,
+            known: 0,
+        })
+    }
+
+    /// How many bytes a text has in common with the one that was read last, as far as the lists are known.
+    pub fn common(&self, text: &[u8]) -> usize
+        ensures known { result ≤ self.now.known }
+        ensures lists { result ≤ length self.now.lists.items }
+        ensures own { result ≤ length self.now.text.items }
+        ensures text { result ≤ length text.now }
+        ensures same { take result self.now.text.items ≡ take result text.now }
+    {
+        let most = common(self.text.as_slice(), text);
+        most.min(self.known).min(self.lists.len())
+    }
+
+    /// Takes another text in place of the last one, with which it has so many bytes in common. What there is no room for
+    /// is left out.
+    pub fn begin(&mut self, text: &[u8], start: usize)
+        requires own { start ≤ length self.old.text.items }
+        requires text { start ≤ length text.now }
+        requires same { take start self.old.text.items ≡ take start text.now }
+        ensures lists { self.new.lists.items ≡ self.old.lists.items }
+        ensures known { self.new.known ≡ start }
+        ensures same { self.new.text.items ≡ take (length self.new.text.items) text.now }
+        ensures short { start ≤ length self.new.text.items }
+    {
+        self.text.truncate(start);
+        add_front(&mut self.text, &text[start..]);
+        self.known = start;
+    }
+
+    /// Notes that the text was read up to a place.
+    pub fn reach(&mut self, at: usize)
+        ensures lists { self.new.lists.items ≡ self.old.lists.items }
+        ensures text { self.new.text.items ≡ self.old.text.items }
+        ensures known { self.new.known ≡ min at (length self.old.text.items) }
+    {
+        self.known = at.min(self.text.len());
+    }
+
+    /// Forgets the text.
+    pub fn clear(&mut self)
+        ensures { self.new.known ≡ 0 }
+    {
+        self.known = 0;
+    }
+}
+
+// Adds as much of the front of a text as there is room for.
+fn add_front(to: &mut Vec<u8>, text: &[u8])
+    ensures front { (n : ℕ) → length to.new.items ≡ length to.old.items + n
+        → to.new.items ≡ to.old.items ++ take n text.now }
+    ensures grown { length to.old.items ≤ length to.new.items }
+{
+    let n = text.len().min(to.capacity() - to.len());
+    let Ok(()) = to.extend_from_slice(&text[..n]) else {
         unreachable!()
     };
-    true
 }

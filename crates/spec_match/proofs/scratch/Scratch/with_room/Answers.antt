@@ -2,7 +2,7 @@ use Rattle.std.proofs.Common.{map, subst, sym}
 use Rattle.spec_match.specs.Remembering.{IsTableOf}
 use Rattle.spec_match.specs.Scratches.{IsScratchOf}
 use Rattle.spec_match.specs.StatesFor.{patterns_of, spec_in}
-use Rattle.spec_match.specs.Trail.{IsTrail}
+use Rattle.spec_match.specs.Trail.{trace_in}
 use Rattle.spec_match.specs.Workspaces.{room_in}
 use Rattle.spec_match.specs.declared.workspace.Workspace.{Workspace}
 use Rattle.spec_match.proofs.ScratchLemmas.{scratch_of}
@@ -19,6 +19,6 @@ returns c =
       states = rw c.as_slice.ensures.value at c.in_ok-states_of.ensures;
       table = subst (IsTableOf (patterns_of rules) (map spec_in rules)) (sym c.in_ok-new.ensures.kept) (nothing_kept (patterns_of rules) (map spec_in rules));
       draft = c.in_ok-new.ensures.draft;
-      trail = subst (IsTrail (patterns_of rules) table.lists.lists) (sym c.in_ok-new.ensures.trail) (no_trail (patterns_of rules) table.lists.lists);
+      trail = no_trail (patterns_of rules) table.lists.lists (trace_in table.trail) c.in_ok-new.ensures.trail;
     }) in
     subst (λ (w : Workspace). IsScratchOf c.args.rules.now (room_in w)) (sym c.in_ok-new-2.ensures.ok) own
