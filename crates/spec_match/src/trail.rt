@@ -31,19 +31,17 @@ pub struct Reached {
     pub list: usize,
 }
 
-fn are_same(a: &[u8], b: &[u8]) -> bool
-    ensures { result ≡ true → a.now ≡ b.now }
+// Whether two texts have the same first bytes, as many as are compared at once.
+fn is_same_chunk(a: &[u8], b: &[u8]) -> bool
+    ensures { result ≡ true → take CHUNK a.now ≡ take CHUNK b.now }
 {
-    a == b
-}
-
-// Whether two texts have the same bytes from one place on, as many as are compared at once.
-fn is_same_chunk(a: &[u8], b: &[u8], at: usize) -> bool
-    requires a { at + CHUNK ≤ length a.now }
-    requires b { at + CHUNK ≤ length b.now }
-    ensures { result ≡ true → take CHUNK (drop at a.now) ≡ take CHUNK (drop at b.now) }
-{
-    are_same(&a[at..at + CHUNK], &b[at..at + CHUNK])
+    let Some((front, _)) = a.split_first_chunk::<CHUNK>() else {
+        return false;
+    };
+    let Some((other, _)) = b.split_first_chunk::<CHUNK>() else {
+        return false;
+    };
+    front == other
 }
 
 // How many bytes two texts have in common, at least, in chunks.
@@ -54,7 +52,7 @@ fn common_chunks(a: &[u8], b: &[u8]) -> usize
 {
     let chunks = a.len().min(b.len()) / CHUNK;
     'chunks: for i in 0..chunks {
-        if !is_same_chunk(a, b, CHUNK * i) {
+        if !is_same_chunk(&a[CHUNK * i..], &b[CHUNK * i..]) {
             return CHUNK * i;
         }
     }
