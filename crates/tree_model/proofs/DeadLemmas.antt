@@ -1,33 +1,44 @@
 -- The flags of entries are kept as the next place without one.
-use Rattle.std.proofs.Common.{◌≡◌, ◌∙◌, ap, sym, refl, subst, ℕ, zero, suc, ◌+◌, ◌<◌, ◌≤◌, ◌==◌, Bool, true, false, not, List, [], ◌∷◌, ◌++◌, length, map, get_or, arith, inl, inr}
+use Rattle.std.proofs.Common.{◌≡◌, ◌∙◌, ap, sym, refl, subst, ℕ, zero, suc, ◌+◌, ◌<◌, ◌≤◌, ◌==◌, Bool, true, false, not, List, [], ◌∷◌, ◌++◌, ◌-◌, length, length-append, map, replicate, get_or, arith, inl, inr}
 use Rattle.std.specs.Prelude.{◌&&◌, nat_le, nat_lt}
 use Rattle.std.proofs.lemmas.Bool.{cases_lt, and_parts, eq-eqb, ne_eqb, true≢false, le-leb, leb-true, lt-ltb, ltb-true}
-use Rattle.std.proofs.lemmas.List.{ext_get_or, get_or-map, length-map, get_or_append_left}
+use Rattle.std.proofs.lemmas.List.{ext_get_or, get_or-map, length-map, get_or_append_left, get_or-append_right, get_or-replicate, length-replicate}
 use Rattle.std.proofs.Math.Seq.{get_or-append_seam}
 use Rattle.label_base.specs.Bounded.{all_below, all_numbers, implies, greatest_below}
 use Rattle.label_base.proofs.BoundedLemmas.{IsGreatest, all_at, all_from, count_numbers, greatest_told, implies_at}
 use Rattle.std.specs.Prelude.{Option, Some, None}
 use Rattle.find_records.specs.Record.{Record}
 use Rattle.tree_model.specs.Extents.{extent_of, in_extent, one_behind}
-use Rattle.tree_model.specs.LiveLists.{AreDead, AreFlags, IsDead, live_from, live_of}
+use Rattle.tree_model.specs.LiveLists.{AreDead, AreFlags, IsDead, KeepsFlags, live_from, live_of}
 use Rattle.tree_model.proofs.ClosedLemmas.{both, implied, one_answer}
 
 length_live : (dead : List ℕ) (place : ℕ) → length (live_from place dead) ≡ length dead
 length_live [] place = refl
 length_live (d ∷ rest) place = ap suc (length_live rest (suc place))
 
-pub count_live : (dead : List ℕ) → length (live_of dead) ≡ length dead
+pub count_live : (dead : List ℕ) (count : ℕ) → length (live_of dead count) ≡ length dead + (count - length dead)
 unfolding live_of
-count_live dead = length_live dead 0
+count_live dead count =
+    let words : length (live_from 0 dead) ≡ length dead = length_live dead 0 in
+    let behind : length (replicate (count - length dead) true) ≡ count - length dead = length-replicate (count - length dead) true in
+    omega (arith, length-append (live_from 0 dead) (replicate (count - length dead) true), words, behind)
 
 read_from : (dead : List ℕ) (place e : ℕ) → e < length dead → get_or (live_from place dead) e false ≡ not (get_or dead e 0 == place + e)
 read_from [] place e l = absurd (omega (arith, l))
 read_from (d ∷ rest) place zero l = (let s : place ≡ place + 0 = omega arith in ap (λ k. not (d == k)) s)
 read_from (d ∷ rest) place (suc e) l = read_from rest (suc place) e (omega (arith, l)) ∙ (let s : suc place + e ≡ place + suc e = omega arith in ap (λ k. not (get_or rest e 0 == k)) s)
 
-pub live_read : (dead : List ℕ) (e : ℕ) → e < length dead → get_or (live_of dead) e false ≡ not (get_or dead e 0 == e)
+live_read : (dead : List ℕ) (count e : ℕ) → e < length dead → get_or (live_of dead count) e false ≡ not (get_or dead e 0 == e)
 unfolding live_of
-live_read dead e l = read_from dead 0 e l ∙ (let s : 0 + e ≡ e = omega arith in ap (λ k. not (get_or dead e 0 == k)) s)
+live_read dead count e l =
+    get_or_append_left (live_from 0 dead) (replicate (count - length dead) true) false e (omega (arith, l, length_live dead 0))
+    ∙ read_from dead 0 e l ∙ (let s : 0 + e ≡ e = omega arith in ap (λ k. not (get_or dead e 0 == k)) s)
+
+live_behind : (dead : List ℕ) (count e : ℕ) → length dead ≤ e → e < count → get_or (live_of dead count) e false ≡ true
+unfolding live_of
+live_behind dead count e a b =
+    get_or-append_right (live_from 0 dead) (replicate (count - length dead) true) (length dead) e false (length_live dead 0) a
+    ∙ get_or-replicate (count - length dead) (e - length dead) true false (omega (arith, a, b))
 
 flag_case : (live : List Bool) (e dead : ℕ) (b : Bool) → e < length live → get_or live e false ≡ b → IsDead live e dead → not (dead == e) ≡ b
 flag_case live e dead true l h r = ap not (ne_eqb dead e (λ same.
@@ -38,11 +49,36 @@ flag_case live e dead false l h r = elim (cases_lt e dead) [
   | inr ge ↦ (let same : dead ≡ e = omega (arith, ge, r.low) in ap not (eq-eqb dead e same))
 ]
 
-pub live_is : (live : List Bool) (dead : List ℕ) → AreDead live 0 dead → live_of dead ≡ live
-live_is live dead r = ext_get_or false (live_of dead) live (count_live dead ∙ r.sized)
-    (λ e l. let w : e < length dead = omega (arith, l, count_live dead) in
-    let v : e < length live = omega (arith, w, r.sized) in
-    live_read dead e w ∙ flag_case live e (get_or dead e 0) (get_or live e false) v refl (r.each e (omega arith) v))
+-- an entry is live where the next place without a flag is another
+pub flag_told : (live : List Bool) (e dead : ℕ) → e < length live → IsDead live e dead → not (dead == e) ≡ get_or live e false
+flag_told live e dead l r = flag_case live e dead (get_or live e false) l refl r
+
+-- behind the words every entry is live
+pub none_dead : (live : List Bool) (dead : List ℕ) (count e : ℕ) → KeepsFlags live dead count → length dead ≤ e → e < length live → IsDead live e count
+none_dead live dead count e r a b = record {
+  low = omega (arith, b, r.count_is);
+  high = omega (arith, r.count_is);
+  lives = λ k l m. r.dead_are.ends.lives k (omega (arith, a, l)) (omega (arith, m, r.count_is));
+  dies = λ m. absurd (omega (arith, m, r.count_is));
+}
+
+kept_at : (live : List Bool) (dead : List ℕ) (count e : ℕ) → KeepsFlags live dead count → e < length live → get_or (live_of dead count) e false ≡ get_or live e false
+kept_at live dead count e r l = elim (cases_lt e (length dead)) [
+  | inl lt ↦ live_read dead count e lt ∙ flag_told live e (get_or dead e 0) l (r.dead_are.each e (omega arith) lt)
+  | inr ge ↦ live_behind dead count e ge (omega (arith, l, r.count_is)) ∙ sym (r.dead_are.ends.lives e ge l)
+]
+
+pub live_is : (live : List Bool) (dead : List ℕ) (count : ℕ) → KeepsFlags live dead count → live_of dead count ≡ live
+live_is live dead count r =
+    let sized : length (live_of dead count) ≡ length live = omega (arith, count_live dead count, r.count_is, r.dead_are.ends.within) in
+    ext_get_or false (live_of dead count) live sized (λ e l. kept_at live dead count e r (omega (arith, l, sized)))
+
+-- what was made of flags that were given keeps them
+pub words_keep : (given live : List Bool) (dead : List ℕ) (count n : ℕ) → given ≡ live → AreDead given 0 dead → length live ≡ n → count ≡ n → KeepsFlags live dead count
+words_keep given live dead count n same r sized counted = record {
+  count_is = counted ∙ sym sized;
+  dead_are = subst (λ l. AreDead l 0 dead) same r;
+}
 
 pub number_at : (n k : ℕ) → k < n → get_or (all_numbers n) k 0 ≡ k
 number_at zero k l = absurd (omega (arith, l))

@@ -1,18 +1,17 @@
 -- Groups are inodes, numbered by their first entries.
-use Rattle.std.proofs.Common.{◌≡◌, ◌∙◌, ap, sym, refl, subst, ℕ, zero, suc, ◌+◌, ◌<◌, ◌≤◌, ◌==◌, Bool, true, false, cond, List, [], ◌∷◌, ◌++◌, length, map, get_or, arith, ◌⊎◌, inl, inr}
-use Rattle.std.specs.Prelude.{◌&&◌, not}
+use Rattle.std.proofs.Common.{◌≡◌, ◌∙◌, ap, sym, refl, subst, ℕ, zero, suc, ◌<◌, ◌≤◌, ◌==◌, Bool, true, false, List, [], ◌∷◌, length, map, get_or, arith, ◌⊎◌, inl, inr}
+use Rattle.std.specs.Prelude.{not}
 use Rattle.std.specs.List.{list_any, position_or_len}
 use Rattle.std.proofs.lemmas.Bool.{eqb-true}
-use Rattle.std.proofs.lemmas.List.{get_or-map, length-map}
+use Rattle.std.proofs.lemmas.List.{length-map}
 use Rattle.std.proofs.lemmas.List.Sums.{prefix_len-le-length}
-use Rattle.find_records.specs.Places.{no_record}
 use Rattle.find_records.specs.Record.{Record}
 use Rattle.tree_model.specs.Extents.{entry_at}
 use Rattle.tree_model.specs.Groups.{with_inode, inodes_of, group_of, groups_in}
 use Rattle.tree_model.specs.GroupLists.{groups_behind}
 use Rattle.tree_model.specs.Laws.{GroupsAreInodes, HasEntryBefore, TellOneInode}
 use Rattle.tree_model.specs.Links.{inode_of, same_inode}
-use Rattle.tree_model.proofs.GroupLemmas.{HasName, by_head, count_groups, group_at, group_inside, group_named, groups_of, name_here}
+use Rattle.tree_model.proofs.GroupLemmas.{by_head, count_groups, group_at, group_inside, group_named, groups_of, name_here}
 use Rattle.tree_model.proofs.NumberingLemmas.{Inode}
 use Rattle.tree_model.proofs.SameLemmas.{both_true}
 

@@ -1,8 +1,10 @@
 -- Flags of entries.
-use Rattle.std.proofs.Common.{◌≡◌, ◌∙◌, sym, refl, subst, ℕ, ◌+◌, ◌<◌, ◌≤◌, Bool, true, false, List, length, set, replicate, get_or, arith, ◌⊎◌, inl, inr, get_or-set_same, get_or-set_other, length-set}
-use Rattle.std.proofs.lemmas.Bool.{cases_eq}
+use Rattle.std.proofs.Common.{◌≡◌, ◌∙◌, ap, sym, refl, subst, ℕ, ◌+◌, ◌<◌, ◌≤◌, Bool, true, false, List, length, set, replicate, get_or, arith, ◌⊎◌, inl, inr, get_or-set_same, get_or-set_other, length-set}
+use Rattle.std.proofs.lemmas.Bool.{cases_eq, lt-ltb}
 use Rattle.std.proofs.lemmas.List.{length-replicate}
-use Rattle.tree_model.specs.LiveLists.{IsFilled, IsDead, AreDead}
+use Rattle.std.specs.Cmp.{second_so}
+use Rattle.std.specs.Prelude.{◌-◌, ◌&&◌, nat_lt}
+use Rattle.tree_model.specs.LiveLists.{AreDead, IsBehindDead, IsDead, IsFilled}
 
 pub filled_none : (from : ℕ) (flag : Bool) (old : List Bool) → IsFilled from from flag old old
 filled_none from flag old = record {
@@ -27,30 +29,35 @@ filled_more from to flag old new up r = record {
 }
 
 -- places without a flag
-pub dead_end : (live : List Bool) → IsDead live (length live) (length live)
-dead_end live = record {
-  low = omega arith;
+pub dead_end : (live : List Bool) (place : ℕ) → IsBehindDead live place → IsDead live place (length live)
+dead_end live place r = record {
+  low = r.within;
   high = omega arith;
-  lives = λ k a b. absurd (omega (arith, a, b));
+  lives = r.lives;
   dies = λ l. absurd (omega (arith, l));
 }
 
-pub dead_none : (live : List Bool) → AreDead live (length live) (replicate (length live) 0)
-dead_none live = record { sized = length-replicate (length live) 0; each = λ e a b. absurd (omega (arith, a, b)) }
+pub dead_none : (live : List Bool) (place : ℕ) → IsBehindDead live place → AreDead live place (replicate place 0)
+dead_none live place r =
+    let count : length (replicate place 0) ≡ place = length-replicate place 0 in record {
+      ends = subst (IsBehindDead live) (sym count) r;
+      each = λ e a b. absurd (omega (arith, a, b, count));
+    }
 
-put_case : (live : List Bool) (dead : List ℕ) (place next e : ℕ) → place < length live → IsDead live place next → AreDead live (place + 1) dead → place ≤ e → e < length live → (e ≡ place) ⊎ (e ≡ place → ⊥)
+put_case : (live : List Bool) (dead : List ℕ) (place next e : ℕ) → place < length dead → IsDead live place next → AreDead live (place + 1) dead → place ≤ e → e < length dead → (e ≡ place) ⊎ (e ≡ place → ⊥)
     → IsDead live e (get_or (set dead place next) e 0)
 put_case live dead place next e l h r a b (inl same) =
     subst (λ i. IsDead live i (get_or (set dead place next) i 0)) (sym same)
-    (subst (λ v. IsDead live place v) (sym (get_or-set_same dead place next 0 (omega (arith, l, r.sized)))) h)
+    (subst (λ v. IsDead live place v) (sym (get_or-set_same dead place next 0 l)) h)
 put_case live dead place next e l h r a b (inr other) =
     subst (λ v. IsDead live e v) (sym (get_or-set_other dead place e next 0 other)) (r.each e (omega (arith, a, other)) b)
 
-pub dead_put : (live : List Bool) (dead : List ℕ) (place next : ℕ) → place < length live → IsDead live place next → AreDead live (place + 1) dead → AreDead live place (set dead place next)
-dead_put live dead place next l h r = record {
-  sized = length-set dead place next ∙ r.sized;
-  each = λ e a b. put_case live dead place next e l h r a b (cases_eq e place);
-}
+pub dead_put : (live : List Bool) (dead : List ℕ) (place next : ℕ) → place < length dead → IsDead live place next → AreDead live (place + 1) dead → AreDead live place (set dead place next)
+dead_put live dead place next l h r =
+    let count : length (set dead place next) ≡ length dead = length-set dead place next in record {
+      ends = subst (IsBehindDead live) (sym count) r.ends;
+      each = λ e a b. put_case live dead place next e l h r a (omega (arith, b, count)) (cases_eq e place);
+    }
 
 pub dead_here : (live : List Bool) (e : ℕ) → e < length live → get_or live e false ≡ false → IsDead live e e
 dead_here live e l h = record { low = omega arith; high = omega (arith, l); lives = λ k a b. absurd (omega (arith, a, b)); dies = λ m. h }
@@ -61,4 +68,27 @@ dead_behind live e next h r = record {
   high = r.high;
   lives = λ k a b. elim (cases_eq k e) [ inl same ↦ subst (λ i. get_or live i false ≡ true) (sym same) h | inr other ↦ r.lives k (omega (arith, a, other)) b ];
   dies = r.dies;
+}
+
+-- the last place without a flag, looked for from the end
+pub behind_none : (live : List Bool) → ((k : ℕ) → length live ≤ k → k < length live → get_or live k false ≡ true)
+behind_none live k a b = absurd (omega (arith, a, b))
+
+flag_before : (place : ℕ) (flag : Bool) → (nat_lt 0 place && flag) ≡ false → 0 < place → flag ≡ false
+flag_before place flag h l = sym (ap (λ b. b && flag) (lt-ltb 0 place l)) ∙ h
+
+pub behind_more : (live : List Bool) (place : ℕ) → (nat_lt 0 place && get_or live (place - 1) false) ≡ true → ((k : ℕ) → place ≤ k → k < length live → get_or live k false ≡ true)
+    → (k : ℕ) → place - 1 ≤ k → k < length live → get_or live k false ≡ true
+behind_more live place h r k a b =
+    let flag : get_or live (place - 1) false ≡ true = second_so (nat_lt 0 place) (get_or live (place - 1) false) h in
+    elim (cases_eq k (place - 1)) [
+      | inl same ↦ subst (λ i. get_or live i false ≡ true) (sym same) flag
+      | inr other ↦ r k (omega (arith, a, other)) b
+    ]
+
+pub behind_found : (live : List Bool) (place : ℕ) → place ≤ length live → (nat_lt 0 place && get_or live (place - 1) false) ≡ false → ((k : ℕ) → place ≤ k → k < length live → get_or live k false ≡ true) → IsBehindDead live place
+behind_found live place l h r = record {
+  within = l;
+  lives = r;
+  last = flag_before place (get_or live (place - 1) false) h;
 }

@@ -1,10 +1,7 @@
 -- The places of records that were numbered and sorted.
-use Rattle.std.proofs.Common.{◌≡◌, ◌∙◌, ap, sym, refl, ℕ, zero, suc, ◌+◌, ◌-◌, ◌<◌, ◌≤◌, List, [], ◌∷◌, ◌++◌, length, map, take, get_or, arith, inl, inr}
-use Rattle.std.specs.Prelude.{Option, Some, None, Ok, slice_get, option_map}
-use Rattle.std.proofs.Math.ListN.{get_or-map}
-use Rattle.std.proofs.lemmas.List.{take_more, length-map, length-take-le}
-use Rattle.std.proofs.lemmas.Option.{slice_get-map, slice_get_read, get_or_from_slice_get}
-use Rattle.label_base.specs.Path.{Path}
+use Rattle.std.proofs.Common.{◌≡◌, ◌∙◌, ap, sym, refl, ℕ, suc, ◌+◌, ◌-◌, ◌<◌, ◌≤◌, List, [], ◌∷◌, ◌++◌, length, map, take, get_or, arith, inl, inr}
+use Rattle.std.specs.Prelude.{Option, Some, None, Ok}
+use Rattle.std.proofs.lemmas.List.{take_more, length-take-le}
 use Rattle.tree_model.specs.Entries.{unless_doubled}
 use Rattle.std.specs.List.{dedup}
 use Rattle.std.specs.List.Sorted.{IsPermutation}

@@ -1,5 +1,5 @@
 -- Flags of entries, and how they are kept.
-use Rattle.std.specs.Prelude.{◌≡◌, ℕ, suc, ◌<◌, ◌≤◌, ◌==◌, ◌&&◌, ◌||◌, Bool, true, false, not, List, [], ◌∷◌, length, get_or}
+use Rattle.std.specs.Prelude.{◌≡◌, ℕ, suc, ◌-◌, ◌<◌, ◌≤◌, ◌==◌, ◌&&◌, ◌||◌, Bool, true, false, not, List, [], ◌∷◌, ◌++◌, length, replicate, get_or}
 use Rattle.label_base.specs.Bounded.{all_below, implies}
 use Rattle.tree_model.specs.RunLists.{in_run}
 
@@ -42,18 +42,31 @@ pub record IsDead (live : List Bool) (e dead : ℕ) : Type 0 where
   pub lives : (k : ℕ) → e ≤ k → k < dead → get_or live k false ≡ true
   pub dies : dead < length live → get_or live dead false ≡ false
 
--- dead has that place for each entry from a place on
+-- one more than the last place without a flag, or 0
+pub record IsBehindDead (live : List Bool) (place : ℕ) : Type 0 where
+  pub within : place ≤ length live
+  pub lives : (k : ℕ) → place ≤ k → k < length live → get_or live k false ≡ true
+  pub last : 0 < place → get_or live (place - 1) false ≡ false
+
+-- dead ends with the last place without a flag, and for each entry from a place on it has the least one
+-- from that on
 pub record AreDead (live : List Bool) (place : ℕ) (dead : List ℕ) : Type 0 where
-  pub sized : length dead ≡ length live
-  pub each : (e : ℕ) → place ≤ e → e < length live → IsDead live e (get_or dead e 0)
+  pub ends : IsBehindDead live (length dead)
+  pub each : (e : ℕ) → place ≤ e → e < length dead → IsDead live e (get_or dead e 0)
 
 -- the flags, where the places without one are those that name themselves
 abbrev pub live_from : ℕ → List ℕ → List Bool
 live_from place [] = []
 live_from place (dead ∷ rest) = not (dead == place) ∷ live_from (suc place) rest
 
-unfoldable pub live_of : List ℕ → List Bool
-live_of dead = live_from 0 dead
+-- the same, and behind them each of so many entries has a flag
+unfoldable pub live_of : List ℕ → ℕ → List Bool
+live_of dead count = live_from 0 dead ++ replicate (count - length dead) true
+
+-- the flags of so many entries are kept by these places
+pub record KeepsFlags (live : List Bool) (dead : List ℕ) (count : ℕ) : Type 0 where
+  pub count_is : count ≡ length live
+  pub dead_are : AreDead live 0 dead
 
 -- the flags before c of the entries that pass are cleared, and the others stay
 pub record IsClearedTo (passes : ℕ → Bool) (c : ℕ) (old new : List Bool) : Type 0 where

@@ -1,6 +1,6 @@
 ghost use Rattle.std.specs.Prelude.{◌≡◌, ◌+◌, ◌++◌, ◌<◌, ◌^◌, ◌&&◌, not, false, take, drop, length, get_or, IfOk, OnOk};
 ghost use Rattle.tree_model.specs.Extents.{EndsFrom};
-ghost use Rattle.tree_model.specs.LiveLists.{AreFlags};
+ghost use Rattle.tree_model.specs.LiveLists.{AreFlags, IsDead};
 ghost use Rattle.tree_model.specs.Selection.{absent_from, is_admitted, is_excluded, is_live, selected_by, whole_at};
 ghost use Rattle.tree_model.specs.Tree.{ByPath};
 
@@ -30,20 +30,22 @@ pub struct Choice {
 /// The entries of a tree that are meant: they are live.
 #[derive(Debug, Drop)]
 pub struct Selected {
-    // For each entry the least index from it on of one that isn't live, or the number of entries.
+    // For each entry up to the last that isn't live the least index from it on of one that isn't.
     dead: Vec<u32>,
+    // How many entries there are: those behind these words are live.
+    count: u32,
     absent: Row<u32>,
 }
 
 impl Model for Selected {
-    ghost use Rattle.tree_model.specs.LiveLists.{AreDead, live_of};
+    ghost use Rattle.tree_model.specs.LiveLists.{KeepsFlags, live_of};
     ghost use Rattle.tree_model.specs.Selection.{SelectedValue};
 
     ghost Value = { SelectedValue };
 
-    ghost view = { λ s. record { live = live_of s.dead.items; absent = s.absent } };
+    ghost view = { λ s. record { live = live_of s.dead.items s.count; absent = s.absent } };
 
-    ghost invariant = { λ s. AreDead (live_of s.dead.items) 0 s.dead.items };
+    ghost invariant = { λ s. KeepsFlags (live_of s.dead.items s.count) s.dead.items s.count };
 }
 
 // Marks what the operand with an index admits, or notes that no entry has its path.
@@ -125,17 +127,34 @@ pub fn select_in(
     }
     exclude_all(sorted, ends, choice, &mut live);
     let dead = all_dead(alloc, live.as_slice())?;
-    Ok(Selected { dead, absent })
+    Ok(Selected {
+        dead,
+        count: sorted.len(),
+        absent,
+    })
 }
 
 impl Selected {
+    // The least index from an entry on of one that isn't live, or the number of entries.
+    fn next_dead(&self, e: u32) -> u32
+        requires { e < length self.now.live }
+        ensures { IsDead self.now.live e result }
+    {
+        let place = e as usize;
+        if place < self.dead.len() {
+            self.dead[place]
+        } else {
+            self.count
+        }
+    }
+
     /// Whether an entry is meant.
-    #[tactic(auto, using(crate::proofs::DeadLemmas::live_read, crate::proofs::DeadLemmas::count_live))]
+    #[tactic(auto, using(crate::proofs::DeadLemmas::flag_told))]
     pub fn is_live(&self, e: u32) -> bool
         requires { e < length self.now.live }
         ensures { result ≡ get_or self.now.live e false }
     {
-        self.dead[e as usize] != e
+        self.next_dead(e) != e
     }
 
     /// Whether the extent of an entry is closed, and all of it is meant, where this was selected from the
@@ -145,7 +164,7 @@ impl Selected {
         requires count { length self.now.live ≡ length tree.now }
         ensures { result ≡ whole_at tree.now self.now.live d }
     {
-        tree.closed(d) && tree.extent(d) <= self.dead[d as usize]
+        tree.closed(d) && tree.extent(d) <= self.next_dead(d)
     }
 
     /// The indices of the operands that no entry has, in ascending order.

@@ -4,7 +4,7 @@ use Rattle.tree_model.proofs.marks.all_dead.Given as goal
 
 abbrev pub invariant-entries : goal.invariant-entries
 invariant-entries l = record {
-  upto : l.place ≤ length l.live;
+  upto : l.place ≤ length l.dead.items;
   next : IsDead l.live l.place l.next;
   dead : AreDead l.live l.place l.dead.items;
 }
