@@ -16,10 +16,10 @@ pub below_itself : (p : Path) → at_or_below p p ≡ true
 below_itself [] = refl
 below_itself (n ∷ ns) = and_true (same_bytes n n) (at_or_below ns ns) ((bytes_decides n n).1 refl) (below_itself ns)
 
-same_head : (n m : _) (ns ms : Path) → at_or_below (n ∷ ns) (m ∷ ms) ≡ true → m ≡ n
+pub same_head : (n m : _) (ns ms : Path) → at_or_below (n ∷ ns) (m ∷ ms) ≡ true → m ≡ n
 same_head n m ns ms h = (bytes_decides m n).0 (first_so (same_bytes m n) (at_or_below ns ms) h)
 
-rest_below : (n m : _) (ns ms : Path) → at_or_below (n ∷ ns) (m ∷ ms) ≡ true → at_or_below ns ms ≡ true
+pub rest_below : (n m : _) (ns ms : Path) → at_or_below (n ∷ ns) (m ∷ ms) ≡ true → at_or_below ns ms ≡ true
 rest_below n m ns ms h = second_so (same_bytes m n) (at_or_below ns ms) h
 
 -- what is at or below a path is at or below all that are above it

@@ -16,7 +16,7 @@ use Rattle.find_records.specs.Labelled.{with_label, with_labels}
 use Rattle.find_records.specs.Places.{ArePlaces, no_record}
 use Rattle.find_records.specs.Record.{Record}
 use Rattle.tree_model.specs.Entries.{same_path}
-use Rattle.tree_model.specs.Extents.{entry_at, extent_of, in_extent, is_above, is_directory, one_behind, parent_of, parent_told}
+use Rattle.tree_model.specs.Extents.{entry_at, extent_of, in_extent, is_above, is_directory, one_behind, parent_of}
 use Rattle.tree_model.specs.GroupLists.{AreStarts, groups_behind, names_below}
 use Rattle.tree_model.specs.Groups.{closed_at, group_of, groups_in, inodes_behind, inodes_of}
 use Rattle.tree_model.specs.Kept.{IsKept}
@@ -174,17 +174,13 @@ module _ (old new : List Record) (count : length new ≡ length old) (paths : (e
     whole = wholes;
   }
 
-  pub kept_too : (ends ends' parents_old parents' : List ℕ) (had has : Groups) → ends' ≡ ends → parents' ≡ parents_old → has.total ≡ had.total → has.group_of.items ≡ had.group_of.items → has.names.items ≡ had.names.items
-      → has.starts.items ≡ had.starts.items → has.closed.items ≡ had.closed.items → IsKept old ends parents_old had → IsKept new ends' parents' has
-  kept_too ends ends' parents_old parents' had has e p t g n s c k = record {
+  pub kept_too : (ends ends' : List ℕ) (had has : Groups) → ends' ≡ ends → has.total ≡ had.total → has.group_of.items ≡ had.group_of.items → has.names.items ≡ had.names.items
+      → has.starts.items ≡ had.starts.items → has.closed.items ≡ had.closed.items → IsKept old ends had → IsKept new ends' has
+  kept_too ends ends' had has e t g n s c k = record {
     by_path = rises k.by_path;
     ends_are = record {
       count = ap length e ∙ k.ends_are.count ∙ sym count;
       each = λ d low l. ap (λ ws. get_or ws d 0) e ∙ k.ends_are.each d low (omega (arith, l, count)) ∙ sym (extents d);
-    };
-    parents_are = record {
-      count = ap length p ∙ k.parents_are.count ∙ sym count;
-      each = λ d l. ap (λ ws. parent_told (get_or ws d 0)) p ∙ k.parents_are.each d (omega (arith, l, count)) ∙ sym (parents d);
     };
     groups_are = record {
       total_is = t ∙ k.groups_are.total_is ∙ ap length (sym own_inodes);
@@ -218,8 +214,8 @@ module _ (labels : List Label) (numbers : List ℕ) (entries : List Record) (cou
   pub with_differ : DifferInLabels entries new
   with_differ = differ entries new (with_count labels numbers entries counted) (with_part (λ r. r.path) (λ l r. refl)) (with_part (λ r. r.kind) (λ l r. refl)) (with_part inode_of (λ l r. refl))
 
-  pub with_kept : (ends ends' parents_old parents' : List ℕ) (had has : Groups) → ends' ≡ ends → parents' ≡ parents_old → has.total ≡ had.total → has.group_of.items ≡ had.group_of.items → has.names.items ≡ had.names.items
-      → has.starts.items ≡ had.starts.items → has.closed.items ≡ had.closed.items → IsKept entries ends parents_old had → IsKept new ends' parents' has
+  pub with_kept : (ends ends' : List ℕ) (had has : Groups) → ends' ≡ ends → has.total ≡ had.total → has.group_of.items ≡ had.group_of.items → has.names.items ≡ had.names.items
+      → has.starts.items ≡ had.starts.items → has.closed.items ≡ had.closed.items → IsKept entries ends had → IsKept new ends' has
   with_kept = kept_too entries new (with_count labels numbers entries counted) (with_part (λ r. r.path) (λ l r. refl)) (with_part (λ r. r.kind) (λ l r. refl)) (with_part inode_of (λ l r. refl))
 
 -- numbers below a bound are places

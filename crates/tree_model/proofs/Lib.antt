@@ -31,3 +31,5 @@ pub mod ParentLemmas
 pub mod GroupLaws
 pub mod AbsentLaws
 pub mod LabelledLemmas
+pub mod FrontLemmas
+pub mod FrontTexts

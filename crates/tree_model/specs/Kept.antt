@@ -1,7 +1,7 @@
 -- What a tree keeps of the groups of its entries.
 use Rattle.std.specs.Prelude.{◌≡◌, ℕ, ◌+◌, ◌<◌, Bool, false, List, [], length, map, get_or}
 use Rattle.find_records.specs.Record.{Record}
-use Rattle.tree_model.specs.Extents.{EndsFrom, ParentsTo}
+use Rattle.tree_model.specs.Extents.{EndsFrom}
 use Rattle.tree_model.specs.GroupLists.{AreStarts, groups_behind, names_below}
 use Rattle.tree_model.specs.Groups.{closed_at, groups_in}
 use Rattle.tree_model.specs.Links.{inode_of}
@@ -20,9 +20,8 @@ pub record KeepsGroups (entries : List Record) (total : ℕ) (groups names start
   pub closed_are : (d : ℕ) → d < length entries → get_or closed d false ≡ closed_at entries d
 
 -- what a tree keeps beside its entries, which are in the order of their paths
-pub record IsKept (entries : List Record) (ends parents : List ℕ) (groups : Groups) : Type 0 where
+pub record IsKept (entries : List Record) (ends : List ℕ) (groups : Groups) : Type 0 where
   pub by_path : ByPath entries
   pub ends_are : EndsFrom 0 entries ends
-  pub parents_are : ParentsTo (length entries) entries parents
   pub groups_are : KeepsGroups entries groups.total groups.group_of.items groups.names.items
       groups.starts.items groups.closed.items

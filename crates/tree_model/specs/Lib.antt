@@ -16,3 +16,4 @@ pub mod Selection
 pub mod Jobs
 pub mod LiveLists
 pub mod Labelled
+pub mod Fronts

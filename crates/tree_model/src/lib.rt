@@ -1,6 +1,7 @@
 //! The tree of the entries that records tell.
 #![tactic(auto)]
 
+mod above;
 mod admit;
 mod building;
 mod closed;

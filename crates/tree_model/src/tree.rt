@@ -13,7 +13,8 @@ ghost use Rattle.tree_model.specs.Selection.{selected_by};
 ghost use Rattle.tree_model.specs.Tree.{ByPath, tree_cause, find_in};
 ghost use Rattle.walk_steps.specs.Shaped.{IsValid};
 
-use crate::extents::{all_ends, all_parents, parent_told, word_at};
+use crate::above::parent_by_path;
+use crate::extents::{all_ends, all_parents, word_at};
 use crate::fault::TreeFault;
 use crate::groups::{Groups, flag_at, make_groups, number_groups, part_at};
 use crate::jobs::shape_in;
@@ -32,8 +33,6 @@ pub struct Tree {
     sorted: Sorted,
     // The extent of each entry.
     ends: Vec<u32>,
-    // A word for each entry, which tells its parent.
-    parents: Vec<u32>,
     groups: Groups,
 }
 
@@ -46,7 +45,7 @@ impl Model for Tree {
 
     ghost view = { λ t. t.sorted };
 
-    ghost invariant = { λ t. IsKept t.sorted t.ends.items t.parents.items t.groups };
+    ghost invariant = { λ t. IsKept t.sorted t.ends.items t.groups };
 }
 
 impl Tree {
@@ -65,12 +64,10 @@ impl Tree {
         // First of all that is made, since what numbers the inodes takes most room and is dropped then.
         let numbering = number_groups(alloc, &sorted)?;
         let ends = all_ends(alloc, &sorted)?;
-        let parents = all_parents(alloc, &sorted, ends.as_slice())?;
         let groups = make_groups(alloc, &sorted, numbering, ends.as_slice())?;
         Ok(Tree {
             sorted,
             ends,
-            parents,
             groups,
         })
     }
@@ -96,7 +93,6 @@ impl Tree {
         Ok(Tree {
             sorted: self.sorted.with_labels(alloc, numbers, labels)?,
             ends: Vec::from_slice(alloc, self.ends.as_slice())?,
-            parents: Vec::from_slice(alloc, self.parents.as_slice())?,
             groups: self.groups.copy(alloc)?,
         })
     }
@@ -123,14 +119,14 @@ impl Tree {
         self.sorted.find(path)
     }
 
-    /// The index of the nearest directory above an entry, if the tree has one. It is made once, and this
-    /// looks at it.
+    /// The index of the nearest directory above an entry, if the tree has one. This looks for each path
+    /// above the entry's, from the longest on.
     pub fn parent(&self, e: u32) -> Option<u32>
         requires { e < length self.now }
         ensures value { result ≡ parent_of self.now e }
         ensures before { IfSome result (λ d. d < e) }
     {
-        parent_told(word_at(self.parents.as_slice(), e))
+        parent_by_path(&self.sorted, e)
     }
 
     /// One more than the index of the last entry at or below an entry: those from it up to there are just
@@ -208,6 +204,7 @@ impl Tree {
         ensures value { IfOk result (λ shape. shape ≡ shape_of self.now) }
         ensures valid { IfOk result (λ shape. IsValid shape) }
     {
-        shape_in(alloc, &self.sorted, self.parents.as_slice(), &self.groups)
+        let parents = all_parents(alloc, &self.sorted, self.ends.as_slice())?;
+        shape_in(alloc, &self.sorted, parents.as_slice(), &self.groups)
     }
 }
