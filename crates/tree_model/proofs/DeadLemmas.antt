@@ -16,7 +16,7 @@ length_live : (dead : List ℕ) (place : ℕ) → length (live_from place dead) 
 length_live [] place = refl
 length_live (d ∷ rest) place = ap suc (length_live rest (suc place))
 
-pub count_live : (dead : List ℕ) (count : ℕ) → length (live_of dead count) ≡ length dead + (count - length dead)
+count_live : (dead : List ℕ) (count : ℕ) → length (live_of dead count) ≡ length dead + (count - length dead)
 unfolding live_of
 count_live dead count =
     let words : length (live_from 0 dead) ≡ length dead = length_live dead 0 in
