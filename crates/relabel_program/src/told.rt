@@ -1,4 +1,4 @@
-ghost use Rattle.std.specs.Prelude.{◌≡◌, ◌+◌, ◌-◌, ◌<◌, ◌≤◌, ◌^◌, IfOk, length};
+ghost use Rattle.std.specs.Prelude.{◌≡◌, [], ◌+◌, ◌-◌, ◌<◌, ◌≤◌, ◌^◌, IfOk, length};
 ghost use Rattle.setfattr_dump.specs.Texts.{dump_text};
 ghost use Rattle.relabel_core.specs.Answer.{walk_in};
 ghost use Rattle.relabel_core.specs.Changes.{changes};
@@ -64,14 +64,33 @@ fn lookup_end(count: u32) -> End
     }
 }
 
-// The dump of a walk, for the file of `-o`.
-fn saved_by(alloc: Global, output: &Name, walked: &Walked<'_>) -> Result<Saved, OutOfMemory>
+// About as many bytes as a line has.
+const LINE_ROOM: usize = 64;
+
+// An empty text, with room for so many lines if there is: a text that grows step by step leaves its earlier places
+// behind.
+fn text_for(alloc: Global, lines: u32) -> Bytes
+    ensures { result ≡ [] }
+{
+    match Bytes::with_capacity(alloc, lines as usize * LINE_ROOM) {
+        Ok(text) => text,
+        Err(_) => Bytes::new(alloc),
+    }
+}
+
+// The dump of a walk over so many entries, for the file of `-o`.
+fn saved_by(
+    alloc: Global,
+    output: &Name,
+    walked: &Walked<'_>,
+    entries: u32,
+) -> Result<Saved, OutOfMemory>
     ensures { IfOk result (λ saved. saved ≡ record {
       name = output.now;
       text = dump_text (changes (walk_in walked.now));
     }) }
 {
-    let mut text = Bytes::new(alloc);
+    let mut text = text_for(alloc, entries);
     walked.add_dump(alloc, &mut text)?;
     Ok(Saved {
         name: Name::copy_of(alloc, output.as_str())?,
@@ -83,22 +102,29 @@ fn saved_as(
     alloc: Global,
     output: &Option<Name>,
     walked: &Walked<'_>,
+    entries: u32,
 ) -> Result<Option<Saved>, OutOfMemory>
     ensures { IfOk result (λ saved. saved
         ≡ saved_as output.now (dump_text (changes (walk_in walked.now)))) }
 {
     match output {
         None => Ok(None),
-        Some(name) => Ok(Some(saved_by(alloc, name, walked)?)),
+        Some(name) => Ok(Some(saved_by(alloc, name, walked, entries)?)),
     }
 }
 
-fn tell(alloc: Global, output: &Option<Name>, walked: &Walked<'_>) -> Result<Told, OutOfMemory>
+// What a walk over so many entries tells.
+fn tell(
+    alloc: Global,
+    output: &Option<Name>,
+    walked: &Walked<'_>,
+    entries: u32,
+) -> Result<Told, OutOfMemory>
     ensures { IfOk result (λ told. told ≡ told_of output.now (walk_in walked.now)) }
 {
-    let mut report = Bytes::new(alloc);
+    let mut report = text_for(alloc, entries);
     walked.add_report(alloc, &mut report)?;
-    let saved = saved_as(alloc, output, walked)?;
+    let saved = saved_as(alloc, output, walked, entries)?;
     Ok(Told {
         report,
         end: walk_end(walked.errors()),
@@ -129,7 +155,7 @@ fn tell_walk(
         &stored,
     );
     let walked = walk_uncounted(alloc, &input)?;
-    tell(alloc, &words.output, &walked)
+    tell(alloc, &words.output, &walked, tree.len())
 }
 
 fn tell_found(alloc: Global, words: &LookupWords, policy: &Policy) -> Result<Told, OutOfMemory>
