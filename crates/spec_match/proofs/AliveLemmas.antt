@@ -1,11 +1,13 @@
 -- Lists of the specifications that are alive, some bytes on.
-use Rattle.std.proofs.Common.{◌≡◌, ◌∙◌, refl, sym, ap, subst, ℕ, zero, suc, ◌+◌, ◌<◌, ◌≤◌, ◌⊎◌, inl, inr, Bool, true, false, List, [], ◌∷◌, ◌++◌, length, get_or, take, drop, append_assoc, append-nil, arith}
+use Rattle.std.proofs.Common.{◌≡◌, ◌∙◌, refl, sym, ap, subst, ℕ, zero, suc, ◌+◌, ◌<◌, ◌≤◌, ◌⊎◌, inl, inr, Bool, true, false, List, [], ◌∷◌, ◌++◌, length, get_or, take, drop, append_assoc, append-nil, length-drop, arith}
 use Rattle.std.proofs.lemmas.Bool.{cases_lt}
 use Rattle.std.proofs.lemmas.List.Elements.{All-push}
-use Rattle.std.proofs.lemmas.List.{take_more, take-append-drop}
+use Rattle.std.proofs.Math.ListN.{get_or-append}
+use Rattle.std.proofs.lemmas.List.{get_or-drop, take_more, take-append-drop}
 use Rattle.std.specs.List.{All}
-use Rattle.pattern_match.specs.States.{AreStatesOf, Progress, StandsFor}
+use Rattle.pattern_match.specs.States.{AreStatesOf, Progress, StandsFor, progress}
 use Rattle.pattern_syntax.specs.Language.{In, Opens}
+use Rattle.pattern_syntax.specs.Literal.{literal_start_of}
 use Rattle.pattern_syntax.specs.Tree.{Tree}
 use Rattle.spec_match.specs.Alive.{Alive, AreAlive, IsOwn, Leads, NoneAlive, alive, alive_at, pattern_at}
 use Rattle.spec_match.specs.Stepping.{GoesOn, IsDropped, IsWritten}
@@ -167,3 +169,17 @@ read_dead t states front text i b v l e f alive s o =
     ap (λ w. front ++ w) (sym (take-append-drop (i + 1) text)) ∙ sym (append_assoc front (take (i + 1) text) (drop (i + 1) text)) ∙ ap (λ w. w ++ drop (i + 1) text) (sym read) in
     let u : true ≡ false = sym (alive ((front ++ take i text) ++ b ∷ []) s (less_opens t ((front ++ take i text) ++ b ∷ []) (drop (i + 1) text) (subst (λ w. Opens t w) whole o))) ∙ f in
     cc
+
+-- where another byte than the literal start's next one follows, no text of the language begins so
+pub other_byte : (t : Tree) (start : List ℕ) (seen b : ℕ) → start ≡ literal_start_of t → seen < length start → (get_or start seen 0 ≡ b → ⊥)
+    → (marks text : List ℕ) → StandsFor t (progress seen marks) text → Opens t (text ++ b ∷ []) → ⊥
+other_byte t start seen b e l other marks text s o =
+    let left = s.onto (b ∷ o.0) (subst (In t) (append_assoc text (b ∷ []) o.0) o.1) in
+    let start_of = literal_start_of t in
+    let some : 0 < length (drop seen start_of) = omega (arith, l, ap (λ (w : List ℕ). length w) e, length-drop seen start_of) in
+    let head : b ≡ get_or start_of seen 0 =
+    ap (λ w. get_or w 0 0) left.2
+    ∙ get_or-append (drop seen start_of) left.1 0 0 some
+    ∙ get_or-drop seen start_of 0 0
+    ∙ ap (λ k. get_or start_of k 0) (omega arith) in
+    other (ap (λ w. get_or w seen 0) e ∙ sym head)

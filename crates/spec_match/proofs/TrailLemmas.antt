@@ -1,9 +1,9 @@
 -- The trail of the text that was read last.
-use Rattle.std.proofs.Common.{◌≡◌, ◌∙◌, refl, sym, ap, subst, ℕ, zero, suc, ◌+◌, ◌-◌, ◌*◌, ◌<◌, ◌≤◌, ◌⊎◌, inl, inr, min, Bool, true, false, List, [], ◌∷◌, ◌++◌, length, length-take, length-set, get_or, get_or-set_same, get_or-set_other, set, slice_index, take, drop, if◌then◌else◌, nat_lt, arith}
+use Rattle.std.proofs.Common.{◌≡◌, ◌∙◌, refl, sym, ap, subst, ℕ, zero, suc, ◌+◌, ◌-◌, ◌*◌, ◌<◌, ◌≤◌, ◌⊎◌, inl, inr, min, Bool, true, false, List, [], ◌∷◌, ◌++◌, length, length-drop, length-take, length-set, get_or, get_or-set_same, get_or-set_other, set, slice_index, take, drop, if◌then◌else◌, nat_lt, arith}
 use Rattle.std.proofs.Math.Seq.{take-add}
 use Rattle.std.proofs.lemmas.Bool.{cases_lt}
 use Rattle.std.proofs.lemmas.Bool.Decides.{nat_tests}
-use Rattle.std.proofs.lemmas.List.{take_all, take_more}
+use Rattle.std.proofs.lemmas.List.{get_or-drop, take_all, take_more}
 use Rattle.pattern_syntax.specs.Tree.{Tree}
 use Rattle.spec_match.specs.Alive.{Alive, AreAlive, list_of}
 use Rattle.spec_match.specs.Remembering.{HasStep, IsGrown, IsStep, Remembers}
@@ -172,3 +172,10 @@ front_taken old text cut new rest start o t same is behind grown front =
     ∙ (λ i. (is ∙ same) i ++ take n (behind i))
     ∙ sym (take-add start n text)
     ∙ ap (λ m. take m text) whole
+
+-- an entry of a table by its column
+pub column_at : (next : List ℕ) (byte list : ℕ) → get_or (take (length next - byte) (drop byte next)) (256 * list) 0 ≡ get_or next (256 * list + byte) 0
+column_at next byte list =
+    ap (λ w. get_or w (256 * list) 0) (take_all (length next - byte) (drop byte next) (omega (arith, length-drop byte next)))
+    ∙ get_or-drop byte next (256 * list) 0
+    ∙ ap (λ k. get_or next k 0) (omega arith)

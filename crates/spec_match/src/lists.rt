@@ -96,6 +96,16 @@ impl Lists {
         self.members.index(self.spans[i].start + k)
     }
 
+    /// How many bytes of its literal start the specification at a place of a list has read.
+    pub fn seen(&self, i: usize, k: usize) -> usize
+        requires list { i < length self.now.lists }
+        requires within { k < length (list_of self.now.lists i) }
+        ensures { result ≡ (alive_at (list_of self.now.lists i) k).states.seen }
+    {
+        let _ = self.members.len();
+        self.members.seen(self.spans[i].start + k)
+    }
+
     /// Makes states those at a place of a list.
     pub fn load(&self, i: usize, k: usize, states: &mut States)
         requires list { i < length self.now.lists }

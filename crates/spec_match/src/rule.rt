@@ -2,7 +2,7 @@ ghost use Rattle.std.specs.Prelude.{◌≡◌, ◌↔◌, ◌++◌, ◌∷◌, �
 ghost use Rattle.label_base.specs.Kind.{applies, same_kind};
 ghost use Rattle.pattern_syntax.specs.Language.{Opens, holds};
 ghost use Rattle.pattern_syntax.specs.Literal.{literal_start_of};
-ghost use Rattle.pattern_match.specs.States.{AreStatesOf, StandsFor};
+ghost use Rattle.pattern_match.specs.States.{AreStatesOf, StandsFor, progress};
 ghost use Rattle.spec_match.specs.LastMatch.{fits};
 ghost use Rattle.label_base.specs.Path.{Path, path_text};
 ghost use Rattle.label_base.specs.PathRef.{path_of};
@@ -98,6 +98,20 @@ impl Rule {
             → StandsFor self.now.spec.pattern states.new (text ++ byte ∷ []) }
     {
         self.test.step(&self.spec.pattern, states, byte);
+    }
+
+    /// Whether no text of the language begins with what was read and the byte, as the literal start alone tells: so many of
+    /// its bytes were read.
+    pub fn dies(&self, seen: usize, byte: u8) -> bool
+        ensures { result ≡ true → (marks : List ℕ) → (text : List ℕ)
+            → StandsFor self.now.spec.pattern (progress seen marks) text
+            → Opens self.now.spec.pattern (text ++ byte ∷ []) → ⊥ }
+    {
+        let start = self.start();
+        if seen >= start.len() {
+            return false;
+        }
+        start[seen] != byte
     }
 
     /// Whether some text of the language begins with the text that was read.

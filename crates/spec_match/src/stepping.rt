@@ -29,6 +29,9 @@ fn step_one(
     ensures goes { result ≡ true → GoesOn rule.now.spec.pattern (byte ∷ [])
         (alive_at (list_of lists.old.lists from) k) lists.old.draft lists.new.draft }
 {
+    if rule.dies(lists.seen(from, k), byte) {
+        return true;
+    }
     let index = lists.index(from, k);
     lists.load(from, k, states);
     rule.step(states, byte);

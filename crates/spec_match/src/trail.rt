@@ -120,7 +120,9 @@ pub fn follow(
         if list == NONE_ALIVE {
             return Reached { at: i, list };
         }
-        let known = next[256 * list + text[i] as usize] as usize;
+        // The byte first, so that what depends on the list before is short.
+        let column = &next[text[i] as usize..];
+        let known = column[256 * list] as usize;
         if known == 0 {
             return Reached { at: i, list };
         }

@@ -1,5 +1,5 @@
-use Rattle.std.proofs.Common.{◌≡◌, ◌<◌, ◌*◌, ◌+◌, arith, get_or, length, nat_lt, refl, subst, sym}
-use Rattle.spec_match.proofs.TrailLemmas.{read_known, room_for}
+use Rattle.std.proofs.Common.{◌≡◌, ◌<◌, ◌*◌, ◌+◌, ◌-◌, arith, drop, get_or, length, nat_lt, subst, sym, take}
+use Rattle.spec_match.proofs.TrailLemmas.{column_at, read_known, room_for}
 use Rattle.spec_match.proofs.trail.follow.Goals as goal
 
 pub text-preserved : goal.text-preserved
@@ -9,9 +9,14 @@ text-preserved c =
     let i = c.text.i in
     let from = c.text.list in
     let old = c.text.lists.items in
-    let byte = get_or text i 0 in record {
-      within = c.requires.numbers (256 * from + byte);
+    let byte = get_or text i 0 in
+    let known = get_or (take (length next - byte) (drop byte next)) (256 * from) 0 in
+    let same = column_at next byte from in record {
+      within = subst (λ n. n < c.args.count) (sym same) (c.requires.numbers (256 * from + byte));
       read = λ ps all count steps begun.
-          read_known ps all next text old c.note.new.lists.items i from (get_or next (256 * from + byte) 0) (nat_lt i (length old)) (room_for i (length old)) (omega arith) (let b = c.type_inv.text i in omega (arith, b))
-          (subst (λ n. from < n) (sym count) c.text.invariant.within) (subst (λ n. length next ≡ 256 * n) (sym count) c.requires.rows) refl (omega arith) c.note.ensures steps (c.text.invariant.read ps all count steps begun);
+          let there : from < length all = subst (λ n. from < n) (sym count) c.text.invariant.within in
+          let rows : length next ≡ 256 * length all = subst (λ n. length next ≡ 256 * n) (sym count) c.requires.rows in
+          let small : byte < 256 = (let b = c.type_inv.text i in omega (arith, b)) in
+          read_known ps all next text old c.note.new.lists.items i from known (nat_lt i (length old)) (room_for i (length old)) (omega arith) small there rows same (omega arith) c.note.ensures steps
+          (c.text.invariant.read ps all count steps begun);
     }
