@@ -1,4 +1,4 @@
-ghost use Rattle.std.specs.Prelude.{◌≡◌, ◌≤◌, ◌<◌, ℕ, if◌then◌else◌, List, true, length, slice_get, Some, IfOk, IfSome, OnOk};
+ghost use Rattle.std.specs.Prelude.{◌≡◌, ◌≤◌, ◌<◌, ℕ, if◌then◌else◌, List, true, length, min, slice_get, Some, IfOk, IfSome, OnOk};
 ghost use Rattle.std.specs.Option.{option_copied};
 ghost use Rattle.label_base.specs.Path.{are_names};
 ghost use Rattle.label_base.specs.PathRef.{path_of};
@@ -44,6 +44,17 @@ fn number_under(last: &IndexMap<Vec<u8>, usize>, text: &[u8]) -> Option<usize>
     }
 }
 
+// How many of a path's fronts can be a source, where none has more names than the deepest.
+fn fronts_within(path: &PathRef<'_>, deepest: usize) -> usize
+    ensures { result ≡ min (length (path_of path.now)) deepest }
+{
+    // Mostly there are no lines at all, and then a path's names needn't be counted.
+    if deepest == 0 {
+        return 0;
+    }
+    path.names().min(deepest)
+}
+
 // The index of the last line that covers a path.
 fn last_covering(
     last: &IndexMap<Vec<u8>, usize>,
@@ -54,7 +65,7 @@ fn last_covering(
         → result ≡ last_covering subs (path_of path.now) }
 {
     let text = path.as_text();
-    let most = path.names().min(deepest);
+    let most = fronts_within(path, deepest);
     let mut end = 0;
     let mut found = None;
     'names: for depth in 0..most {

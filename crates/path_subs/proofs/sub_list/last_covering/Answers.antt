@@ -13,21 +13,21 @@ names-init c = record {
 
 pub overflow_add-end-in-names : goal.overflow_add-end-in-names
 overflow_add-end-in-names c =
-    let known : c.names.depth < length (path_of c.args.path.now) = omega (arith, c.names-test.true, c.names-2.ensures, c.min-most.ensures) in
+    let known : c.names.depth < length (path_of c.args.path.now) = omega (arith, c.names-test.true, c.fronts_within-most.ensures) in
     let ends = end_next (path_of c.args.path.now) c.names.depth c.names.end c.name.result.now c.name.ensures.value c.names.invariant.ends in
     let within = end_within (path_of c.args.path.now) c.names.depth (c.names.depth + 1) (c.names.end + (1 + length c.name.result.now)) known ends in
     omega (arith, within, ap length c.as_text-text.ensures.value, c.as_text-text.type_inv.0)
 
 pub slice_bounds-number_under-end : goal.slice_bounds-number_under-end
 slice_bounds-number_under-end c =
-    let known : c.names.depth < length (path_of c.args.path.now) = omega (arith, c.names-test.true, c.names-2.ensures, c.min-most.ensures) in
+    let known : c.names.depth < length (path_of c.args.path.now) = omega (arith, c.names-test.true, c.fronts_within-most.ensures) in
     let ends = end_next (path_of c.args.path.now) c.names.depth c.names.end c.name.result.now c.name.ensures.value c.names.invariant.ends in
     let within = end_within (path_of c.args.path.now) c.names.depth (c.names.depth + 1) (c.names.end + (1 + length c.name.result.now)) known ends in
     sym (length-take-le (c.names.end + (1 + length c.name.result.now)) c.as_text-text.result.now (rw c.as_text-text.ensures.value within))
 
 pub names-preserved : goal.names-preserved
 names-preserved c =
-    let known : c.names.depth < length (path_of c.args.path.now) = omega (arith, c.names-test.true, c.names-2.ensures, c.min-most.ensures) in
+    let known : c.names.depth < length (path_of c.args.path.now) = omega (arith, c.names-test.true, c.fronts_within-most.ensures) in
     let ends = end_next (path_of c.args.path.now) c.names.depth c.names.end c.name.result.now c.name.ensures.value c.names.invariant.ends in
     record {
       ends = ends;
@@ -42,4 +42,4 @@ names-preserved c =
 pub returns : goal.returns
 returns c = λ subs listed.
     found_all subs c.args.last.now.entries c.args.deepest listed (path_of c.args.path.now) c.args.path.now.normal.1 c.names.depth c.names.found
-    (omega (arith, c.names-test.false, c.names.auto.depth-end, c.names-2.ensures, c.min-most.ensures)) (c.names.invariant.finds subs listed)
+    (omega (arith, c.names-test.false, c.names.auto.depth-end, c.fronts_within-most.ensures)) (c.names.invariant.finds subs listed)
