@@ -199,8 +199,8 @@ impl Stored {
         }
     }
 
-    /// Whether no digest is stored.
-    pub fn is_empty(&self) -> bool
+    // Whether no digest is stored.
+    pub(crate) fn is_empty(&self) -> bool
         ensures { result ≡ true → digests_of self.now ≡ no_digests }
     {
         self.kept.is_empty()
