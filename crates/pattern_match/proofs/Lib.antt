@@ -4,11 +4,13 @@ pub mod Running
 pub mod Holding
 pub mod Quotients
 pub mod Classes
+pub mod FullSets
 pub mod Lists
 pub mod Stacks
 pub mod Zeros
 pub mod Copies
 pub mod Stepping
+pub mod Onwards
 pub mod WordBits
 pub mod LowestBits
 pub mod Keeping

@@ -7,9 +7,11 @@ use Rattle.pattern_syntax.specs.Language.{In}
 use Rattle.pattern_match.specs.Residuals.{residuals, is_some_list}
 use Rattle.pattern_match.specs.Automaton.{automaton, all_places}
 use Rattle.pattern_match.specs.States.{bit, is_bare, AreMarks, IsMarked, AreMarksBy, IsBehindBy, AreMarksOf, IsBehind, IsRead}
+use Rattle.pattern_match.specs.Onwards.{AreTextBytes}
 use Rattle.pattern_match.specs.Tables.{AreTables}
 use Rattle.pattern_match.specs.declared.class.Class.{Class}
 use Rattle.pattern_match.proofs.Language.{and_first, and_second, empty_in}
+use Rattle.pattern_match.proofs.Onwards.{LeadsOnward, onward_left}
 use Rattle.pattern_match.proofs.Running.{Runs, automaton_runs, no_first}
 use Rattle.pattern_match.proofs.Stepping.{IsStep, IsEnd, IsAny, step_onto, step_from, end_from, end_onto, any_left, left_any}
 use Rattle.pattern_match.proofs.RunTables.{IsMachine, start_made, start_stands, wide, stepped_states}
@@ -96,6 +98,9 @@ end_behind t marks v e s = (λ h. some_behind t marks [] e (end_from t marks v s
 
 pub bare_ends : (t : Tree) (marks : List ℕ) → is_bare t ≡ true → (true ≡ true → IsBehind t marks []) × (IsBehind t marks [] → true ≡ true)
 bare_ends t marks e = (λ h. (bare_behind t marks [] e).1 refl, λ a. refl)
+
+pub all_behind : (t : Tree) (marks : List ℕ) → is_bare t ≡ false → ((k : ℕ) × (bit marks k ≡ true) × LeadsOnward (all_places (automaton t)) k) → (text : List ℕ) → AreTextBytes text → IsBehind t marks text
+all_behind t marks e s text a = some_behind t marks text e (onward_left t marks s.0 s.1 s.2 text a)
 
 pub any_behind : (t : Tree) (marks : List ℕ) (v : Bool) → is_bare t ≡ false → AreMarksOf t marks → IsAny marks v → v ≡ true → (text : List ℕ) × IsBehind t marks text
 any_behind t marks v e a s h = let r = any_left t marks v (some_marks t marks e a) s h in (r.0, some_behind t marks r.0 e r.1)

@@ -10,11 +10,13 @@ use Rattle.pattern_match.proofs.Classes.{class_takes}
 use Rattle.pattern_match.specs.Residuals.{all_residuals, has_texts}
 use Rattle.pattern_match.specs.Automaton.{Place, automaton, all_places}
 use Rattle.pattern_match.specs.States.{bit, width_of, AreMarks}
+use Rattle.pattern_match.specs.Loops.{IsLoop, HaveRows, LeadsToLoop, HasLoop, IsSteady}
 use Rattle.pattern_match.specs.Tables.{AreTables, leads, ends, has, any_below, bytes_in}
 use Rattle.pattern_match.proofs.Language.{and_first, and_second, and_both, or_either, or_left, or_right}
 use Rattle.pattern_match.proofs.WordBits.{bit_within}
 use Rattle.pattern_match.proofs.Rows.{get_past, row_within}
 use Rattle.pattern_match.proofs.LowestBits.{any_past}
+use Rattle.pattern_match.proofs.Onwards.{IsOnward, LeadsOnward}
 use Rattle.pattern_match.proofs.Stepping.{IsStep, IsEnd, IsStart, Starts, as_many, starts}
 
 any_from : (test : ℕ → Bool) (n : ℕ) → any_below test n ≡ true → (p : ℕ) × (p < n) × (test p ≡ true)
@@ -115,6 +117,57 @@ module _ (ps : List Place) (width : ℕ) (follow accept : List ℕ) (classes : L
         (r.0, r.1, sym (t.last r.0 (omega arith)) ∙ r.2);
   }
 
+  ended_within : (k : ℕ) → bit accept k ≡ true → (k < 64 * width) × (ends (slice_get ps k) ≡ true)
+  ended_within k a =
+      let n = t.accepts in
+      let l = bit_within accept k a in
+      let w : k < 64 * width = omega arith in
+      (w, sym (t.last k w) ∙ a)
+
+  machine_loops : (k : ℕ) → bit accept k ≡ true → IsLoop (length accept) follow classes k → IsOnward ps k
+  machine_loops k a h =
+      let e = ended_within k a in
+      record {
+        last = e.1;
+        again = sym (t.follows k k (ends_within ps k e.1) e.0) ∙ subst (λ w. bit follow (64 * (k * w) + k) ≡ true) t.accepts h.again;
+        takes = λ b u v. sym (taken b k v) ∙ h.takes b u v;
+      }
+
+  machine_rows : HaveRows accept follow
+  machine_rows k a =
+      let w = row_within k (length ps) width (ends_within ps k (ended_within k a).1) in
+      let n = t.accepts in
+      let f = t.rows in
+      rw (n, f) w
+
+  machine_leads : (k : ℕ) → bit accept k ≡ true → LeadsToLoop accept follow classes (k * length accept) → LeadsOnward ps k
+  machine_leads k a h =
+      let e = (ended_within k a).1 in
+      let l = (ended_within h.next h.last).0 in
+      record {
+        last = e;
+        next = h.next;
+        follows = sym (t.follows k h.next (ends_within ps k e) l) ∙ subst (λ w. bit follow (64 * (k * w) + h.next) ≡ true) t.accepts h.follows;
+        onward = machine_loops h.next h.last h.loops;
+      }
+
+  machine_stays : (states : List ℕ) (b : ℕ) → 0 < b → b < 256 → length states ≡ width → ((p : ℕ) → bit states p ≡ true → IsSteady states follow classes p) → IsStep ps states states b
+  machine_stays states b l m n h = record {
+    onto = λ p q u v w.
+        let lp = leads_within ps p q v in
+        let lq = has_within ps q b w in
+        let f = rows_fit in
+        let r : bit follow (64 * (p * width) + q) ≡ true = t.follows p q lp (omega arith) ∙ v in
+        sym ((h p u).same q (omega arith)) ∙ subst (λ w. bit follow (64 * (p * w) + q) ≡ true) (sym n) r;
+    from = λ q u.
+        let s = h q u in
+        let k : has (slice_get ps q) b ≡ true = sym (taken b q m) ∙ s.takes b l m in
+        let lq = has_within ps q b k in
+        let f = rows_fit in
+        let r : bit follow (64 * (q * width) + q) ≡ true = subst (λ w. bit follow (64 * (q * w) + q) ≡ true) n (s.same q (omega arith) ∙ u) in
+        (k, (q, u, sym (t.follows q q lq (omega arith)) ∙ r));
+  }
+
   machine_starts : (states : List ℕ) → length states ≡ width → ((k : ℕ) → k < 64 * length states → bit states k ≡ (nat_lt 0 (length ps) && (length ps - 1 == k))) → IsStart ps states
   machine_starts states n h = record {
     onto = λ k e. let r = rows_fit in h k (omega arith) ∙ and_both (nat_lt 0 (length ps)) (length ps - 1 == k) (first_is (length ps) k e) (last_is (length ps) k e);
@@ -197,6 +250,33 @@ module _ (t : Tree) (rows width : ℕ) (follow accept : List ℕ) (classes : Lis
 
   pub end_is : (states : List ℕ) (v : Bool) → AreMarks t states → ((k : ℕ) → bit states k ≡ true → bit accept k ≡ true → v ≡ true) → (v ≡ true → (k : ℕ) × (bit states k ≡ true) × (bit accept k ≡ true)) → IsEnd (all_places (automaton t)) states v
   end_is states v a f g = machine_ends (all_places (automaton t)) width follow accept classes m.tables states v (wide states a) f g
+
+  pub loop_at : (states shown kept table : List ℕ) (bytes : List Class) → shown ≡ states → kept ≡ accept → table ≡ follow → bytes ≡ classes → HasLoop shown kept table bytes → (k : ℕ) × (bit states k ≡ true) × LeadsOnward (all_places (automaton t)) k
+  loop_at states shown kept table bytes e f g i h =
+      let l : HasLoop states accept follow classes =
+      subst (λ w. HasLoop w accept follow classes) e
+      (subst (λ w. HasLoop shown w follow classes) f
+      (subst (λ w. HasLoop shown kept w classes) g
+      (subst (λ w. HasLoop shown kept table w) i h))) in
+      (l.state, l.marked, machine_leads (all_places (automaton t)) width follow accept classes m.tables l.state l.last l.leads)
+
+  pub stays_at : (states shown table : List ℕ) (bytes : List Class) → shown ≡ states → table ≡ follow → bytes ≡ classes → AreMarks t states → ((p : ℕ) → bit shown p ≡ true → IsSteady shown table bytes p) → (b : ℕ) → 0 < b → b < 256 → IsStep (all_places (automaton t)) states states b
+  stays_at states shown table bytes e f g a h b l m' =
+      let F : List ℕ → List ℕ → List Class → Type 0 = λ s w c. (p : ℕ) → bit s p ≡ true → IsSteady s w c p in
+      machine_stays (all_places (automaton t)) width follow accept classes m.tables states b l m' (wide states a)
+      (subst (λ s. F s follow classes) e (subst (λ w. F shown w classes) f (subst (F shown table) g h)))
+
+  pub rows_at : (states shown table : List ℕ) → shown ≡ states → table ≡ follow → AreMarks t states → (p : ℕ) → bit shown p ≡ true → p * length shown + length shown ≤ length table
+  rows_at states shown table e f a =
+      let F : List ℕ → List ℕ → Type 0 = λ s w. (p : ℕ) → bit s p ≡ true → p * length s + length s ≤ length w in
+      subst (λ s. F s table) (sym e) (subst (F states) (sym f) (marked_in states a))
+
+  pub ended_rows_at : (kept table : List ℕ) → kept ≡ accept → table ≡ follow → HaveRows kept table
+  ended_rows_at kept table e f =
+      subst (λ w. HaveRows w table) (sym e) (subst (HaveRows accept) (sym f) (machine_rows (all_places (automaton t)) width follow accept classes m.tables))
+
+  pub accept_at : (states shown kept : List ℕ) → shown ≡ states → kept ≡ accept → AreMarks t states → length kept ≡ length shown
+  accept_at states shown kept e f a = ap length f ∙ sym (accept_in states a) ∙ sym (ap length e)
 
   pub step_at : (old new shown : List ℕ) (kept : List Class) (b : ℕ) → shown ≡ follow → kept ≡ classes → b < 256 → AreMarks t old → length new ≡ length old → ((k : ℕ) → k < 64 * length old → bit new k ≡ (any_below (λ p. bit old p && bit shown (64 * (p * length old) + k)) (64 * length old) && takes_at kept k b)) → IsStep (all_places (automaton t)) old new b
   step_at old new shown kept b e f l a n h =

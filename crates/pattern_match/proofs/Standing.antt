@@ -6,6 +6,7 @@ use Rattle.std.proofs.lemmas.List.{drop_more, take_all, length-drop}
 use Rattle.pattern_syntax.specs.Tree.{Tree}
 use Rattle.pattern_syntax.specs.Language.{In, Opens, holds}
 use Rattle.pattern_syntax.specs.Literal.{literal_start_of}
+use Rattle.pattern_match.specs.Onwards.{AreTextBytes, TakesAll}
 use Rattle.pattern_match.specs.Starts.{behind_start}
 use Rattle.pattern_match.specs.States.{Progress, IsLeft, IsBehind, StandsFor, is_bare}
 use Rattle.pattern_match.proofs.Cutting.{cut_behind_start}
@@ -124,6 +125,10 @@ tells_opens t states v l onto from text s = (
   λ o. let a = s.onto o.0 o.1 in onto a.1 a.3,
 )
 
+-- whatever follows is left
+pub takes_rest : (t : Tree) (states : Progress) → states.seen ≡ length (literal_start_of t) → ((rest : List ℕ) → AreTextBytes rest → IsBehind (behind_start t) states.marks rest) → (text : List ℕ) → StandsFor t states text → TakesAll t text
+takes_rest t states e h text s = λ rest a. s.from rest (omega arith, rest, sym (at_end (literal_start_of t) states.seen rest e), h rest a)
+
 pub dead_opens : (t : Tree) (states : Progress) → length (literal_start_of t) < states.seen → (text : List ℕ) → StandsFor t states text → Tells false (Opens t text)
 dead_opens t states l text s = false_tells (Opens t text) (λ o. dead_past t states l o.0 (s.onto o.0 o.1))
 
@@ -191,6 +196,11 @@ module _ (t : Tree) (start : List ℕ) (machine : Tree) (s : start ≡ literal_s
   pub accepted : (inside states : Progress) (n : ℕ) (v : Bool) → inside ≡ states → n ≡ length start → inside.seen ≡ n → Tells v (IsBehind machine inside.marks []) → (text : List ℕ) → StandsFor t states text → Tells v (In t text)
   accepted inside states n v i l e h = tells_text t states v (ended t states v (ap (λ (p : Progress). p.seen) (sym i) ∙ e ∙ l ∙ ap length s) (subst (λ b. Tells v (IsBehind b states.marks [])) m (subst (λ (p : Progress). Tells v (IsBehind machine p.marks [])) i h)))
 
+  pub takes_all : (inside states : Progress) (n : ℕ) → inside ≡ states → n ≡ length start → inside.seen ≡ n → ((rest : List ℕ) → AreTextBytes rest → IsBehind machine inside.marks rest) → (text : List ℕ) → StandsFor t states text → TakesAll t text
+  takes_all inside states n i l e h =
+      takes_rest t states (ap (λ (p : Progress). p.seen) (sym i) ∙ e ∙ l ∙ ap length s)
+      (subst (λ b. (rest : List ℕ) → AreTextBytes rest → IsBehind b states.marks rest) m (subst (λ (p : Progress). (rest : List ℕ) → AreTextBytes rest → IsBehind machine p.marks rest) i h))
+
   pub is_dead : (inside states : Progress) (n : ℕ) → inside ≡ states → n ≡ length start → n < inside.seen → (text : List ℕ) → StandsFor t states text → Tells false (Opens t text)
   is_dead inside states n i l e = let q : inside.seen ≡ states.seen = ap (λ (p : Progress). p.seen) i in let r : length start ≡ length (literal_start_of t) = ap length s in dead_opens t states (omega arith)
 
@@ -221,6 +231,13 @@ module _ (t : Tree) (start : List ℕ) (machine : Tree) (s : start ≡ literal_s
       (let q : length shown ≡ length (literal_start_of t) = ap length (e ∙ s) in
       let u : length (literal_start_of t) < inside.seen = omega arith in
       stands_on t inside inside b (moves_dead t inside inside b (λ rest. dead_past t inside u (b ∷ rest)) u))
+
+  pub stays_dead : (inside old : Progress) (n b : ℕ) → inside ≡ old → n ≡ length start → n < inside.seen → (text : List ℕ) → StandsFor t old text → StandsFor t old (text ++ b ∷ [])
+  stays_dead inside old n b i l e = steps_dead inside old start b i refl (omega arith)
+
+  pub stays_behind : (inside old : Progress) (n b : ℕ) → inside ≡ old → n ≡ length start → inside.seen ≡ n → ((text : List ℕ) → (IsBehind machine inside.marks (b ∷ text) → IsBehind machine inside.marks text) × (IsBehind machine inside.marks text → IsBehind machine inside.marks (b ∷ text))) → (text : List ℕ) → StandsFor t old text → StandsFor t old (text ++ b ∷ [])
+  stays_behind inside old n b i l e h = subst (λ (p : Progress). (text : List ℕ) → StandsFor t p text → StandsFor t p (text ++ b ∷ [])) i
+      (stands_on t inside inside b (moves_behind t inside inside b (e ∙ l ∙ ap length s) refl (subst (λ x. (text : List ℕ) → (IsBehind x inside.marks (b ∷ text) → IsBehind x inside.marks text) × (IsBehind x inside.marks text → IsBehind x inside.marks (b ∷ text))) m h)))
 
   pub steps_bare : (inside old : Progress) (shown : List ℕ) (b : ℕ) → inside ≡ old → shown ≡ start → inside.seen ≡ length shown → is_bare machine ≡ true → (text : List ℕ) → StandsFor t old text → StandsFor t (record { seen = length shown + 1; marks = inside.marks }) (text ++ b ∷ [])
   steps_bare inside old shown b i e l v = subst (λ (p : Progress). (text : List ℕ) → StandsFor t p text → StandsFor t (record { seen = length shown + 1; marks = inside.marks }) (text ++ b ∷ [])) i

@@ -51,7 +51,7 @@ goes_to zs [] b t h = absurd h
 goes_to zs (q ∷ qs) b t (inl h) = (q, or_left (q == q) _ (grind arith), h)
 goes_to zs (q ∷ qs) b t (inr h) = let r = goes_to zs qs b t h in (r.0, or_right (q == r.0) _ r.1, r.2)
 
-to_goes : (zs : List Residual) (qs : List ℕ) (b : ℕ) (t : List ℕ) (q : ℕ) → list_any (λ n. n == q) qs ≡ true → Takes zs q b t → Goes zs qs b t
+pub to_goes : (zs : List Residual) (qs : List ℕ) (b : ℕ) (t : List ℕ) (q : ℕ) → list_any (λ n. n == q) qs ≡ true → Takes zs q b t → Goes zs qs b t
 to_goes zs [] b t q h k = cc
 to_goes zs (p ∷ qs) b t q h k = elim (or_either (p == q) _ h) [ inl e ↦ (let f : p ≡ q = grind arith in inl (subst (λ n. Takes zs n b t) (sym f) k)) | inr e ↦ inr (to_goes zs qs b t q e k) ]
 
@@ -104,7 +104,7 @@ pub record IsEnd (places : List Place) (states : List ℕ) (v : Bool) : Type 0 w
   pub onto : (p : ℕ) → bit states p ≡ true → ends (slice_get places p) ≡ true → v ≡ true
   pub from : v ≡ true → (p : ℕ) × (bit states p ≡ true) × (ends (slice_get places p) ≡ true)
 
-ends_from : (p : Option Place) → ends p ≡ true → (place : Place) × (p ≡ Some place)
+pub ends_from : (p : Option Place) → ends p ≡ true → (place : Place) × (p ≡ Some place)
 ends_from None h = cc
 ends_from (Some place) h = (place, refl)
 

@@ -91,6 +91,10 @@ bit_both new old table start k e =
     rw (place_of start k, rest_of start k, e, bit_at_and (get_or old (k / 64) 0) (get_or table (start + k / 64) 0) (k % 64))
     (min_one (bit_at (get_or old (k / 64) 0) (k % 64)) (bit_at (get_or table (start + k / 64) 0) (k % 64)) (bit_at-lt _ _) (bit_at-lt _ _))
 
+-- a bit of a row of a table
+pub row_bit : (words table : List ℕ) (start k : ℕ) → get_or table (start + k / 64) 0 ≡ get_or words (k / 64) 0 → bit table (64 * start + k) ≡ bit words k
+row_bit words table start k e = rw (place_of start k, rest_of start k, e) refl
+
 pub word_either : (v w k : ℕ) → (bit_at (bit_or v w) k == 1) ≡ ((bit_at v k == 1) || (bit_at w k == 1))
 word_either v w k = rw (bit_at_or v w k) (max_one (bit_at v k) (bit_at w k) (bit_at-lt _ _) (bit_at-lt _ _))
 
@@ -110,18 +114,41 @@ bit_of_word words i t l e =
     let q : (64 * i + t) % 64 ≡ t = omega arith in
     rw (p, q, e) refl
 
+pub word_of_bit : (words : List ℕ) (i j : ℕ) → j < 64 → bit words (64 * i + j) ≡ true → bit_at (get_or words i 0) j ≡ 1
+word_of_bit words i j l h =
+    let p : (64 * i + j) / 64 ≡ i = omega arith in
+    let q : (64 * i + j) % 64 ≡ j = omega arith in
+    let e : (bit_at (get_or words i 0) j == 1) ≡ true = rw (p, q) at h in
+    grind arith
+
 least_one : (x y : ℕ) → x < 2 → y < 2 → min x y ≡ 1 → (x ≡ 1) × (y ≡ 1)
 least_one x y l m e = (omega arith, omega arith)
 
+both_one : (v w j : ℕ) → bit_at (bit_and v w) j ≡ 1 → (bit_at v j ≡ 1) × (bit_at w j ≡ 1)
+both_one v w j e = least_one (bit_at v j) (bit_at w j) (bit_at-lt _ _) (bit_at-lt _ _) (sym (bit_at_and v w j) ∙ e)
+
 pub any_found : (words : List ℕ) (i : ℕ) → get_or words i 0 ≢ 0 → get_or words i 0 < 2 ^ 64 → (k : ℕ) × (bit words k ≡ true)
 any_found words i z l = let b = one_bit (get_or words i 0) z l in (64 * i + b.0, bit_of_word words i b.0 b.1 b.2)
+
+-- a bit that two words have in common is one of either list
+pub common_bit : (words others : List ℕ) (i j : ℕ) → j < 64 → bit_at (bit_and (get_or words i 0) (get_or others i 0)) j ≡ 1 → (bit words (64 * i + j) ≡ true) × (bit others (64 * i + j) ≡ true)
+common_bit words others i j l e =
+    let m = both_one (get_or words i 0) (get_or others i 0) j e in
+    (bit_of_word words i j l m.0, bit_of_word others i j l m.1)
+
+-- the same for a row of a table and a list
+pub row_common_bit : (table words : List ℕ) (start i j : ℕ) → j < 64 → bit_at (bit_and (get_or table (start + i) 0) (get_or words i 0)) j ≡ 1 → (bit table (64 * start + (64 * i + j)) ≡ true) × (bit words (64 * i + j) ≡ true)
+row_common_bit table words start i j l e =
+    let m = both_one (get_or table (start + i) 0) (get_or words i 0) j e in
+    let p : 64 * (start + i) + j ≡ 64 * start + (64 * i + j) = omega arith in
+    (subst (λ k. bit table k ≡ true) p (bit_of_word table (start + i) j l m.0), bit_of_word words i j l m.1)
 
 pub common_found : (words others : List ℕ) (i : ℕ) → bit_and (get_or words i 0) (get_or others i 0) ≢ 0 → get_or words i 0 < 2 ^ 64 → (k : ℕ) × (bit words k ≡ true) × (bit others k ≡ true)
 common_found words others i z l =
     let a = and_le_l (get_or words i 0) (get_or others i 0) in
     let b = one_bit (bit_and (get_or words i 0) (get_or others i 0)) z (omega arith) in
-    let m = least_one (bit_at (get_or words i 0) b.0) (bit_at (get_or others i 0) b.0) (bit_at-lt _ _) (bit_at-lt _ _) (sym (bit_at_and (get_or words i 0) (get_or others i 0) b.0) ∙ b.2) in
-    (64 * i + b.0, bit_of_word words i b.0 b.1 m.0, bit_of_word others i b.0 b.1 m.1)
+    let m = common_bit words others i b.0 b.1 b.2 in
+    (64 * i + b.0, m.0, m.1)
 
 -- without a common bit in any word there is none
 pub none_common : (words others : List ℕ) → length words ≡ length others → ((i : ℕ) → i < length words → bit_and (get_or words i 0) (get_or others i 0) ≡ 0) → (k : ℕ) → bit words k ≡ true → bit others k ≡ true → ⊥

@@ -8,3 +8,5 @@ pub mod Class
 pub mod States
 pub mod Tables
 pub mod Compiled
+pub mod Onwards
+pub mod Loops

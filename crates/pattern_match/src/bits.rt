@@ -13,12 +13,12 @@ pub fn no_bits(alloc: Global, words: usize) -> Result<Vec<u64>, OutOfMemory>
     Ok(vec![in alloc; 0u64; words]?)
 }
 
-/// Whether bit k is set.
-pub fn has_bit(words: &[u64], k: usize) -> bool
-    requires { k / 64 < length words.now }
-    ensures { result ≡ bit words.now k }
+/// Whether bit k of the row that starts at a word is set.
+pub fn has_bit(words: &[u64], start: usize, k: usize) -> bool
+    requires { start + k / 64 < length words.now }
+    ensures { result ≡ bit words.now (64 * start + k) }
 {
-    words[k / 64] >> (k % 64) & 1 == 1
+    words[start + k / 64] >> (k % 64) & 1 == 1
 }
 
 /// Sets bit k of the row that starts at a word.
@@ -154,4 +154,18 @@ pub fn have_any(words: &[u64]) -> bool
         }
     }
     false
+}
+
+/// Whether the row that starts at a word has the bits of these words.
+pub fn is_row(words: &[u64], table: &[u64], start: usize) -> bool
+    requires { start + length words.now ≤ length table.now }
+    ensures { result ≡ true → (k : ℕ) → k < 64 * length words.now
+        → bit table.now (64 * start + k) ≡ bit words.now k }
+{
+    for i in 0..words.len() {
+        if table[start + i] != words[i] {
+            return false;
+        }
+    }
+    true
 }

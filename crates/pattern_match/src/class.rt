@@ -32,6 +32,16 @@ impl Class {
             Class::Set(set) => has_text_byte(set),
         }
     }
+
+    /// Whether the class has every byte that texts have.
+    pub fn has_each(&self) -> bool
+        ensures { result ≡ true → (b : ℕ) → 0 < b → b < 256 → takes self.now b ≡ true }
+    {
+        match self {
+            Class::Byte(_) => false,
+            Class::Set(set) => has_each_text_byte(set),
+        }
+    }
 }
 
 // Whether the set has a byte other than 0.
@@ -45,4 +55,12 @@ fn has_text_byte(set: &ByteSet) -> bool
         }
     }
     false
+}
+
+// Whether the set has every byte other than 0.
+fn has_each_text_byte(set: &ByteSet) -> bool
+    ensures { result ≡ true → (b : ℕ) → 0 < b → b < 256 → has_byte set.now b ≡ true }
+{
+    let [first, second, third, fourth] = set.words;
+    first >= u64::MAX - 1 && second == u64::MAX && third == u64::MAX && fourth == u64::MAX
 }

@@ -6,6 +6,7 @@ mod bits;
 mod class;
 mod compile;
 mod fragment;
+mod loops;
 mod machine;
 mod marks;
 mod matcher;
@@ -13,6 +14,7 @@ mod one_text;
 mod position;
 mod skipping;
 mod states;
+mod steady;
 mod tables;
 mod taking;
 

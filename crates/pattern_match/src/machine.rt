@@ -1,12 +1,15 @@
-ghost use Rattle.std.specs.Prelude.{◌≡◌, ◌∷◌, ◌+◌, ◌/◌, ◌↔◌, ℕ, List, [], true, false, IfOk, IsTrue};
+ghost use Rattle.std.specs.Prelude.{◌≡◌, ◌∷◌, ◌+◌, ◌/◌, ◌<◌, ◌↔◌, ℕ, List, [], true, false, IfOk, IsTrue};
 ghost use Rattle.pattern_syntax.specs.Language.{In};
 ghost use Rattle.pattern_syntax.specs.Nodes.{tree_of};
+ghost use Rattle.pattern_match.specs.Onwards.{AreTextBytes};
 ghost use Rattle.pattern_match.specs.States.{AreMarksOf, IsBehind, IsRead, is_bare};
 
 use crate::bits::{have_any, have_common};
 use crate::class::Class;
 use crate::compile::compiled;
+use crate::loops::has_loop;
 use crate::marks::Marks;
+use crate::steady::are_steady;
 use crate::tables::{accept_row, classes_of, follow_table};
 use label_base::OutOfMemory;
 use pattern_syntax::Node;
@@ -131,6 +134,40 @@ impl Machine {
             return true;
         }
         have_common(marks.as_slice(), self.accept.as_slice())
+    }
+
+    /// Whether every text of bytes other than 0 is left. It may say false where it is.
+    pub fn takes_all(&self, marks: &Marks) -> bool
+        requires { AreMarksOf self.now marks.now }
+        ensures { result ≡ true → (text : List ℕ) → AreTextBytes text
+            → IsBehind self.now marks.now text }
+    {
+        if self.is_bare {
+            return false;
+        }
+        has_loop(
+            marks.as_slice(),
+            self.accept.as_slice(),
+            self.follow.as_slice(),
+            self.classes.as_slice(),
+        )
+    }
+
+    /// Whether every byte other than 0 leaves what was left before. It may say false where it does.
+    pub fn stays(&self, marks: &Marks) -> bool
+        requires { AreMarksOf self.now marks.now }
+        ensures { result ≡ true → (byte : ℕ) → 0 < byte → byte < 256
+            → (text : List ℕ) → IsBehind self.now marks.now (byte ∷ text)
+            ↔ IsBehind self.now marks.now text }
+    {
+        if self.is_bare {
+            return false;
+        }
+        are_steady(
+            marks.as_slice(),
+            self.follow.as_slice(),
+            self.classes.as_slice(),
+        )
     }
 
     /// Whether some text is left.

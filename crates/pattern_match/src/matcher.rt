@@ -7,6 +7,7 @@ ghost use Rattle.pattern_syntax.specs.Nodes.{tree_of};
 ghost use Rattle.pattern_syntax.specs.declared.node.Node.TheVariants as node;
 ghost use Rattle.label_base.specs.Path.{Path};
 ghost use Rattle.pattern_match.specs.Quotients.{holds_below};
+ghost use Rattle.pattern_match.specs.Onwards.{TakesAll};
 ghost use Rattle.pattern_match.specs.Starts.{Parts};
 ghost use Rattle.pattern_match.specs.States.{AreStatesOf, StandsFor, Below};
 
@@ -168,6 +169,36 @@ impl Matcher {
         self.machine.accepts(&states.marks)
     }
 
+    /// Whether the language holds the text that was read and each text that begins with it, of bytes other than 0. It may
+    /// say false where it does.
+    pub fn takes_all(&self, states: &States) -> bool
+        requires { AreStatesOf self.now states.now }
+        ensures { result ≡ true → (text : List ℕ) → StandsFor self.now states.now text
+            → TakesAll self.now text }
+    {
+        if states.seen != self.start.len() {
+            return false;
+        }
+        self.machine.takes_all(&states.marks)
+    }
+
+    /// Whether the states stand as well for the text with one more byte, whichever it is, other than 0. It may say false
+    /// where they do.
+    pub fn stays(&self, states: &States) -> bool
+        requires { AreStatesOf self.now states.now }
+        ensures { result ≡ true → (byte : ℕ) → 0 < byte → byte < 256
+            → (text : List ℕ) → StandsFor self.now states.now text
+            → StandsFor self.now states.now (text ++ byte ∷ []) }
+    {
+        if states.seen > self.start.len() {
+            return true;
+        }
+        if states.seen < self.start.len() {
+            return false;
+        }
+        self.machine.stays(&states.marks)
+    }
+
     /// Whether some text of the language begins with the text that was read.
     pub fn alive(&self, states: &States) -> bool
         requires { AreStatesOf self.now states.now }
@@ -291,6 +322,25 @@ mod tests {
         lies_below(alloc, &pattern, &path).ok()
     }
 
+    fn told_behind(
+        alloc: Global,
+        pattern: &Pattern,
+        text: &[u8],
+    ) -> Result<(bool, bool), OutOfMemory> {
+        let matcher = Matcher::new(alloc, pattern)?;
+        let mut states = matcher.states(alloc)?;
+        matcher.read(&mut states, text);
+        Ok((matcher.takes_all(&states), matcher.stays(&states)))
+    }
+
+    // Whether the pattern is told to hold whatever begins with the text, and whether its states are told to stay.
+    fn goes_on(alloc: Global, pattern: &[u8], text: &[u8]) -> Option<(bool, bool)>
+        requires { length pattern.now < 2 ^ 32 }
+    {
+        let pattern = Pattern::read(alloc, pattern).ok()?;
+        told_behind(alloc, &pattern, text).ok()
+    }
+
     #[test]
     fn texts_of_patterns(rt: HostRuntime) {
         let alloc = rt.alloc();
@@ -345,6 +395,33 @@ mod tests {
         assert_eq!(rt; below(alloc, b"/usr/lib(/.*)?", b"/us"), Some(false));
         assert_eq!(rt; below(alloc, b"/usr/libx", b"/usr/lib"), Some(false));
         assert_eq!(rt; below(alloc, b"x", b"/"), Some(false));
+    }
+
+    #[test]
+    fn whatever_follows(rt: HostRuntime) {
+        let alloc = rt.alloc();
+        assert_eq!(rt; goes_on(alloc, b"/a(/.*)?", b"/a/b"), Some((true, true)));
+        assert_eq!(rt; goes_on(alloc, b"/a(/.*)?", b"/a"), Some((false, false)));
+    }
+
+    // The state of the slash leads to that of the dot.
+    #[test]
+    fn whatever_follows_a_slash(rt: HostRuntime) {
+        let alloc = rt.alloc();
+        assert_eq!(rt; goes_on(alloc, b"/a(/.*)?", b"/a/"), Some((true, false)));
+    }
+
+    #[test]
+    fn whatever_follows_but_a_slash(rt: HostRuntime) {
+        let alloc = rt.alloc();
+        assert_eq!(rt; goes_on(alloc, b"/a/[^/]*", b"/a/b"), Some((false, false)));
+    }
+
+    #[test]
+    fn states_that_stay(rt: HostRuntime) {
+        let alloc = rt.alloc();
+        assert_eq!(rt; goes_on(alloc, b"/a/.*b?", b"/a/c"), Some((true, false)));
+        assert_eq!(rt; goes_on(alloc, b"/a", b"/b"), Some((false, true)));
     }
 
     #[test]

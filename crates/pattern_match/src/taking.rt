@@ -1,6 +1,7 @@
-ghost use Rattle.std.specs.Prelude.{◌≡◌, ◌+◌, ◌*◌, ◌<◌, ◌≤◌, ◌^◌, ◌==◌, ◌&&◌, ℕ, length, slice_get};
+ghost use Rattle.std.specs.Prelude.{◌≡◌, ◌+◌, ◌*◌, ◌<◌, ◌≤◌, ◌^◌, ◌==◌, ◌&&◌, true, ℕ, length, slice_get};
 ghost use Rattle.std.specs.Int.{bit_at};
 ghost use Rattle.pattern_match.specs.Class.{takes_at};
+ghost use Rattle.pattern_match.specs.Loops.{TakesEach};
 ghost use Rattle.pattern_match.specs.States.{bit};
 
 use crate::bits::with_bit_if;
@@ -12,6 +13,16 @@ fn has_at(classes: &[Class], i: usize, b: u8) -> bool
 {
     match classes.get(i) {
         Some(class) => class.has(b),
+        None => false,
+    }
+}
+
+/// Whether the class of an index has every byte that texts have.
+pub fn has_each_at(classes: &[Class], i: usize) -> bool
+    ensures { result ≡ true → TakesEach classes.now i }
+{
+    match classes.get(i) {
+        Some(class) => class.has_each(),
         None => false,
     }
 }

@@ -1,0 +1,26 @@
+use Rattle.std.proofs.Common.{◌≡◌, ◌∙◌, subst, sym, false}
+use Rattle.pattern_syntax.specs.Tree.{Tree}
+use Rattle.pattern_match.specs.States.{is_bare}
+use Rattle.pattern_match.proofs.RunTables.{rows_at, stays_at}
+use Rattle.pattern_match.proofs.Ready.{IsReady, machine, some_marks, step_behind}
+use Rattle.pattern_match.proofs.machine.Machine.stays.Goals as goal
+
+pub are_steady-requires : goal.are_steady-requires
+are_steady-requires c =
+    let P : Tree → Type 0 = λ t. IsReady t c.self.inside.is_bare c.self.inside.rows c.self.inside.width c.self.inside.follow.items c.self.inside.accept.items c.self.inside.classes.items in
+    let r : IsReady c.args.self.now c.self.inside.is_bare c.self.inside.rows c.self.inside.width c.self.inside.follow.items c.self.inside.accept.items c.self.inside.classes.items = subst P c.self.view_is (record { bare_is = c.self.invariant.bare; none = c.self.invariant.none; rows_are = c.self.invariant.rows; tables = c.self.invariant.tables }) in
+    let e : c.self.inside.is_bare ≡ false = c.if-self.false in
+    let m = machine c.args.self.now c.self.inside.is_bare c.self.inside.rows c.self.inside.width c.self.inside.follow.items c.self.inside.accept.items c.self.inside.classes.items r e in
+    let b : is_bare c.args.self.now ≡ false = sym r.bare_is ∙ e in
+    let a = some_marks c.args.self.now c.args.marks.now b c.requires in
+    rows_at c.args.self.now c.self.inside.rows c.self.inside.width c.self.inside.follow.items c.self.inside.accept.items c.self.inside.classes.items m c.args.marks.now c.as_slice.result.now c.as_slice-2.result.now c.as_slice.ensures c.as_slice-2.ensures.value a
+
+pub returns : goal.returns
+returns c =
+    let P : Tree → Type 0 = λ t. IsReady t c.self.inside.is_bare c.self.inside.rows c.self.inside.width c.self.inside.follow.items c.self.inside.accept.items c.self.inside.classes.items in
+    let r : IsReady c.args.self.now c.self.inside.is_bare c.self.inside.rows c.self.inside.width c.self.inside.follow.items c.self.inside.accept.items c.self.inside.classes.items = subst P c.self.view_is (record { bare_is = c.self.invariant.bare; none = c.self.invariant.none; rows_are = c.self.invariant.rows; tables = c.self.invariant.tables }) in
+    let e : c.self.inside.is_bare ≡ false = c.if-self.false in
+    let m = machine c.args.self.now c.self.inside.is_bare c.self.inside.rows c.self.inside.width c.self.inside.follow.items c.self.inside.accept.items c.self.inside.classes.items r e in
+    let b : is_bare c.args.self.now ≡ false = sym r.bare_is ∙ e in
+    let a = some_marks c.args.self.now c.args.marks.now b c.requires in
+    λ h byte l u. step_behind c.args.self.now c.args.marks.now c.args.marks.now byte b (stays_at c.args.self.now c.self.inside.rows c.self.inside.width c.self.inside.follow.items c.self.inside.accept.items c.self.inside.classes.items m c.args.marks.now c.as_slice.result.now c.as_slice-2.result.now c.as_slice-3.result.now c.as_slice.ensures c.as_slice-2.ensures.value c.as_slice-3.ensures.value a (c.are_steady.ensures h) byte l u)

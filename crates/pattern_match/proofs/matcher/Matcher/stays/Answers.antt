@@ -1,0 +1,17 @@
+use Rattle.std.proofs.Common.{◌≡◌, ◌∙◌, ap, arith}
+use Rattle.pattern_syntax.specs.Literal.{literal_start_of}
+use Rattle.pattern_match.specs.Starts.{behind_start}
+use Rattle.pattern_match.proofs.Standing.{stays_dead, stays_behind}
+use Rattle.pattern_match.proofs.matcher.Matcher.stays.Goals as goal
+
+pub returns-then-states-len : goal.returns-then-states-len
+returns-then-states-len c =
+    let s : c.self.inside.start ≡ literal_start_of c.args.self.now = c.self.invariant.start ∙ ap literal_start_of c.self.view_is in
+    let m : c.self.inside.machine ≡ behind_start c.args.self.now = c.self.invariant.behind ∙ ap behind_start c.self.view_is in
+    λ _ byte l u. stays_dead c.args.self.now c.self.inside.start c.self.inside.machine s m (record { seen = c.states.inside.seen; marks = c.states.inside.marks }) c.args.states.now c.len.result byte c.states.view_is c.len.ensures c.if-states-len.true
+
+pub returns : goal.returns
+returns c =
+    let s : c.self.inside.start ≡ literal_start_of c.args.self.now = c.self.invariant.start ∙ ap literal_start_of c.self.view_is in
+    let m : c.self.inside.machine ≡ behind_start c.args.self.now = c.self.invariant.behind ∙ ap behind_start c.self.view_is in
+    λ h byte l u. stays_behind c.args.self.now c.self.inside.start c.self.inside.machine s m (record { seen = c.states.inside.seen; marks = c.states.inside.marks }) c.args.states.now c.len.result byte c.states.view_is c.len.ensures (omega arith) (c.stays.ensures h byte l u)

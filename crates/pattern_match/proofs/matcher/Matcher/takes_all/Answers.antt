@@ -1,0 +1,11 @@
+use Rattle.std.proofs.Common.{◌≡◌, ◌∙◌, ap}
+use Rattle.pattern_syntax.specs.Literal.{literal_start_of}
+use Rattle.pattern_match.specs.Starts.{behind_start}
+use Rattle.pattern_match.proofs.Standing.{takes_all}
+use Rattle.pattern_match.proofs.matcher.Matcher.takes_all.Goals as goal
+
+pub returns : goal.returns
+returns c =
+    let s : c.self.inside.start ≡ literal_start_of c.args.self.now = c.self.invariant.start ∙ ap literal_start_of c.self.view_is in
+    let m : c.self.inside.machine ≡ behind_start c.args.self.now = c.self.invariant.behind ∙ ap behind_start c.self.view_is in
+    λ h. takes_all c.args.self.now c.self.inside.start c.self.inside.machine s m (record { seen = c.states.inside.seen; marks = c.states.inside.marks }) c.args.states.now c.len.result c.states.view_is c.len.ensures c.if-states-len.false (c.takes_all.ensures h)
