@@ -1,5 +1,5 @@
 -- The first of a list that fits is the last specification that does.
-use Rattle.std.proofs.Common.{◌≡◌, ◌∙◌, refl, sym, ap, subst, ℕ, zero, suc, ◌+◌, ◌<◌, ◌≤◌, inl, inr, Bool, true, false, cond, List, [], ◌∷◌, ◌++◌, length, get_or, drop, map, filter, Some, None, arith}
+use Rattle.std.proofs.Common.{◌≡◌, ◌∙◌, refl, sym, ap, subst, ℕ, zero, suc, ◌+◌, ◌<◌, ◌≤◌, inl, inr, Bool, true, false, cond, List, [], ◌∷◌, ◌++◌, length, get_or, drop, map, filter, Some, None, append-nil, arith}
 use Rattle.std.specs.Prelude.{◌&&◌}
 use Rattle.std.proofs.lemmas.Bool.{cases_lt}
 use Rattle.std.proofs.lemmas.List.{length-map}
@@ -7,14 +7,15 @@ use Rattle.label_base.specs.Kind.{applies}
 use Rattle.label_base.specs.declared.kind.Asked.{Asked}
 use Rattle.pattern_match.proofs.Reading.{not_holds}
 use Rattle.pattern_match.specs.States.{StandsFor}
-use Rattle.pattern_syntax.specs.Language.{Opens, holds}
-use Rattle.spec_match.specs.Alive.{Alive, AreAlive, NoneAlive, alive_at, pattern_at}
-use Rattle.spec_match.specs.LastMatch.{fits}
+use Rattle.pattern_syntax.specs.Language.{In, Opens, holds}
+use Rattle.spec_match.specs.Alive.{Alive, AreAliveFrom, NoneAlive, alive_at, pattern_at}
+use Rattle.spec_match.specs.Listed.{Covers, IsFloor, IsListed}
+use Rattle.spec_match.specs.LastMatch.{Fits, fits}
 use Rattle.spec_match.specs.Remembering.{IsAnswer}
 use Rattle.spec_match.specs.StatesFor.{patterns_of, spec_in}
 use Rattle.spec_match.specs.declared.rule.Rule.{Rule}
-use Rattle.spec_match.proofs.AliveLemmas.{bound_at, bound_next, less_opens, member_at, none_left}
-use Rattle.spec_match.proofs.LastLemmas.{found_index, found_member, found_decides, none_index, none_member, none_decides}
+use Rattle.spec_match.proofs.AliveLemmas.{bound_at, bound_next, covers_opens, less_opens, member_at, none_left, pattern_of_spec}
+use Rattle.spec_match.proofs.LastLemmas.{found_index, found_member, found_decides, none_index, none_member, none_decides, none_past}
 use Rattle.spec_reader.specs.SpecValue.{SpecValue}
 
 pub pattern_of_rule : (rules : List Rule) (i : ℕ) (d : Rule) → i < length rules → (get_or rules i d).spec.pattern ≡ pattern_at (patterns_of rules) i
@@ -79,13 +80,17 @@ module _ (asked : Asked) (text : List ℕ) where
   past (r ∷ rules) zero l = absurd (omega (arith, l))
   past (r ∷ rules) (suc n) l = past rules n (omega (arith, l))
 
+-- the list is right behind a front of the text, from a floor on
+abbrev right : List ℕ → List Rule → List Alive → ℕ → Type 0
+right front rules list floor = AreAliveFrom (patterns_of rules) front floor (length (patterns_of rules)) list
+
 -- so many members of a list that is right behind a front of the text don't fit the text
 abbrev pub IsPassed : Asked → List ℕ → List ℕ → List Rule → List Alive → ℕ → Type 0
 IsPassed asked front text rules list k =
-    AreAlive (patterns_of rules) front (length (patterns_of rules)) list → NoneFits asked text rules (bound_at (length (patterns_of rules)) list k)
+    (floor : ℕ) → right front rules list floor → NoneFits asked text rules (bound_at (length (patterns_of rules)) list k)
 
 pub none_passed : (asked : Asked) (front text : List ℕ) (rules : List Rule) (list : List Alive) → IsPassed asked front text rules list 0
-none_passed asked front text rules list h = past asked text rules (length (patterns_of rules)) (omega (arith, count_rules rules))
+none_passed asked front text rules list floor h = past asked text rules (length (patterns_of rules)) (omega (arith, count_rules rules))
 
 -- lists that are right behind a front of the text, so that what is dead there doesn't fit the text
 module _ (asked : Asked) (front text : List ℕ) (dead : (spec : SpecValue) → (Opens spec.pattern front → ⊥) → fits asked text spec ≡ false) where
@@ -97,24 +102,21 @@ module _ (asked : Asked) (front text : List ℕ) (dead : (spec : SpecValue) → 
   none_alive_answer rules d below h n =
       none_answer asked text rules (none_back asked text rules 0 below d (omega arith) (λ j a b c. dead_from rules j d 0 below h a b c) n)
 
-  abbrev right : List Rule → List Alive → Type 0
-  right rules list = AreAlive (patterns_of rules) front (length (patterns_of rules)) list
-
-  one_fits : (rules : List Rule) (list : List Alive) (k : ℕ) (rule : Rule) (v : Bool) → k < length list → rule ≡ get_or rules (alive_at list k).index rule → ((alive_at list k).index < length rules) → right rules list → (StandsFor rule.spec.pattern (alive_at list k).states front → v ≡ fits asked text rule.spec) → v ≡ fits asked text (spec_in (get_or rules (alive_at list k).index rule))
-  one_fits rules list k rule v l e w h f =
+  one_fits : (rules : List Rule) (list : List Alive) (floor k : ℕ) (rule : Rule) (v : Bool) → k < length list → rule ≡ get_or rules (alive_at list k).index rule → ((alive_at list k).index < length rules) → right front rules list floor → (StandsFor rule.spec.pattern (alive_at list k).states front → v ≡ fits asked text rule.spec) → v ≡ fits asked text (spec_in (get_or rules (alive_at list k).index rule))
+  one_fits rules list floor k rule v l e w h f =
       let i = (alive_at list k).index in
-      let m = member_at (patterns_of rules) front (length (patterns_of rules)) list k l h in
+      let m = member_at (patterns_of rules) front floor (length (patterns_of rules)) list k l h in
       let p : rule.spec.pattern ≡ pattern_at (patterns_of rules) i = ap (λ (r : Rule). r.spec.pattern) e ∙ pattern_of_rule rules i rule w in
       f (subst (λ t. StandsFor t (alive_at list k).states front) (sym p) m.stands) ∙ ap (λ (r : Rule). fits asked text (spec_in r)) e
 
   pub passed_on : (rules : List Rule) (list : List Alive) (k : ℕ) (rule : Rule) (v : Bool) → k < length list → rule ≡ get_or rules (alive_at list k).index rule → (alive_at list k).index < length rules → (StandsFor rule.spec.pattern (alive_at list k).states front → v ≡ fits asked text rule.spec) → v ≡ false → IsPassed asked front text rules list k → IsPassed asked front text rules list (suc k)
-  passed_on rules list k rule v l e w f z s h =
+  passed_on rules list k rule v l e w f z s floor h =
       let i = (alive_at list k).index in
       let n = bound_at (length (patterns_of rules)) list k in
-      let m = member_at (patterns_of rules) front (length (patterns_of rules)) list k l h in
-      let misses : fits asked text (spec_in (get_or rules i rule)) ≡ false = sym (one_fits rules list k rule v l e w h f) ∙ z in
+      let m = member_at (patterns_of rules) front floor (length (patterns_of rules)) list k l h in
+      let misses : fits asked text (spec_in (get_or rules i rule)) ≡ false = sym (one_fits rules list floor k rule v l e w h f) ∙ z in
       subst (λ b. NoneFits asked text rules b) (sym (bound_next (length (patterns_of rules)) list k l))
-      (none_back asked text rules i n rule (omega (arith, m.below)) (λ j a b c. at i j n rules rule a b c misses m.none) (s h))
+      (none_back asked text rules i n rule (omega (arith, m.below)) (λ j a b c. at i j n rules rule a b c misses m.none) (s floor h))
     where
       at : (i j n : ℕ) (rules : List Rule) (rule : Rule) → i ≤ j → j < n → j < length rules → fits asked text (spec_in (get_or rules i rule)) ≡ false → NoneAlive (patterns_of rules) front (i + 1) n → fits asked text (spec_in (get_or rules j rule)) ≡ false
       at i j n rules rule a b c misses none = elim (cases_lt i j) [
@@ -122,17 +124,36 @@ module _ (asked : Asked) (front text : List ℕ) (dead : (spec : SpecValue) → 
         | inr here ↦ subst (λ q. fits asked text (spec_in (get_or rules q rule)) ≡ false) (omega (arith, here, a)) misses
       ]
 
-  pub first_found : (rules : List Rule) (list : List Alive) (k : ℕ) (rule : Rule) (v : Bool) → k < length list → rule ≡ get_or rules (alive_at list k).index rule → (alive_at list k).index < length rules → (StandsFor rule.spec.pattern (alive_at list k).states front → v ≡ fits asked text rule.spec) → v ≡ true → IsPassed asked front text rules list k → right rules list → IsAnswer asked text (map spec_in rules) (Some (alive_at list k).index)
-  first_found rules list k rule v l e w f z s h =
+  pub first_found : (rules : List Rule) (list : List Alive) (k : ℕ) (rule : Rule) (v : Bool) → k < length list → rule ≡ get_or rules (alive_at list k).index rule → (alive_at list k).index < length rules → (StandsFor rule.spec.pattern (alive_at list k).states front → v ≡ fits asked text rule.spec) → v ≡ true → IsPassed asked front text rules list k → (floor : ℕ) → right front rules list floor → IsAnswer asked text (map spec_in rules) (Some (alive_at list k).index)
+  first_found rules list k rule v l e w f z s floor h =
       let i = (alive_at list k).index in
       let n = bound_at (length (patterns_of rules)) list k in
-      let m = member_at (patterns_of rules) front (length (patterns_of rules)) list k l h in
-      found_answer asked text rules i rule w (sym (one_fits rules list k rule v l e w h f) ∙ z)
-      (none_back asked text rules (suc i) n rule (omega (arith, m.below)) (λ j a b c. dead_from rules j rule (i + 1) n m.none (omega (arith, a)) b c) (s h))
+      let m = member_at (patterns_of rules) front floor (length (patterns_of rules)) list k l h in
+      found_answer asked text rules i rule w (sym (one_fits rules list floor k rule v l e w h f) ∙ z)
+      (none_back asked text rules (suc i) n rule (omega (arith, m.below)) (λ j a b c. dead_from rules j rule (i + 1) n m.none (omega (arith, a)) b c) (s floor h))
 
-  pub none_found : (rules : List Rule) (list : List Alive) (k : ℕ) → length list ≤ k → IsPassed asked front text rules list k → right rules list → IsAnswer asked text (map spec_in rules) None
+  pub none_found : (rules : List Rule) (list : List Alive) (k : ℕ) → length list ≤ k → IsPassed asked front text rules list k → right front rules list 0 → IsAnswer asked text (map spec_in rules) None
   none_found rules list k l s h = at rules refl
     where
       at : (rs : List Rule) → rules ≡ rs → IsAnswer asked text (map spec_in rules) None
       at [] e = none_answer asked text rules (ap (λ (w : List Rule). filter (fits asked text) (map spec_in w)) e)
-      at (r ∷ rs) e = none_alive_answer rules r (bound_at (length (patterns_of rules)) list k) (none_left (patterns_of rules) front (length (patterns_of rules)) list k l h) (s h)
+      at (r ∷ rs) e = none_alive_answer rules r (bound_at (length (patterns_of rules)) list k) (none_left (patterns_of rules) front 0 (length (patterns_of rules)) list k l h) (s 0 h)
+
+-- a specification that covers a text fits it, so that it is listed, and not passed over
+covers_fits : (asked : Asked) (text : List ℕ) (specs : List SpecValue) (i : ℕ) (c : Covers specs text i) → Fits asked text c.spec
+covers_fits asked text specs i c = (ap (λ kind. applies kind asked) c.any, subst (In c.spec.pattern) (append-nil text) (c.holds [] tt))
+
+none_covers : (asked : Asked) (text : List ℕ) (rules : List Rule) (floor bound : ℕ) → NoneAlive (patterns_of rules) text floor bound → NoneFits asked text rules bound → Covers (map spec_in rules) text floor → ⊥
+none_covers asked text rules floor bound none h c = elim (cases_lt floor bound) [
+  | inl below ↦ none floor (omega arith) below (covers_opens (patterns_of rules) (map spec_in rules) text floor (pattern_of_spec rules) c)
+  | inr past ↦ none_past asked text rules bound floor c.spec past h c.found (covers_fits asked text (map spec_in rules) floor c)
+]
+
+pub none_listed : (asked : Asked) (cuts : Bool) (text : List ℕ) (rules : List Rule) (list : List Alive) (k : ℕ) → length list ≤ k → IsPassed asked text text rules list k → IsListed cuts (patterns_of rules) (map spec_in rules) text list → IsAnswer asked text (map spec_in rules) None
+none_listed asked cuts text rules list k l s h = at h.floor h.is_floor h.alive
+  where
+    at : (floor : ℕ) → IsFloor cuts (map spec_in rules) text floor → right text rules list floor → IsAnswer asked text (map spec_in rules) None
+    at floor (inl whole) a = none_found asked text text (dead_fits asked text) rules list k l s (subst (right text rules list) whole a)
+    at floor (inr cut) a =
+        let ps = patterns_of rules in
+        absurd (none_covers asked text rules floor (bound_at (length ps) list k) (none_left ps text floor (length ps) list k l a) (s floor a) cut.1)

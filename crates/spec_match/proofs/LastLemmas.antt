@@ -1,5 +1,5 @@
 -- The last specification that fits, from the end.
-use Rattle.std.proofs.Common.{◌≡◌, ◌∙◌, sym, refl, ap, ℕ, suc, zero, ◌+◌, ◌<◌, Bool, true, false, cond, List, [], ◌∷◌, drop, length, get_or, map, arith}
+use Rattle.std.proofs.Common.{◌≡◌, ◌∙◌, sym, refl, ap, ℕ, suc, zero, ◌+◌, ◌<◌, ◌≤◌, Bool, true, false, cond, List, [], ◌∷◌, drop, length, get_or, map, arith}
 use Rattle.std.specs.Prelude.{◌&&◌, filter, Option, Some, None, slice_get, option_and_then}
 use Rattle.std.specs.List.{enumerate_from, last_or}
 use Rattle.label_base.specs.Kind.{applies}
@@ -41,6 +41,11 @@ rest_none : (v : Bool) (x : SpecValue) (kept : List SpecValue) → cond v (x ∷
 rest_none true x kept h = cc
 rest_none false x kept h = h
 
+pub at_place : (rules : List Rule) (i : ℕ) (d : Rule) → i < length rules → slice_get (map spec_in rules) i ≡ Some (spec_in (get_or rules i d))
+at_place [] i d h = absurd (omega arith)
+at_place (r ∷ rules) zero d h = refl
+at_place (r ∷ rules) (suc i) d h = at_place rules i d (omega arith)
+
 module _ (asked : Asked) (text : List ℕ) where
   abbrev numbered : ℕ → List SpecValue → List (ℕ × SpecValue)
   numbered n specs = filter (λ p. fits asked text p.1) (enumerate_from n specs)
@@ -64,11 +69,6 @@ module _ (asked : Asked) (text : List ℕ) where
   member_from (r ∷ rules) zero d o h t e = rw (t, e) refl
   member_from (r ∷ rules) (suc i) d o h t e =
       by_member (fits asked text (spec_in r)) (spec_in r) o (filter (fits asked text) (map spec_in rules)) (spec_in (get_or rules i d)) (λ o'. member_from rules i d o' (omega arith) t e)
-
-  at_place : (rules : List Rule) (i : ℕ) (d : Rule) → i < length rules → slice_get (map spec_in rules) i ≡ Some (spec_in (get_or rules i d))
-  at_place [] i d h = absurd (omega arith)
-  at_place (r ∷ rules) zero d h = refl
-  at_place (r ∷ rules) (suc i) d h = at_place rules i d (omega arith)
 
   -- a specification fits, and none behind it does
   pub found_index : (rules : List Rule) (i : ℕ) (d : Rule) → i < length rules → fits asked text (spec_in (get_or rules i d)) ≡ true → filter (fits asked text) (map spec_in (drop (suc i) rules)) ≡ [] → Some i ≡ last_index asked text (map spec_in rules)
@@ -102,18 +102,21 @@ module _ (asked : Asked) (text : List ℕ) where
       let n : cond true (s ∷ filter (fits asked text) specs) (filter (fits asked text) specs) ≡ [] = ap (λ v. cond v (s ∷ filter (fits asked text) specs) (filter (fits asked text) specs)) (sym t) ∙ h in cc
   none_fits (s ∷ specs) h (suc j) spec g f = none_fits specs (rest_none (fits asked text s) s (filter (fits asked text) specs) h) j spec g f
 
-  behind : (rules : List Rule) (i j : ℕ) (spec : SpecValue) → i < j → slice_get (map spec_in rules) j ≡ Some spec → (k : ℕ) × (slice_get (map spec_in (drop (suc i) rules)) k ≡ Some spec)
+  behind : (rules : List Rule) (i j : ℕ) (spec : SpecValue) → i ≤ j → slice_get (map spec_in rules) j ≡ Some spec → (k : ℕ) × (slice_get (map spec_in (drop i rules)) k ≡ Some spec)
   behind [] i j spec l h = cc
-  behind (r ∷ rules) i zero spec l h = absurd (omega arith)
-  behind (r ∷ rules) zero (suc j) spec l h = (j, h)
+  behind (r ∷ rules) zero j spec l h = (j, h)
+  behind (r ∷ rules) (suc i) zero spec l h = absurd (omega arith)
   behind (r ∷ rules) (suc i) (suc j) spec l h = behind rules i j spec (omega arith) h
+
+  pub none_past : (rules : List Rule) (i j : ℕ) (spec : SpecValue) → i ≤ j → filter (fits asked text) (map spec_in (drop i rules)) ≡ [] → slice_get (map spec_in rules) j ≡ Some spec → Fits asked text spec → ⊥
+  none_past rules i j spec l e g f = let b = behind rules i j spec l g in none_fits (map spec_in (drop i rules)) e b.0 spec b.1 f
 
   pub found_decides : (rules : List Rule) (i : ℕ) (d : Rule) → i < length rules → fits asked text (spec_in (get_or rules i d)) ≡ true → filter (fits asked text) (map spec_in (drop (suc i) rules)) ≡ [] → Decides asked text (map spec_in rules) (Some i)
   found_decides rules i d h t e = record {
     spec = spec_in (get_or rules i d);
     found = at_place rules i d h;
     fits = (fit_tells (spec_in (get_or rules i d))).0 t;
-    last = λ j later l g f. let b = behind rules i j later l g in none_fits (map spec_in (drop (suc i) rules)) e b.0 later b.1 f;
+    last = λ j later l g f. none_past rules (suc i) j later (omega (arith, l)) e g f;
   }
 
   pub none_decides : (rules : List Rule) → filter (fits asked text) (map spec_in rules) ≡ [] → Decides asked text (map spec_in rules) None

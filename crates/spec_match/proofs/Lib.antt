@@ -4,6 +4,7 @@ pub mod MemberLemmas
 pub mod ListLemmas
 pub mod AliveLemmas
 pub mod AnswerLemmas
+pub mod SteppingLemmas
 pub mod RelevantLemmas
 pub mod TableLemmas
 pub mod TrailLemmas

@@ -1,5 +1,5 @@
 -- Members, and the words of their marks.
-use Rattle.std.proofs.Common.{◌≡◌, ◌∙◌, refl, sym, ap, ap₂, subst, ℕ, zero, suc, ◌+◌, ◌<◌, ◌≤◌, List, [], ◌∷◌, ◌++◌, length, length-drop, length-take, get_or, take, drop, map, arith}
+use Rattle.std.proofs.Common.{◌≡◌, ◌∙◌, refl, sym, ap, ap₂, subst, ℕ, zero, suc, ◌+◌, ◌<◌, ◌≤◌, List, [], ◌∷◌, ◌++◌, Option, length, length-drop, length-take, get_or, take, drop, map, arith}
 use Rattle.std.proofs.Math.Seq.{drop-append_seam}
 use Rattle.std.proofs.lemmas.List.{take-append-le, drop-append-le, take_all, take-append-drop}
 use Rattle.pattern_match.specs.States.{progress}
@@ -29,7 +29,7 @@ all_kept : (words more : List ℕ) (end at : ℕ) (ms : List Member) → end ≤
 all_kept words more end at [] l h = refl
 all_kept words more end at (m ∷ ms) l h =
     ap₂ (λ x xs. x ∷ xs)
-    (ap (λ marks. alive m.index (progress m.seen marks)) (kept words more m.start m.width (omega (arith, h.0, laid_end end (at + m.width) ms h.1))))
+    (ap (λ marks. alive m.index (progress m.seen marks) m.wants) (kept words more m.start m.width (omega (arith, h.0, laid_end end (at + m.width) ms h.1))))
     (all_kept words more end (at + m.width) ms l h.1)
 
 map_push : {X Y : Type 0} (f : X → Y) (xs : List X) (x : X) → map f (xs ++ x ∷ []) ≡ map f xs ++ f x ∷ []
@@ -39,11 +39,12 @@ map_push f (y ∷ xs) x = ap (λ ys. f y ∷ ys) (map_push f xs x)
 last : (words more : List ℕ) (start len : ℕ) → start ≡ length words → len ≡ length more → take len (drop start (words ++ more)) ≡ more
 last words more start len e f = rw (e, f, drop-append_seam words more) (take_all (length more) more (omega arith))
 
-pub members_more : (words more : List ℕ) (ms : List Member) (m : Member) (index seen : ℕ) → AreLaidOut (length words) 0 ms → m.index ≡ index → m.seen ≡ seen → m.start ≡ length words → m.width ≡ length more → map (alive_in (words ++ more)) (ms ++ m ∷ []) ≡ map (alive_in words) ms ++ alive index (progress seen more) ∷ []
-members_more words more ms m index seen h i s e f =
+pub members_more : (words more : List ℕ) (ms : List Member) (m : Member) (index seen : ℕ) (wants : Option ℕ) → AreLaidOut (length words) 0 ms → m.index ≡ index → m.seen ≡ seen → m.start ≡ length words → m.width ≡ length more → m.wants ≡ wants
+    → map (alive_in (words ++ more)) (ms ++ m ∷ []) ≡ map (alive_in words) ms ++ alive index (progress seen more) wants ∷ []
+members_more words more ms m index seen wants h i s e f w =
     map_push (alive_in (words ++ more)) ms m
     ∙ ap₂ (λ xs x. xs ++ x ∷ []) (all_kept words more (length words) 0 ms (omega arith) h)
-    (ap₂ alive i (ap₂ progress s (last words more m.start m.width e f)))
+    (ap₂ (λ index states. alive index states m.wants) i (ap₂ progress s (last words more m.start m.width e f)) ∙ ap (alive index (progress seen more)) w)
 
 pub laid_cut : (end at : ℕ) (ms : List Member) (n : ℕ) (d : Member) → AreLaidOut end at ms → n < length ms → AreLaidOut (get_or ms n d).start at (take n ms)
 laid_cut end at [] n d h l = absurd (omega (arith, l))

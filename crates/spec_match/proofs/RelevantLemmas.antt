@@ -127,9 +127,9 @@ module _ (path : Path) where
   decided_on rules list k rule v old new l e w f n h t =
       let ps = patterns_of rules in
       let i = (alive_at list k).index in
-      let m = member_at ps (path_text path) (length ps) list k l h in
+      let m = member_at ps (path_text path) 0 (length ps) list k l h in
       let p : rule.spec.pattern ≡ pattern_at ps i = ap (λ (r : Rule). r.spec.pattern) e ∙ pattern_of_rule rules i rule w in
-      let rest = subst (λ b. AreAlive ps (path_text path) b (drop (suc k) list)) (bound_next (length ps) list k l) (rest_alive ps (path_text path) (length ps) list (suc k) h) in
+      let rest = subst (λ b. AreAlive ps (path_text path) b (drop (suc k) list)) (bound_next (length ps) list k l) (rest_alive ps (path_text path) 0 (length ps) list (suc k) h) in
       let before = none_decides rules (low_at list (suc k)) i rule old (low_below ps (path_text path) i (drop (suc k) list) rest) (omega (arith, w)) (none_above ps (path_text path) i (drop (suc k) list) rest) t in
       let next : i + 1 ≡ low_at list k = omega arith ∙ sym (low_next list k l) in
       subst (λ b. IsTried path rules b new) next

@@ -6,12 +6,9 @@ use Rattle.std.proofs.lemmas.List.{get_or_push}
 use Rattle.pattern_match.specs.States.{AreStatesOf, Progress}
 use Rattle.pattern_syntax.specs.Tree.{Tree, Nothing}
 use Rattle.spec_match.specs.StatesFor.{AreStatesFor, no_progress, pattern_in, patterns_of, spec_in}
-use Rattle.spec_match.specs.Remembering.{IsTableOf}
-use Rattle.spec_match.specs.Trail.{IsTrail, trace_in}
-use Rattle.spec_match.specs.Scratches.{IsScratchOf}
+use Rattle.spec_match.specs.Scratches.{IsReady, IsScratchOf}
 use Rattle.spec_match.specs.Alive.{AreAlive, IsOwn}
 use Rattle.spec_match.specs.Carrying.{Carrying, IsAliveAt, IsCarriedOf, StandsAt}
-use Rattle.spec_match.specs.Tables.{kept_in}
 use Rattle.spec_match.specs.Workspaces.{IsWorkspaceFor, room_in}
 use Rattle.spec_match.specs.declared.workspace.Workspace.{Workspace}
 use Rattle.std.specs.List.{All}
@@ -30,21 +27,11 @@ module _ (rules : List Rule) (specs : List SpecValue) (same : map spec_in rules 
 
   pub scratch_of : (w : Workspace) → IsWorkspaceFor rules w → IsScratchOf specs (room_in w)
   unfolding IsScratchOf
-  scratch_of w ready = record {
-    states = subst (λ ps. AreStatesFor ps w.states.items) patterns_same ready.states;
-    table = subst (λ ps. IsTableOf ps specs (kept_in w.table)) patterns_same (subst (λ ss. IsTableOf (patterns_of rules) ss (kept_in w.table)) same ready.table);
-    draft = ready.draft;
-    trail = subst (λ ps. IsTrail ps w.table.lists.lists (trace_in w.table.trail)) patterns_same ready.trail;
-  }
+  scratch_of w ready = subst (λ ps. IsReady ps specs (room_in w)) patterns_same (subst (λ ss. IsReady (patterns_of rules) ss (room_in w)) same ready)
 
   pub ready_in : (w : Workspace) → IsScratchOf specs (room_in w) → IsWorkspaceFor rules w
   unfolding IsScratchOf
-  ready_in w own = record {
-    states = subst (λ ps. AreStatesFor ps w.states.items) (sym patterns_same) own.states;
-    table = subst (λ ss. IsTableOf (patterns_of rules) ss (kept_in w.table)) (sym same) (subst (λ ps. IsTableOf ps specs (kept_in w.table)) (sym patterns_same) own.table);
-    draft = own.draft;
-    trail = subst (λ ps. IsTrail ps w.table.lists.lists (trace_in w.table.trail)) (sym patterns_same) own.trail;
-  }
+  ready_in w own = subst (λ ss. IsReady (patterns_of rules) ss (room_in w)) (sym same) (subst (λ ps. IsReady ps specs (room_in w)) (sym patterns_same) own)
 
   pub carried_of : (carried : Carrying) → All (IsOwn (patterns_of rules)) carried.alive → IsCarriedOf specs carried
   unfolding IsCarriedOf

@@ -3,14 +3,15 @@ use Rattle.std.proofs.Common.{◌≡◌, ◌≢◌, ◌∙◌, sym, refl, ap, su
 use Rattle.std.proofs.Math.ListN.{get_or-append}
 use Rattle.std.proofs.lemmas.Bool.{cases_lt}
 use Rattle.std.proofs.lemmas.List.{get_or_default, get_or_push, length-replicate}
-use Rattle.std.specs.List.{All}
+use Rattle.std.specs.List.{All, slice_index_or}
 use Rattle.label_base.specs.declared.kind.Asked.{Asked}
 use Rattle.label_base.specs.declared.kind.Asked.TheVariants.{Any, Of}
 use Rattle.label_base.specs.declared.kind.EntryKind.TheVariants.{Regular, Directory, Link, Pipe, Socket, Block, Char, Other}
 use Rattle.pattern_syntax.specs.Tree.{Tree}
 use Rattle.spec_reader.specs.SpecValue.{SpecValue}
-use Rattle.spec_match.specs.Alive.{Alive, AreAlive, IsOwn, Leads, list_of}
-use Rattle.spec_match.specs.Remembering.{Kept, HasAnswer, HasStep, IsAnswer, IsGrown, IsNoted, IsStep, IsTableOf, Remembers, asked_number, asked_of, decoded, kept, with_list}
+use Rattle.spec_match.specs.Alive.{Alive, AreAlive, IsOwn, LeadsBy, list_of}
+use Rattle.spec_match.specs.Listed.{IsListed, Stays}
+use Rattle.spec_match.specs.Remembering.{AreStaying, Kept, HasAnswer, HasStep, IsAnswer, IsGrown, IsNoted, IsStep, IsTableOf, Remembers, asked_number, asked_of, decoded, kept, with_list}
 
 recalled : (R : ℕ → ℕ → Type 0) (row : List ℕ) (p known : ℕ) → Remembers R row → p < length row → known ≡ get_or row p known → 0 < known → R p (known - 1)
 recalled R row p known m w e h = m.entry p (known - 1) (get_or_default row p 0 known w ∙ sym e ∙ omega (arith, h))
@@ -46,30 +47,31 @@ weaker R S row f m = record { entry = λ p v e. f p v (m.entry p v e) }
 list_kept : (old more : List (List Alive)) (i : ℕ) → i < length old → list_of (old ++ more) i ≡ list_of old i
 list_kept old more i l = get_or-append old more [] i l
 
-steps_kept : (ps : List Tree) (lists : List (List Alive)) (new : List Alive) (row : List ℕ) → Remembers (IsStep ps lists) row → Remembers (IsStep ps (lists ++ new ∷ [])) row
-steps_kept ps lists new row m =
-    weaker (IsStep ps lists) (IsStep ps (lists ++ new ∷ [])) row (λ p v h. record {
+steps_kept : (IsFor : List ℕ → List Alive → Type 0) (lists : List (List Alive)) (new : List Alive) (row : List ℕ) → Remembers (IsStep IsFor lists) row → Remembers (IsStep IsFor (lists ++ new ∷ [])) row
+steps_kept IsFor lists new row m =
+    weaker (IsStep IsFor lists) (IsStep IsFor (lists ++ new ∷ [])) row (λ p v h. record {
       from_within = omega (arith, h.from_within, length-append lists (new ∷ []));
       to_within = omega (arith, h.to_within, length-append lists (new ∷ []));
       leads = rw (list_kept lists (new ∷ []) (p / 256) h.from_within, list_kept lists (new ∷ []) (suc v) h.to_within) h.leads;
     }) m
 
-answers_kept : (ps : List Tree) (specs : List SpecValue) (lists : List (List Alive)) (new : List Alive) (row : List ℕ) → Remembers (IsNoted ps specs lists) row → Remembers (IsNoted ps specs (lists ++ new ∷ [])) row
-answers_kept ps specs lists new row m =
-    weaker (IsNoted ps specs lists) (IsNoted ps specs (lists ++ new ∷ [])) row (λ p v h. record {
+answers_kept : (IsFor : List ℕ → List Alive → Type 0) (specs : List SpecValue) (lists : List (List Alive)) (new : List Alive) (row : List ℕ) → Remembers (IsNoted IsFor specs lists) row → Remembers (IsNoted IsFor specs (lists ++ new ∷ [])) row
+answers_kept IsFor specs lists new row m =
+    weaker (IsNoted IsFor specs lists) (IsNoted IsFor specs (lists ++ new ∷ [])) row (λ p v h. record {
       within = omega (arith, h.within, length-append lists (new ∷ []));
-      told = λ text a. h.told text (subst (λ list. AreAlive ps text (length ps) list) (list_kept lists (new ∷ []) (p / 9) h.within) a);
+      told = λ text a. h.told text (subst (λ list. IsFor text list) (list_kept lists (new ∷ []) (p / 9) h.within) a);
     }) m
 
-pub nothing_kept : (ps : List Tree) (specs : List SpecValue) → IsTableOf ps specs (kept [] [] [])
-nothing_kept ps specs = record {
+pub nothing_kept : (ps : List Tree) (specs : List SpecValue) (cuts : Bool) → IsTableOf ps specs (kept cuts [] [] [] [])
+nothing_kept ps specs cuts = record {
   own = λ i l. absurd (omega (arith, l));
   first = λ l. absurd (omega (arith, l));
-  none = refl;
   rows = refl;
   answer_rows = refl;
   steps = record { entry = λ p v e. absurd (omega (arith, e)) };
   answers = record { entry = λ p v e. absurd (omega (arith, e)) };
+  stays_rows = refl;
+  stays = λ i l. absurd (omega (arith, l));
 }
 
 before_or_last : (i n : ℕ) → i < n + 1 → (i < n) ⊎ (n ≡ i)
@@ -85,44 +87,75 @@ first_more : (ps : List Tree) (lists : List (List Alive)) (new : List Alive) →
 first_more ps [] new first this = this refl
 first_more ps (x ∷ lists) new first this = first (omega arith)
 
-none_more : (lists : List (List Alive)) (new : List Alive) → list_of lists 1 ≡ [] → (length lists ≡ 1 → new ≡ []) → list_of (lists ++ new ∷ []) 1 ≡ []
-none_more [] new none this = refl
-none_more (x ∷ []) new none this = this refl
-none_more (x ∷ y ∷ lists) new none this = none
+stays_more : (IsFor : List ℕ → List Alive → Type 0) (lists : List (List Alive)) (new : List Alive) (row : List Bool) → length row ≡ length lists → AreStaying IsFor lists row → AreStaying IsFor (lists ++ new ∷ []) (row ++ false ∷ [])
+stays_more IsFor lists new row n s i l e = elim (before_or_last i (length lists) (omega (arith, l, length-append lists (new ∷ [])))) [
+  | inl before ↦ subst (Stays IsFor) (sym (list_kept lists (new ∷ []) i before)) (s i before (sym (get_or-append row (false ∷ []) false i (omega (arith, n, before))) ∙ e))
+  | inr here ↦ absurd (true≢false (sym e ∙ get_or_push row false false i (n ∙ here)))
+]
 
-pub added : (ps : List Tree) (specs : List SpecValue) (k : Kept) (new : List Alive) → IsTableOf ps specs k → All (IsOwn ps) new → (length k.lists ≡ 0 → AreAlive ps [] (length ps) new) → (length k.lists ≡ 1 → new ≡ []) → IsTableOf ps specs (with_list k new)
-added ps specs k new t own first none = record {
+stays_set : (IsFor : List ℕ → List Alive → Type 0) (lists : List (List Alive)) (row : List Bool) (number : ℕ) (flag : Bool) → number < length row → (flag ≡ true → Stays IsFor (list_of lists number)) → AreStaying IsFor lists row → AreStaying IsFor lists (set row number flag)
+stays_set IsFor lists row number flag w this s i l e = at (i == number) refl
+  where
+    at : (same : Bool) → (i == number) ≡ same → Stays IsFor (list_of lists i)
+    at true t =
+        let same : i ≡ number = eqb-true i number t in
+        subst (λ k. Stays IsFor (list_of lists k)) (sym same) (this (sym (get_or-set_same row number flag false w) ∙ ap (λ k. slice_index_or (set row number flag) k false) (sym same) ∙ e))
+    at false t =
+        let other : i ≢ number = λ same. true≢false (sym (eq-eqb i number same) ∙ t) in
+        s i l (sym (get_or-set_other row number i flag false other) ∙ e)
+
+pub added : (ps : List Tree) (specs : List SpecValue) (k : Kept) (new : List Alive) → IsTableOf ps specs k → All (IsOwn ps) new → (length k.lists ≡ 0 → AreAlive ps [] (length ps) new) → IsTableOf ps specs (with_list k new)
+added ps specs k new t own first = record {
   own = own_more ps k.lists new t.own own;
   first = λ _. first_more ps k.lists new t.first first;
-  none = none_more k.lists new t.none none;
   rows = omega (arith, t.rows, length-append k.next (replicate 256 0), length-append k.lists (new ∷ []), length-replicate {A = ℕ} 256 0);
   answer_rows = omega (arith, t.answer_rows, length-append k.answers (replicate 9 0), length-append k.lists (new ∷ []), length-replicate {A = ℕ} 9 0);
-  steps = longer (IsStep ps (k.lists ++ new ∷ [])) k.next 256 (steps_kept ps k.lists new k.next t.steps);
-  answers = longer (IsNoted ps specs (k.lists ++ new ∷ [])) k.answers 9 (answers_kept ps specs k.lists new k.answers t.answers);
+  steps = longer (IsStep (IsListed k.cuts ps specs) (k.lists ++ new ∷ [])) k.next 256 (steps_kept (IsListed k.cuts ps specs) k.lists new k.next t.steps);
+  answers = longer (IsNoted (IsListed k.cuts ps specs) specs (k.lists ++ new ∷ [])) k.answers 9 (answers_kept (IsListed k.cuts ps specs) specs k.lists new k.answers t.answers);
+  stays_rows = omega (arith, t.stays_rows, length-append k.stays (false ∷ []), length-append k.lists (new ∷ []));
+  stays = stays_more (IsListed k.cuts ps specs) k.lists new k.stays t.stays_rows t.stays;
 }
 
-pub step_noted : (ps : List Tree) (specs : List SpecValue) (k : Kept) (from byte to : ℕ) → IsTableOf ps specs k → from < length k.lists → byte < 256 → to < length k.lists → Leads ps (byte ∷ []) (list_of k.lists from) (list_of k.lists to) → IsTableOf ps specs (kept k.lists (set k.next (256 * from + byte) to) k.answers)
+pub step_noted : (ps : List Tree) (specs : List SpecValue) (k : Kept) (from byte to : ℕ) → IsTableOf ps specs k → from < length k.lists → byte < 256 → to < length k.lists → LeadsBy (IsListed k.cuts ps specs) (byte ∷ []) (list_of k.lists from) (list_of k.lists to) → IsTableOf ps specs (kept k.cuts k.lists (set k.next (256 * from + byte) to) k.answers k.stays)
 step_noted ps specs k from byte to t f b o leads = record {
   own = t.own;
   first = t.first;
-  none = t.none;
   rows = length-set k.next (256 * from + byte) to ∙ t.rows;
   answer_rows = t.answer_rows;
-  steps = noted (IsStep ps k.lists) k.next (256 * from + byte) to (omega (arith, t.rows, f, b)) (λ v e.
+  steps = noted (IsStep (IsListed k.cuts ps specs) k.lists) k.next (256 * from + byte) to (omega (arith, t.rows, f, b)) (λ v e.
       let q : (256 * from + byte) / 256 ≡ from = omega (arith, b) in
       let r : (256 * from + byte) % 256 ≡ byte = omega (arith, b) in
       rw (q, r, ← e) (record { from_within = f; to_within = o; leads = leads })) t.steps;
   answers = t.answers;
+  stays_rows = t.stays_rows;
+  stays = t.stays;
 }
 
-pub step_known : (ps : List Tree) (lists : List (List Alive)) (next : List ℕ) (from byte known : ℕ) → Remembers (IsStep ps lists) next → from < length lists → byte < 256 → length next ≡ 256 * length lists → known ≡ slice_index next (256 * from + byte) → 0 < known → HasStep ps lists from byte known
-step_known ps lists next from byte known t f b rows e h =
+pub stays_noted : (ps : List Tree) (specs : List SpecValue) (k : Kept) (number : ℕ) (flag : Bool) → IsTableOf ps specs k → number < length k.lists → (flag ≡ true → Stays (IsListed k.cuts ps specs) (list_of k.lists number)) → IsTableOf ps specs (kept k.cuts k.lists k.next k.answers (set k.stays number flag))
+stays_noted ps specs k number flag t l this = record {
+  own = t.own;
+  first = t.first;
+  rows = t.rows;
+  answer_rows = t.answer_rows;
+  steps = t.steps;
+  answers = t.answers;
+  stays_rows = length-set k.stays number flag ∙ t.stays_rows;
+  stays = stays_set (IsListed k.cuts ps specs) k.lists k.stays number flag (omega (arith, t.stays_rows, l)) this t.stays;
+}
+
+-- what the flag of a list tells
+pub stays_told : (ps : List Tree) (specs : List SpecValue) (k : Kept) (number : ℕ) (flag : Bool) → IsTableOf ps specs k → number < length k.lists → flag ≡ get_or k.stays number flag → flag ≡ true → Stays (IsListed k.cuts ps specs) (list_of k.lists number)
+stays_told ps specs k number flag t l e is =
+    t.stays number l (get_or_default k.stays number false flag (omega (arith, t.stays_rows, l)) ∙ sym e ∙ is)
+
+pub step_known : (IsFor : List ℕ → List Alive → Type 0) (lists : List (List Alive)) (next : List ℕ) (from byte known : ℕ) → Remembers (IsStep IsFor lists) next → from < length lists → byte < 256 → length next ≡ 256 * length lists → known ≡ slice_index next (256 * from + byte) → 0 < known → HasStep IsFor lists from byte known
+step_known IsFor lists next from byte known t f b rows e h =
     let q : (256 * from + byte) / 256 ≡ from = omega (arith, b) in
     let r : (256 * from + byte) % 256 ≡ byte = omega (arith, b) in
     let s : suc (known - 1) ≡ known = omega (arith, h) in
     let p = 256 * from + byte in
-    let had : HasStep ps lists (p / 256) (p % 256) (suc (known - 1)) = t.entry p (known - 1) (sym e ∙ sym s) in
-    subst (λ n. HasStep ps lists n byte known) q (subst (λ n. HasStep ps lists (p / 256) n known) r (subst (λ n. HasStep ps lists (p / 256) (p % 256) n) s had))
+    let had : HasStep IsFor lists (p / 256) (p % 256) (suc (known - 1)) = t.entry p (known - 1) (sym e ∙ sym s) in
+    subst (λ n. HasStep IsFor lists n byte known) q (subst (λ n. HasStep IsFor lists (p / 256) n known) r (subst (λ n. HasStep IsFor lists (p / 256) (p % 256) n) s had))
 
 asked_back : (asked : Asked) → asked_of (asked_number asked) ≡ asked
 asked_back Any = refl
@@ -135,28 +168,30 @@ asked_back (Of Block) = refl
 asked_back (Of Char) = refl
 asked_back (Of Other) = refl
 
-pub answer_noted : (ps : List Tree) (specs : List SpecValue) (k : Kept) (list number : ℕ) (asked : Asked) (x : ℕ) (found : Option ℕ) → number ≡ asked_number asked → number < 9 → IsTableOf ps specs k → list < length k.lists → ((text : List ℕ) → AreAlive ps text (length ps) (list_of k.lists list) → IsAnswer asked text specs found) → ((v : ℕ) → x ≡ suc v → found ≡ decoded v) → IsTableOf ps specs (kept k.lists k.next (set k.answers (9 * list + number) x))
+pub answer_noted : (ps : List Tree) (specs : List SpecValue) (k : Kept) (list number : ℕ) (asked : Asked) (x : ℕ) (found : Option ℕ) → number ≡ asked_number asked → number < 9 → IsTableOf ps specs k → list < length k.lists → ((text : List ℕ) → IsListed k.cuts ps specs text (list_of k.lists list) → IsAnswer asked text specs found) → ((v : ℕ) → x ≡ suc v → found ≡ decoded v) → IsTableOf ps specs (kept k.cuts k.lists k.next (set k.answers (9 * list + number) x) k.stays)
 answer_noted ps specs k list number asked x found n b t l told code = record {
   own = t.own;
   first = t.first;
-  none = t.none;
   rows = t.rows;
   answer_rows = length-set k.answers (9 * list + number) x ∙ t.answer_rows;
   steps = t.steps;
-  answers = noted (IsNoted ps specs k.lists) k.answers (9 * list + number) x (omega (arith, t.answer_rows, l, b)) (λ v e.
+  answers = noted (IsNoted (IsListed k.cuts ps specs) specs k.lists) k.answers (9 * list + number) x (omega (arith, t.answer_rows, l, b)) (λ v e.
       let q : (9 * list + number) / 9 ≡ list = omega (arith, b) in
       let r : (9 * list + number) % 9 ≡ number = omega (arith, b) in
       let same : asked ≡ asked_of number = sym (asked_back asked) ∙ ap asked_of (sym n) in
       rw (q, r) (record { within = l; told = λ text a. subst (λ w. IsAnswer (asked_of number) text specs w) (code v e) (subst (λ w. IsAnswer w text specs found) same (told text a)) })) t.answers;
+  stays_rows = t.stays_rows;
+  stays = t.stays;
 }
 
-pub answer_recalled : (ps : List Tree) (specs : List SpecValue) (k : Kept) (list number : ℕ) (asked : Asked) (known : ℕ) → number ≡ asked_number asked → number < 9 → IsTableOf ps specs k → list < length k.lists → known ≡ get_or k.answers (9 * list + number) known → 0 < known → (text : List ℕ) → AreAlive ps text (length ps) (list_of k.lists list) → IsAnswer asked text specs (decoded (known - 1))
+pub answer_recalled : (ps : List Tree) (specs : List SpecValue) (k : Kept) (list number : ℕ) (asked : Asked) (known : ℕ) → number ≡ asked_number asked → number < 9 → IsTableOf ps specs k → list < length k.lists → known ≡ get_or k.answers (9 * list + number) known → 0 < known → (text : List ℕ) → IsListed k.cuts ps specs text (list_of k.lists list) → IsAnswer asked text specs (decoded (known - 1))
 answer_recalled ps specs k list number asked known n b t l e h text a =
     let q : (9 * list + number) / 9 ≡ list = omega (arith, b) in
     let r : (9 * list + number) % 9 ≡ number = omega (arith, b) in
     let p = 9 * list + number in
-    let there : HasAnswer ps specs k.lists (p / 9) (p % 9) (known - 1) = recalled (IsNoted ps specs k.lists) k.answers p known t.answers (omega (arith, t.answer_rows, l, b)) e h in
-    let had = subst (λ n. HasAnswer ps specs k.lists n number (known - 1)) q (subst (λ n. HasAnswer ps specs k.lists (p / 9) n (known - 1)) r there) in
+    let Is : ℕ → ℕ → Type 0 = λ i n. HasAnswer (IsListed k.cuts ps specs) specs k.lists i n (known - 1) in
+    let there : Is (p / 9) (p % 9) = recalled (IsNoted (IsListed k.cuts ps specs) specs k.lists) k.answers p known t.answers (omega (arith, t.answer_rows, l, b)) e h in
+    let had = subst (λ n. Is n number) q (subst (λ n. Is (p / 9) n) r there) in
     subst (λ w. IsAnswer w text specs (decoded (known - 1))) (ap asked_of n ∙ asked_back asked) (had.told text a)
 
 pub grown_by : (old new : List (List Alive)) (i : ℕ) → IsGrown old new → i < length old → list_of new i ≡ list_of old i
@@ -164,6 +199,3 @@ grown_by old new i g l = ap (λ ls. list_of ls i) g.1 ∙ list_kept old g.0 i l
 
 pub grown_longer : (old new : List (List Alive)) → IsGrown old new → length old ≤ length new
 grown_longer old new g = omega (arith, ap (λ (ls : List (List Alive)). length ls) g.1, length-append old g.0)
-
-pub none_own : (ps : List Tree) (list : List Alive) → list ≡ [] → All (IsOwn ps) list
-none_own ps list e = subst (All (IsOwn ps)) (sym e) (λ k d l. absurd (omega (arith, l)))

@@ -3,15 +3,17 @@ use Rattle.std.proofs.Common.{◌≡◌, ◌∙◌, refl, sym, ap, subst, ℕ, z
 use Rattle.std.proofs.Math.Seq.{take-add}
 use Rattle.std.proofs.lemmas.Bool.{cases_lt}
 use Rattle.std.proofs.lemmas.Bool.Decides.{nat_tests}
-use Rattle.std.proofs.lemmas.List.{get_or-drop, take_all, take_more}
-use Rattle.pattern_syntax.specs.Tree.{Tree}
-use Rattle.spec_match.specs.Alive.{Alive, AreAlive, list_of}
+use Rattle.std.proofs.lemmas.List.{get_or-drop, take_all, take-append-drop}
+use Rattle.pattern_match.specs.Onwards.{AreTextBytes}
+use Rattle.spec_match.specs.Alive.{Alive, list_of}
+use Rattle.spec_match.specs.Listed.{Stays}
 use Rattle.spec_match.specs.Remembering.{HasStep, IsGrown, IsStep, Remembers}
 use Rattle.spec_match.specs.Trail.{AreRightTo, IsOnWay, IsRead, IsRightAt, IsTrail, Trace, list_behind}
+use Rattle.spec_match.proofs.AliveLemmas.{read_more}
 use Rattle.spec_match.proofs.TableLemmas.{grown_by, grown_longer, step_known}
 
-pub no_trail : (ps : List Tree) (lists : List (List Alive)) (trace : Trace) → trace.known ≡ 0 → IsTrail ps lists trace
-no_trail ps lists trace none = record {
+pub no_trail : (IsFor : List ℕ → List Alive → Type 0) (lists : List (List Alive)) (trace : Trace) → trace.known ≡ 0 → IsTrail IsFor lists trace
+no_trail IsFor lists trace none = record {
   short = omega (arith, none);
   right = λ k l n. absurd (omega (arith, l, none));
 }
@@ -26,36 +28,36 @@ take_twice (suc m) (suc n) (x ∷ xs) l = ap (λ ys. x ∷ ys) (take_twice m n x
 pub same_before : (m n : ℕ) (xs ys : List ℕ) → m ≤ n → take n xs ≡ take n ys → take m xs ≡ take m ys
 same_before m n xs ys l e = sym (take_twice m n xs l) ∙ ap (take m) e ∙ take_twice m n ys l
 
-right_grown : (ps : List Tree) (old new : List (List Alive)) (text numbers : List ℕ) (count : ℕ) → IsGrown old new → AreRightTo ps old text numbers count → AreRightTo ps new text numbers count
-right_grown ps old new text numbers count g t = λ k l n. let r = t k l n in record {
+right_grown : (IsFor : List ℕ → List Alive → Type 0) (old new : List (List Alive)) (text numbers : List ℕ) (count : ℕ) → IsGrown old new → AreRightTo IsFor old text numbers count → AreRightTo IsFor new text numbers count
+right_grown IsFor old new text numbers count g t = λ k l n. let r = t k l n in record {
   within = omega (arith, r.within, grown_longer old new g);
-  alive = subst (λ list. AreAlive ps (take (suc k) text) (length ps) list) (sym (grown_by old new (slice_index numbers k) g r.within)) r.alive;
+  listed = subst (λ list. IsFor (take (suc k) text) list) (sym (grown_by old new (slice_index numbers k) g r.within)) r.listed;
 }
 
-right_in : (ps : List Tree) (lists : List (List Alive)) (a b numbers : List ℕ) (n count : ℕ) → count ≤ n → take n a ≡ take n b → AreRightTo ps lists a numbers count → AreRightTo ps lists b numbers count
-right_in ps lists a b numbers n count l e t = λ k h m. let r = t k h m in record {
+right_in : (IsFor : List ℕ → List Alive → Type 0) (lists : List (List Alive)) (a b numbers : List ℕ) (n count : ℕ) → count ≤ n → take n a ≡ take n b → AreRightTo IsFor lists a numbers count → AreRightTo IsFor lists b numbers count
+right_in IsFor lists a b numbers n count l e t = λ k h m. let r = t k h m in record {
   within = r.within;
-  alive = subst (λ w. AreAlive ps w (length ps) (list_of lists (slice_index numbers k))) (same_before (suc k) n a b (omega (arith, h, l)) e) r.alive;
+  listed = subst (λ w. IsFor w (list_of lists (slice_index numbers k))) (same_before (suc k) n a b (omega (arith, h, l)) e) r.listed;
 }
 
-right_less : (ps : List Tree) (lists : List (List Alive)) (text numbers : List ℕ) (m n : ℕ) → m ≤ n → AreRightTo ps lists text numbers n → AreRightTo ps lists text numbers m
-right_less ps lists text numbers m n l t = λ k h i. t k (omega (arith, h, l)) i
+right_less : (IsFor : List ℕ → List Alive → Type 0) (lists : List (List Alive)) (text numbers : List ℕ) (m n : ℕ) → m ≤ n → AreRightTo IsFor lists text numbers n → AreRightTo IsFor lists text numbers m
+right_less IsFor lists text numbers m n l t = λ k h i. t k (omega (arith, h, l)) i
 
-pub read_grown : (ps : List Tree) (old new : List (List Alive)) (text numbers : List ℕ) (at list : ℕ) → IsGrown old new → IsRead ps old text numbers at list → AreRightTo ps new text numbers at
-read_grown ps old new text numbers at list g r = right_grown ps old new text numbers at g r.right
+pub read_grown : (IsFor : List ℕ → List Alive → Type 0) (old new : List (List Alive)) (text numbers : List ℕ) (at list : ℕ) → IsGrown old new → IsRead IsFor old text numbers at list → AreRightTo IsFor new text numbers at
+read_grown IsFor old new text numbers at list g r = right_grown IsFor old new text numbers at g r.right
 
 -- the list from which a text is read on
-pub begun : (ps : List Tree) (lists : List (List Alive)) (text : List ℕ) (old new : Trace) (n : ℕ)
-    → n ≤ old.known → n ≤ length old.lists → n ≤ length text → take n old.text ≡ take n text → 0 < length lists → AreAlive ps [] (length ps) (list_of lists 0)
+pub begun : (IsFor : List ℕ → List Alive → Type 0) (lists : List (List Alive)) (text : List ℕ) (old new : Trace) (n : ℕ)
+    → n ≤ old.known → n ≤ length old.lists → n ≤ length text → take n old.text ≡ take n text → 0 < length lists → IsFor [] (list_of lists 0)
     → new.lists ≡ old.lists → new.known ≡ n → n ≤ length new.text → new.text ≡ take (length new.text) text
-    → IsTrail ps lists old → IsOnWay ps lists text new n (list_behind old.lists n)
-begun ps lists text old new n known room inside same some first lists_are known_is short text_is trail = record {
+    → IsTrail IsFor lists old → IsOnWay IsFor lists text new n (list_behind old.lists n)
+begun IsFor lists text old new n known room inside same some first lists_are known_is short text_is trail = record {
   read = record {
     inside = inside;
     within = (start n room known same).0;
-    alive = (start n room known same).1;
-    right = subst (λ ns. AreRightTo ps lists text ns n) (sym lists_are)
-        (right_in ps lists old.text text old.lists n n (omega arith) same (right_less ps lists old.text old.lists n old.known known trail.right));
+    listed = (start n room known same).1;
+    right = subst (λ ns. AreRightTo IsFor lists text ns n) (sym lists_are)
+        (right_in IsFor lists old.text text old.lists n n (omega arith) same (right_less IsFor lists old.text old.lists n old.known known trail.right));
   };
   same = text_is;
   short = omega (arith, known_is, short);
@@ -63,11 +65,11 @@ begun ps lists text old new n known room inside same some first lists_are known_
 }
   where
     start : (m : ℕ) → m ≤ length old.lists → m ≤ old.known → take m old.text ≡ take m text
-        → (list_behind old.lists m < length lists) × AreAlive ps (take m text) (length ps) (list_of lists (list_behind old.lists m))
+        → (list_behind old.lists m < length lists) × IsFor (take m text) (list_of lists (list_behind old.lists m))
     start zero r k e = (some, first)
     start (suc m) r k e =
         let a = trail.right m (omega (arith, k)) (omega (arith, r)) in
-        (a.within, subst (λ w. AreAlive ps w (length ps) (list_of lists (slice_index old.lists m))) e a.alive)
+        (a.within, subst (λ w. IsFor w (list_of lists (slice_index old.lists m))) e a.listed)
 
 noted_at : (numbers : List ℕ) (i v k : ℕ) → k < i → slice_index (set numbers i v) k ≡ slice_index numbers k
 noted_at numbers i v k l = get_or-set_other numbers i k v 0 (λ e. omega (arith, l, e))
@@ -76,52 +78,52 @@ before_or_last : (i n : ℕ) → i < n + 1 → (i < n) ⊎ (n ≡ i)
 before_or_last i n l = elim (cases_lt i n) [ inl before ↦ inl before | inr after ↦ inr (omega (arith, after, l)) ]
 
 -- the text is read by a byte more, whose list is noted where there is room for it
-pub read_more_by : (ps : List Tree) (lists : List (List Alive)) (text old new : List ℕ) (i list : ℕ) (has_room : Bool)
+pub read_more_by : (IsFor : List ℕ → List Alive → Type 0) (lists : List (List Alive)) (text old new : List ℕ) (i list : ℕ) (has_room : Bool)
     → ((has_room ≡ true → i < length old) × (has_room ≡ false → length old ≤ i))
-    → i < length text → list < length lists → AreAlive ps (take i text ++ get_or text i 0 ∷ []) (length ps) (list_of lists list)
+    → i < length text → list < length lists → IsFor (take i text ++ get_or text i 0 ∷ []) (list_of lists list)
     → new ≡ (if has_room then set old i list else old)
-    → AreRightTo ps lists text old i → IsRead ps lists text new (i + 1) list
-read_more_by ps lists text old new i list has_room room l w a e t = record {
+    → AreRightTo IsFor lists text old i → IsRead IsFor lists text new (i + 1) list
+read_more_by IsFor lists text old new i list has_room room l w a e t = record {
   inside = omega (arith, l);
   within = w;
-  alive = whole;
-  right = subst (λ ns. AreRightTo ps lists text ns (i + 1)) (sym e) (right has_room room.0 room.1);
+  listed = whole;
+  right = subst (λ ns. AreRightTo IsFor lists text ns (i + 1)) (sym e) (right has_room room.0 room.1);
 }
   where
-    whole : AreAlive ps (take (i + 1) text) (length ps) (list_of lists list)
-    whole = subst (λ v. AreAlive ps v (length ps) (list_of lists list)) (sym (take_more text i 0 l)) a
+    whole : IsFor (take (i + 1) text) (list_of lists list)
+    whole = read_more IsFor text i (list_of lists list) l a
 
-    right : (has : Bool) → (has ≡ true → i < length old) → (has ≡ false → length old ≤ i) → AreRightTo ps lists text (if has then set old i list else old) (i + 1)
+    right : (has : Bool) → (has ≡ true → i < length old) → (has ≡ false → length old ≤ i) → AreRightTo IsFor lists text (if has then set old i list else old) (i + 1)
     right true here _ = λ k h n. elim (before_or_last k i h) [
       | inl before ↦ (let r = t k before (omega (arith, n, length-set old i list)) in record {
         within = subst (λ j. j < length lists) (sym (noted_at old i list k before)) r.within;
-        alive = subst (λ j. AreAlive ps (take (suc k) text) (length ps) (list_of lists j)) (sym (noted_at old i list k before)) r.alive;
+        listed = subst (λ j. IsFor (take (suc k) text) (list_of lists j)) (sym (noted_at old i list k before)) r.listed;
       })
-      | inr last ↦ subst (λ j. IsRightAt ps lists text (set old i list) j) last (record {
+      | inr last ↦ subst (λ j. IsRightAt IsFor lists text (set old i list) j) last (record {
         within = subst (λ j. j < length lists) (sym (get_or-set_same old i list 0 (here refl))) w;
-        alive = subst (λ j. AreAlive ps (take (suc i) text) (length ps) (list_of lists j)) (sym (get_or-set_same old i list 0 (here refl)))
-            (let next : i + 1 ≡ suc i = omega arith in subst (λ m. AreAlive ps (take m text) (length ps) (list_of lists list)) next whole);
+        listed = subst (λ j. IsFor (take (suc i) text) (list_of lists j)) (sym (get_or-set_same old i list 0 (here refl)))
+            (let next : i + 1 ≡ suc i = omega arith in subst (λ m. IsFor (take m text) (list_of lists list)) next whole);
       })
     ]
     right false _ none = λ k h n. t k (omega (arith, n, none refl)) n
 
 -- a step that is known
-pub read_known : (ps : List Tree) (lists : List (List Alive)) (next text old new : List ℕ) (i from to : ℕ) (has_room : Bool)
+pub read_known : (IsFor : List ℕ → List Alive → Type 0) (lists : List (List Alive)) (next text old new : List ℕ) (i from to : ℕ) (has_room : Bool)
     → ((has_room ≡ true → i < length old) × (has_room ≡ false → length old ≤ i))
     → i < length text → get_or text i 0 < 256 → from < length lists → length next ≡ 256 * length lists
     → to ≡ slice_index next (256 * from + get_or text i 0) → 0 < to
     → new ≡ (if has_room then set old i to else old)
-    → Remembers (IsStep ps lists) next → IsRead ps lists text old i from → IsRead ps lists text new (i + 1) to
-read_known ps lists next text old new i from to has_room room l b f rows e some n steps r =
-    let step : HasStep ps lists from (get_or text i 0) to = step_known ps lists next from (get_or text i 0) to steps f b rows e some in
-    read_more_by ps lists text old new i to has_room room l step.to_within (step.leads (take i text) r.alive) n r.right
+    → Remembers (IsStep IsFor lists) next → IsRead IsFor lists text old i from → IsRead IsFor lists text new (i + 1) to
+read_known IsFor lists next text old new i from to has_room room l b f rows e some n steps r =
+    let step : HasStep IsFor lists from (get_or text i 0) to = step_known IsFor lists next from (get_or text i 0) to steps f b rows e some in
+    read_more_by IsFor lists text old new i to has_room room l step.to_within (step.leads (take i text) r.listed) n r.right
 
 -- texts that go on with the same bytes behind the same front
 pub take_both : (n m : ℕ) (xs ys : List ℕ) → take n xs ≡ take n ys → take m (drop n xs) ≡ take m (drop n ys) → take (n + m) xs ≡ take (n + m) ys
 take_both n m xs ys e h = take-add n m xs ∙ (λ i. e i ++ h i) ∙ sym (take-add n m ys)
 
-pub numbers_within : (ps : List Tree) (lists : List (List Alive)) (next : List ℕ) → Remembers (IsStep ps lists) next → 0 < length lists → (p : ℕ) → slice_index next p < length lists
-numbers_within ps lists next steps some p = at (slice_index next p) refl
+pub numbers_within : (IsFor : List ℕ → List Alive → Type 0) (lists : List (List Alive)) (next : List ℕ) → Remembers (IsStep IsFor lists) next → 0 < length lists → (p : ℕ) → slice_index next p < length lists
+numbers_within IsFor lists next steps some p = at (slice_index next p) refl
   where
     at : (n : ℕ) → slice_index next p ≡ n → slice_index next p < length lists
     at zero e = omega (arith, e, some)
@@ -130,30 +132,38 @@ numbers_within ps lists next steps some p = at (slice_index next p) refl
 pub room_for : (i n : ℕ) → (nat_lt i n ≡ true → i < n) × (nat_lt i n ≡ false → n ≤ i)
 room_for i n = ((λ e. grind (arith, nat_tests)), (λ e. grind (arith, nat_tests)))
 
-pub trail_of_way : (ps : List Tree) (lists : List (List Alive)) (text : List ℕ) (trace : Trace) (at list : ℕ) → IsOnWay ps lists text trace at list → IsTrail ps lists trace
-trail_of_way ps lists text trace at list way =
+pub trail_of_way : (IsFor : List ℕ → List Alive → Type 0) (lists : List (List Alive)) (text : List ℕ) (trace : Trace) (at list : ℕ) → IsOnWay IsFor lists text trace at list → IsTrail IsFor lists trace
+trail_of_way IsFor lists text trace at list way =
     let whole : take (length trace.text) text ≡ take (length trace.text) trace.text = sym way.same ∙ sym (take_all (length trace.text) trace.text (omega arith)) in record {
       short = way.short;
-      right = right_in ps lists text trace.text trace.lists (length trace.text) trace.known way.short whole (right_less ps lists text trace.lists trace.known at way.low way.read.right);
+      right = right_in IsFor lists text trace.text trace.lists (length trace.text) trace.known way.short whole (right_less IsFor lists text trace.lists trace.known at way.low way.read.right);
+    }
+
+-- what was read stays known where lists were added
+pub trail_grown : (IsFor : List ℕ → List Alive → Type 0) (old new : List (List Alive)) (text : List ℕ) (trace : Trace) (at list : ℕ) → IsGrown old new → IsOnWay IsFor old text trace at list → IsTrail IsFor new trace
+trail_grown IsFor old new text trace at list g way =
+    let trail = trail_of_way IsFor old text trace at list way in record {
+      short = trail.short;
+      right = right_grown IsFor old new trace.text trace.lists trace.known g trail.right;
     }
 
 -- the way by a byte more
-pub way_more : (ps : List Tree) (old new : List (List Alive)) (text : List ℕ) (trace : Trace) (numbers : List ℕ) (at list to : ℕ)
-    → IsGrown old new → at < length text → to < length new → AreAlive ps (take at text ++ get_or text at 0 ∷ []) (length ps) (list_of new to)
+pub way_more : (IsFor : List ℕ → List Alive → Type 0) (old new : List (List Alive)) (text : List ℕ) (trace : Trace) (numbers : List ℕ) (at list to : ℕ)
+    → IsGrown old new → at < length text → to < length new → IsFor (take at text ++ get_or text at 0 ∷ []) (list_of new to)
     → numbers ≡ (if nat_lt at (length trace.lists) then set trace.lists at to else trace.lists)
-    → IsOnWay ps old text trace at list → IsOnWay ps new text (record { text = trace.text; lists = numbers; known = trace.known }) (at + 1) to
-way_more ps old new text trace numbers at list to g l w a e way = record {
-  read = read_more_by ps new text trace.lists numbers at to (nat_lt at (length trace.lists)) (room_for at (length trace.lists)) l w a e (read_grown ps old new text trace.lists at list g way.read);
+    → IsOnWay IsFor old text trace at list → IsOnWay IsFor new text (record { text = trace.text; lists = numbers; known = trace.known }) (at + 1) to
+way_more IsFor old new text trace numbers at list to g l w a e way = record {
+  read = read_more_by IsFor new text trace.lists numbers at to (nat_lt at (length trace.lists)) (room_for at (length trace.lists)) l w a e (read_grown IsFor old new text trace.lists at list g way.read);
   same = way.same;
   short = way.short;
   low = omega (arith, way.low);
 }
 
 -- the way as far as it was followed
-pub way_followed : (ps : List Tree) (lists : List (List Alive)) (text : List ℕ) (old new : Trace) (from at list to : ℕ)
-    → from ≤ at → new.text ≡ old.text → new.known ≡ min at (length old.text) → IsOnWay ps lists text old from list
-    → IsRead ps lists text new.lists at to → IsOnWay ps lists text new at to
-way_followed ps lists text old new from at list to l text_is known way read = record {
+pub way_followed : (IsFor : List ℕ → List Alive → Type 0) (lists : List (List Alive)) (text : List ℕ) (old new : Trace) (from at list to : ℕ)
+    → from ≤ at → new.text ≡ old.text → new.known ≡ min at (length old.text) → IsOnWay IsFor lists text old from list
+    → IsRead IsFor lists text new.lists at to → IsOnWay IsFor lists text new at to
+way_followed IsFor lists text old new from at list to l text_is known way read = record {
   read = read;
   same = subst (λ w. w ≡ take (length w) text) (sym text_is) way.same;
   short = omega (arith, known, ap (λ (w : List ℕ). length w) text_is);
@@ -179,3 +189,14 @@ column_at next byte list =
     ap (λ w. get_or w (256 * list) 0) (take_all (length next - byte) (drop byte next) (omega (arith, length-drop byte next)))
     ∙ get_or-drop byte next (256 * list) 0
     ∙ ap (λ k. get_or next k 0) (omega arith)
+
+-- bytes of which each is above 0
+pub bytes_of : (text : List ℕ) → ((j : ℕ) → j < length text → (0 < get_or text j 0) × (get_or text j 0 < 256)) → AreTextBytes text
+bytes_of [] f = tt
+bytes_of (b ∷ text) f = ((f 0 (omega arith)).0, (f 0 (omega arith)).1, bytes_of text (λ j l. f (suc j) (omega (arith, l))))
+
+-- a list that is for a front of a text, and stays, is for the text
+pub stays_behind : (IsFor : List ℕ → List Alive → Type 0) (text : List ℕ) (at : ℕ) (list : List Alive) → Stays IsFor list → at ≤ length text → AreTextBytes (take (length text - at) (drop at text)) → IsFor (take at text) list → IsFor text list
+stays_behind IsFor text at list s l b h =
+    let left : take (length text - at) (drop at text) ≡ drop at text = take_all (length text - at) (drop at text) (omega (arith, l, length-drop at text)) in
+    subst (λ w. IsFor w list) (take-append-drop at text) (s (take at text) (drop at text) (subst AreTextBytes left b) h)

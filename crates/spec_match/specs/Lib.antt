@@ -3,6 +3,7 @@ pub mod Relevant
 pub mod StatesFor
 pub mod PatternTests
 pub mod Alive
+pub mod Listed
 pub mod Stepping
 pub mod Members
 pub mod Written

@@ -7,6 +7,7 @@ use Rattle.spec_match.specs.declared.members.Member.{Member}
 abbrev pub alive_in : List ℕ → Member → Alive
 alive_in words member =
     alive member.index (progress member.seen (take member.width (drop member.start words)))
+    member.wants
 
 -- the marks of each member stand behind those of the one before, and no others do
 abbrev pub AreLaidOut : ℕ → ℕ → List Member → Type 0

@@ -1,44 +1,56 @@
 -- What look-ups remember. An entry that is 0 is not known, and any other is right behind every text for which its list
 -- is.
-use Rattle.std.specs.Prelude.{◌≡◌, ℕ, zero, suc, ◌+◌, ◌*◌, ◌/◌, ◌%◌, ◌<◌, List, [], ◌∷◌, ◌++◌, Option, Some, None, IfSome, length, option_and_then, replicate, slice_get, slice_index}
-use Rattle.std.specs.List.{All}
+use Rattle.std.specs.Prelude.{◌≡◌, ℕ, zero, suc, ◌+◌, ◌*◌, ◌/◌, ◌%◌, ◌<◌, Bool, false, true, List, [], ◌∷◌, ◌++◌, Option, Some, None, IfSome, length, option_and_then, replicate, slice_get, slice_index}
+use Rattle.std.specs.List.{All, slice_index_or}
 use Rattle.label_base.specs.declared.kind.Asked.{Asked}
 use Rattle.label_base.specs.declared.kind.Asked.TheVariants.{Any, Of}
 use Rattle.label_base.specs.declared.kind.EntryKind.TheVariants as kind
 use Rattle.label_base.specs.Kind.{kind_number}
 use Rattle.pattern_syntax.specs.Tree.{Tree}
 use Rattle.spec_reader.specs.SpecValue.{SpecValue}
-use Rattle.spec_match.specs.Alive.{Alive, AreAlive, IsOwn, Leads, list_of}
+use Rattle.spec_match.specs.Alive.{Alive, AreAlive, IsOwn, LeadsBy, list_of}
+use Rattle.spec_match.specs.Listed.{IsListed, Stays}
 use Rattle.spec_match.specs.Written.{Written}
 use Rattle.spec_match.specs.LastMatch.{Decides, last_index, last_match}
 
--- the lists that were reached; for each of them and each byte the number of the list to which the byte leads; for each of
--- them and each kind that may be asked for one more than the code of the answer
+-- whether lists are cut; those that were reached; for each of them and each byte the number of the list to which the byte
+-- leads; for each of them and each kind that may be asked for one more than the code of the answer; whether whatever
+-- follows leaves it as it is, as far as that is known
 pub record Kept : Type 0 where
+  pub cuts : Bool
   pub lists : List (List Alive)
   pub next : List ℕ
   pub answers : List ℕ
+  pub stays : List Bool
 
-abbrev pub kept : List (List Alive) → List ℕ → List ℕ → Kept
-kept lists next answers = record { lists = lists; next = next; answers = answers }
+abbrev pub kept : Bool → List (List Alive) → List ℕ → List ℕ → List Bool → Kept
+kept cuts lists next answers stays = record {
+  cuts = cuts;
+  lists = lists;
+  next = next;
+  answers = answers;
+  stays = stays;
+}
 
 -- with one list more, of which nothing is known
 abbrev pub with_list : Kept → List Alive → Kept
 with_list k list =
-    kept (k.lists ++ list ∷ []) (k.next ++ replicate 256 0) (k.answers ++ replicate 9 0)
+    kept k.cuts (k.lists ++ list ∷ []) (k.next ++ replicate 256 0) (k.answers ++ replicate 9 0)
+    (k.stays ++ false ∷ [])
 
 -- each entry that isn't 0 is right for its place
 pub record Remembers (IsRight : ℕ → ℕ → Type 0) (row : List ℕ) : Type 0 where
   pub entry : (p v : ℕ) → slice_index row p ≡ suc v → IsRight p v
 
-pub record HasStep (patterns : List Tree) (lists : List (List Alive)) (from byte to : ℕ)
-    : Type 0 where
+-- `IsFor` says what lists are for which text
+pub record HasStep (IsFor : List ℕ → List Alive → Type 0) (lists : List (List Alive))
+    (from byte to : ℕ) : Type 0 where
   pub from_within : from < length lists
   pub to_within : to < length lists
-  pub leads : Leads patterns (byte ∷ []) (list_of lists from) (list_of lists to)
+  pub leads : LeadsBy IsFor (byte ∷ []) (list_of lists from) (list_of lists to)
 
-abbrev pub IsStep : List Tree → List (List Alive) → ℕ → ℕ → Type 0
-IsStep patterns lists p v = HasStep patterns lists (p / 256) (p % 256) (suc v)
+abbrev pub IsStep : (List ℕ → List Alive → Type 0) → List (List Alive) → ℕ → ℕ → Type 0
+IsStep IsFor lists p v = HasStep IsFor lists (p / 256) (p % 256) (suc v)
 
 abbrev pub asked_number : Asked → ℕ
 asked_number Any = 0
@@ -67,24 +79,31 @@ abbrev pub decoded : ℕ → Option ℕ
 decoded zero = None
 decoded (suc i) = Some i
 
-pub record HasAnswer (patterns : List Tree) (specs : List SpecValue) (lists : List (List Alive))
-    (number asked code : ℕ) : Type 0 where
+pub record HasAnswer (IsFor : List ℕ → List Alive → Type 0) (specs : List SpecValue)
+    (lists : List (List Alive)) (number asked code : ℕ) : Type 0 where
   pub within : number < length lists
-  pub told : (text : List ℕ) → AreAlive patterns text (length patterns) (list_of lists number)
+  pub told : (text : List ℕ) → IsFor text (list_of lists number)
       → IsAnswer (asked_of asked) text specs (decoded code)
 
-abbrev pub IsNoted : List Tree → List SpecValue → List (List Alive) → ℕ → ℕ → Type 0
-IsNoted patterns specs lists p v = HasAnswer patterns specs lists (p / 9) (p % 9) v
+abbrev pub IsNoted : (List ℕ → List Alive → Type 0) → List SpecValue → List (List Alive)
+    → ℕ → ℕ → Type 0
+IsNoted IsFor specs lists p v = HasAnswer IsFor specs lists (p / 9) (p % 9) v
 
--- list 0 is right before the first byte, list 1 is empty, and what is remembered is right
+-- each list of which it is told stays
+abbrev pub AreStaying : (List ℕ → List Alive → Type 0) → List (List Alive) → List Bool → Type 0
+AreStaying IsFor lists row =
+    (i : ℕ) → i < length lists → slice_index_or row i false ≡ true → Stays IsFor (list_of lists i)
+
+-- list 0 has all specifications, and what is remembered is right
 pub record IsTableOf (patterns : List Tree) (specs : List SpecValue) (k : Kept) : Type 0 where
   pub own : (i : ℕ) → i < length k.lists → All (IsOwn patterns) (list_of k.lists i)
   pub first : 0 < length k.lists → AreAlive patterns [] (length patterns) (list_of k.lists 0)
-  pub none : list_of k.lists 1 ≡ []
   pub rows : length k.next ≡ 256 * length k.lists
   pub answer_rows : length k.answers ≡ 9 * length k.lists
-  pub steps : Remembers (IsStep patterns k.lists) k.next
-  pub answers : Remembers (IsNoted patterns specs k.lists) k.answers
+  pub steps : Remembers (IsStep (IsListed k.cuts patterns specs) k.lists) k.next
+  pub answers : Remembers (IsNoted (IsListed k.cuts patterns specs) specs k.lists) k.answers
+  pub stays_rows : length k.stays ≡ length k.lists
+  pub stays : AreStaying (IsListed k.cuts patterns specs) k.lists k.stays
 
 -- further lists behind the others
 abbrev pub IsGrown : List (List Alive) → List (List Alive) → Type 0
@@ -94,4 +113,3 @@ IsGrown old new = (more : List (List Alive)) × (new ≡ old ++ more)
 pub record CanBeAdded (patterns : List Tree) (w : Written) : Type 0 where
   pub own : All (IsOwn patterns) w.draft
   pub first : length w.lists ≡ 0 → AreAlive patterns [] (length patterns) w.draft
-  pub none : length w.lists ≡ 1 → w.draft ≡ []

@@ -1,25 +1,39 @@
 -- What look-ups work in.
-use Rattle.std.specs.Prelude.{◌≡◌, List, [], map}
+use Rattle.std.specs.Prelude.{◌≡◌, false, List, [], map}
 use Rattle.pattern_match.specs.States.{Progress}
+use Rattle.pattern_syntax.specs.Tree.{Tree}
 use Rattle.spec_reader.specs.SpecValue.{SpecValue}
 use Rattle.spec_match.specs.Alive.{Alive}
+use Rattle.spec_match.specs.Listed.{IsListed}
 use Rattle.spec_match.specs.Remembering.{Kept, IsTableOf}
 use Rattle.spec_match.specs.Trail.{IsTrail, Trace}
 use Rattle.spec_match.specs.StatesFor.{AreStatesFor, pattern_in}
 
--- states for each pattern, what is remembered, what is being written, and the text that was read last
-pub record Room : Type 0 where
-  pub states : List Progress
+-- what a table remembers, what is being written to it, and the text that it read last
+pub record Remembered : Type 0 where
   pub table : Kept
   pub draft : List Alive
   pub trail : Trace
 
-pub record IsReady (specs : List SpecValue) (room : Room) : Type 0 where
-  pub states : AreStatesFor (map pattern_in specs) room.states
-  pub table : IsTableOf (map pattern_in specs) specs room.table
-  pub draft : room.draft ≡ []
-  pub trail : IsTrail (map pattern_in specs) room.table.lists room.trail
+pub record IsTableReady (patterns : List Tree) (specs : List SpecValue) (all : Remembered)
+    : Type 0 where
+  pub table : IsTableOf patterns specs all.table
+  pub draft : all.draft ≡ []
+  pub trail : IsTrail (IsListed all.table.cuts patterns specs) all.table.lists all.trail
+
+-- states for each pattern, a table, and one whose lists are whole
+pub record Room : Type 0 where
+  pub states : List Progress
+  pub table : Remembered
+  pub whole : Remembered
+
+pub record IsReady (patterns : List Tree) (specs : List SpecValue) (room : Room)
+    : Type 0 where
+  pub states : AreStatesFor patterns room.states
+  pub table : IsTableReady patterns specs room.table
+  pub whole : IsTableReady patterns specs room.whole
+  pub is_whole : room.whole.table.cuts ≡ false
 
 -- the scratch was made for this list
 unfoldable pub IsScratchOf : List SpecValue → Room → Type 0
-IsScratchOf specs room = IsReady specs room
+IsScratchOf specs room = IsReady (map pattern_in specs) specs room

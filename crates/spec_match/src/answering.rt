@@ -1,7 +1,8 @@
-ghost use Rattle.std.specs.Prelude.{◌≡◌, ◌<◌, ℕ, List, length, map};
+ghost use Rattle.std.specs.Prelude.{◌≡◌, ◌<◌, ℕ, Bool, List, length, map};
 ghost use Rattle.label_base.specs.Kind.{kind_number};
 ghost use Rattle.pattern_match.specs.States.{AreStatesOf, StandsFor};
-ghost use Rattle.spec_match.specs.Alive.{AreAlive, alive_at, list_of};
+ghost use Rattle.spec_match.specs.Alive.{alive_at, list_of};
+ghost use Rattle.spec_match.specs.Listed.{IsListed};
 ghost use Rattle.spec_match.specs.LastMatch.{fits};
 ghost use Rattle.spec_match.specs.Remembering.{IsAnswer, asked_number};
 ghost use Rattle.spec_match.specs.StatesFor.{AreStatesFor, patterns_of, spec_in};
@@ -73,8 +74,8 @@ pub fn first_fit(
     requires own { AreOwnLists (patterns_of rules.now) lists.now.lists }
     requires list { list < length lists.now.lists }
     ensures states { AreStatesFor (patterns_of rules.now) states.new.items }
-    ensures told { (text : List ℕ)
-        → AreAlive (patterns_of rules.now) text (length (patterns_of rules.now))
+    ensures told { (cuts : Bool) (text : List ℕ)
+        → IsListed cuts (patterns_of rules.now) (map spec_in rules.now) text
         (list_of lists.now.lists list)
         → IsAnswer asked text (map spec_in rules.now) result }
 {

@@ -23,7 +23,7 @@ fn start_one(alloc: Global, rule: &Rule, index: usize, to: &mut Members) -> Resu
 {
     let mut states = rule.states(alloc)?;
     rule.restart(&mut states);
-    to.add(index, &states)
+    to.add(index, &states, rule.wants(states.seen()))
 }
 
 /// All specifications, before the first byte of a text, from the last one back.
@@ -71,7 +71,7 @@ fn go_on_one(
     if !rule.read_on(&mut states, text) {
         return Ok(());
     }
-    to.add(from.index(k), &states)
+    to.add(from.index(k), &states, rule.wants(states.seen()))
 }
 
 /// The members of a list that are alive behind a text more.

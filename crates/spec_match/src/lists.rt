@@ -1,5 +1,5 @@
 ghost use Rattle.std.specs.Prelude.{◌≡◌, ◌<◌, ◌++◌, ◌∷◌, [], true, IfOk, length, if◌then◌else◌};
-ghost use Rattle.spec_match.specs.Alive.{alive, alive_at, list_of};
+ghost use Rattle.spec_match.specs.Alive.{WantsOther, alive, alive_at, list_of};
 ghost use Rattle.spec_match.specs.Written.{written};
 
 use crate::members::{Members, have_same};
@@ -96,14 +96,14 @@ impl Lists {
         self.members.index(self.spans[i].start + k)
     }
 
-    /// How many bytes of its literal start the specification at a place of a list has read.
-    pub fn seen(&self, i: usize, k: usize) -> usize
+    /// Whether the literal start of the specification at a place of a list goes on with another byte.
+    pub fn wants_other(&self, i: usize, k: usize, byte: u8) -> bool
         requires list { i < length self.now.lists }
         requires within { k < length (list_of self.now.lists i) }
-        ensures { result ≡ (alive_at (list_of self.now.lists i) k).states.seen }
+        ensures { result ≡ true → WantsOther (alive_at (list_of self.now.lists i) k) byte }
     {
         let _ = self.members.len();
-        self.members.seen(self.spans[i].start + k)
+        self.members.wants_other(self.spans[i].start + k, byte)
     }
 
     /// Makes states those at a place of a list.
@@ -119,12 +119,12 @@ impl Lists {
     }
 
     /// Writes a specification to the end of the list that is being written, where there is room.
-    pub fn push(&mut self, index: usize, states: &States) -> bool
+    pub fn push(&mut self, index: usize, states: &States, wants: Option<u8>) -> bool
         ensures { self.new ≡ (if result
-            then written self.old.lists (self.old.draft ++ alive index states.now ∷ [])
+            then written self.old.lists (self.old.draft ++ alive index states.now wants ∷ [])
             else self.old) }
     {
-        self.members.push(index, states)
+        self.members.push(index, states, wants)
     }
 
     /// Completes the list that is being written, and begins the next. Where there is no room for it, it is lost.

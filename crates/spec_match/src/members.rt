@@ -1,33 +1,43 @@
 ghost use Rattle.std.specs.Prelude.{◌≡◌, ◌<◌, ◌≤◌, ◌+◌, ◌++◌, ◌∷◌, [], true, IfOk, IfSome, OnOk, drop, length, take, if◌then◌else◌};
-ghost use Rattle.spec_match.specs.Alive.{alive, alive_at};
+ghost use Rattle.spec_match.specs.Alive.{WantsOther, alive, alive_at};
 
 use label_base::OutOfMemory;
 use pattern_match::States;
 use std::alloc::Global;
 use std::marker::Model;
 
-/// A specification that is alive, how many bytes of its literal start were read, and where its marks stand among the words.
+/// A specification that is alive, where its marks stand among the words, how many bytes of its literal start were read, and
+/// which byte that wants next, where one is lacking. By that byte most members are dropped when a list is stepped.
 #[derive(Clone, Copy, Debug)]
 pub struct Member {
     index: u32,
-    seen: u32,
     start: u32,
-    width: u32,
+    seen: u16,
+    width: u16,
+    wants: Option<u8>,
 }
 
 impl Member {
     // A member, where the numbers fit.
-    fn new(index: usize, seen: usize, start: usize, width: usize) -> Option<Member>
+    fn new(
+        index: usize,
+        seen: usize,
+        start: usize,
+        width: usize,
+        wants: Option<u8>,
+    ) -> Option<Member>
         ensures index { IfSome result (λ member. member.index ≡ index) }
         ensures seen { IfSome result (λ member. member.seen ≡ seen) }
         ensures start { IfSome result (λ member. member.start ≡ start) }
         ensures width { IfSome result (λ member. member.width ≡ width) }
+        ensures wants { IfSome result (λ member. member.wants ≡ wants) }
     {
         Some(Member {
             index: u32::try_from(index).ok()?,
-            seen: u32::try_from(seen).ok()?,
             start: u32::try_from(start).ok()?,
-            width: u32::try_from(width).ok()?,
+            seen: u16::try_from(seen).ok()?,
+            width: u16::try_from(width).ok()?,
+            wants,
         })
     }
 }
@@ -95,6 +105,25 @@ impl Members {
         self.members[k].seen as usize
     }
 
+    /// The byte that the literal start of a member wants next.
+    pub fn wants(&self, k: usize) -> Option<u8>
+        requires { k < length self.now }
+        ensures { result ≡ (alive_at self.now k).wants }
+    {
+        self.members[k].wants
+    }
+
+    /// Whether the literal start of a member goes on with another byte.
+    pub fn wants_other(&self, k: usize, byte: u8) -> bool
+        requires { k < length self.now }
+        ensures { result ≡ true → WantsOther (alive_at self.now k) byte }
+    {
+        match self.wants(k) {
+            None => false,
+            Some(next) => next != byte,
+        }
+    }
+
     /// The marks of a member.
     pub fn marks(&self, k: usize) -> &[u64]
         requires { k < length self.now }
@@ -115,9 +144,9 @@ impl Members {
     }
 
     /// Adds a specification, where there is room.
-    pub fn push(&mut self, index: usize, states: &States) -> bool
+    pub fn push(&mut self, index: usize, states: &States, wants: Option<u8>) -> bool
         ensures { self.new
-            ≡ (if result then self.old ++ alive index states.now ∷ [] else self.old) }
+            ≡ (if result then self.old ++ alive index states.now wants ∷ [] else self.old) }
     {
         let marks = states.marks();
         if self.members.len() == self.members.capacity() {
@@ -126,7 +155,8 @@ impl Members {
         if marks.len() > self.words.capacity() - self.words.len() {
             return false;
         }
-        let Some(member) = Member::new(index, states.seen(), self.words.len(), marks.len()) else {
+        let start = self.words.len();
+        let Some(member) = Member::new(index, states.seen(), start, marks.len(), wants) else {
             return false;
         };
         let Ok(()) = self.words.extend_from_slice(marks) else {
@@ -139,13 +169,18 @@ impl Members {
     }
 
     /// Adds a specification, and takes memory for it where there is no room. It may have none for an index or a number
-    /// of words past 32 bits.
-    pub fn add(&mut self, index: usize, states: &States) -> Result<(), OutOfMemory>
-        ensures { OnOk result (self.new ≡ self.old ++ alive index states.now ∷ []) }
+    /// of words past 32 bits, and for states past 16 bits.
+    pub fn add(
+        &mut self,
+        index: usize,
+        states: &States,
+        wants: Option<u8>,
+    ) -> Result<(), OutOfMemory>
+        ensures { OnOk result (self.new ≡ self.old ++ alive index states.now wants ∷ []) }
     {
         self.members.reserve(1)?;
         self.words.reserve(states.marks().len())?;
-        if !self.push(index, states) {
+        if !self.push(index, states, wants) {
             return Err(OutOfMemory);
         }
         Ok(())
@@ -174,6 +209,9 @@ fn is_same(members: &Members, i: usize, j: usize) -> bool
         return false;
     }
     if members.seen(i) != members.seen(j) {
+        return false;
+    }
+    if members.wants(i) != members.wants(j) {
         return false;
     }
     members.marks(i) == members.marks(j)

@@ -1,6 +1,7 @@
-ghost use Rattle.std.specs.Prelude.{◌≡◌, ◌↔◌, ◌++◌, ◌∷◌, ℕ, List, [], IfOk, IsTrue};
+ghost use Rattle.std.specs.Prelude.{◌≡◌, ◌↔◌, ◌<◌, ◌++◌, ◌∷◌, ℕ, List, [], true, IfOk, IsTrue};
 ghost use Rattle.label_base.specs.Path.{same_bytes};
 ghost use Rattle.pattern_syntax.specs.Language.{Opens, holds};
+ghost use Rattle.pattern_match.specs.Onwards.{TakesAll};
 ghost use Rattle.pattern_match.specs.States.{AreStatesOf, StandsFor};
 ghost use Rattle.spec_match.specs.PatternTests.{IsTestOf};
 
@@ -91,6 +92,34 @@ impl PatternTest {
         match self {
             PatternTest::ByStart => accepts_text(pattern, states),
             PatternTest::ByMatcher(matcher) => matcher.accepts(states),
+        }
+    }
+
+    /// Whether the language holds the text that was read and each text that begins with it. It may say false where it does.
+    pub fn takes_all(&self, pattern: &Pattern, states: &States) -> bool
+        requires test { IsTestOf pattern.now self.now }
+        requires own { AreStatesOf pattern.now states.now }
+        ensures { result ≡ true → (text : List ℕ) → StandsFor pattern.now states.now text
+            → TakesAll pattern.now text }
+    {
+        match self {
+            PatternTest::ByStart => false,
+            PatternTest::ByMatcher(matcher) => matcher.takes_all(states),
+        }
+    }
+
+    /// Whether the states stand as well for the text with one more byte, whichever it is, other than 0. It may say false
+    /// where they do.
+    pub fn stays(&self, pattern: &Pattern, states: &States) -> bool
+        requires test { IsTestOf pattern.now self.now }
+        requires own { AreStatesOf pattern.now states.now }
+        ensures { result ≡ true → (byte : ℕ) → 0 < byte → byte < 256
+            → (text : List ℕ) → StandsFor pattern.now states.now text
+            → StandsFor pattern.now states.now (text ++ byte ∷ []) }
+    {
+        match self {
+            PatternTest::ByStart => false,
+            PatternTest::ByMatcher(matcher) => matcher.stays(states),
         }
     }
 

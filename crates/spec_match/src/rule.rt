@@ -1,8 +1,9 @@
-ghost use Rattle.std.specs.Prelude.{◌≡◌, ◌↔◌, ◌++◌, ◌∷◌, ℕ, List, [], false, true, IfOk, IsTrue};
+ghost use Rattle.std.specs.Prelude.{◌≡◌, ◌↔◌, ◌<◌, ◌++◌, ◌∷◌, ℕ, List, [], false, true, None, IfOk, IsTrue, slice_get};
 ghost use Rattle.label_base.specs.Kind.{applies, same_kind};
 ghost use Rattle.pattern_syntax.specs.Language.{Opens, holds};
 ghost use Rattle.pattern_syntax.specs.Literal.{literal_start_of};
-ghost use Rattle.pattern_match.specs.States.{AreStatesOf, StandsFor, progress};
+ghost use Rattle.pattern_match.specs.Onwards.{TakesAll};
+ghost use Rattle.pattern_match.specs.States.{AreStatesOf, StandsFor};
 ghost use Rattle.spec_match.specs.LastMatch.{fits};
 ghost use Rattle.label_base.specs.Path.{Path, path_text};
 ghost use Rattle.label_base.specs.PathRef.{path_of};
@@ -100,18 +101,11 @@ impl Rule {
         self.test.step(&self.spec.pattern, states, byte);
     }
 
-    /// Whether no text of the language begins with what was read and the byte, as the literal start alone tells: so many of
-    /// its bytes were read.
-    pub fn dies(&self, seen: usize, byte: u8) -> bool
-        ensures { result ≡ true → (marks : List ℕ) → (text : List ℕ)
-            → StandsFor self.now.spec.pattern (progress seen marks) text
-            → Opens self.now.spec.pattern (text ++ byte ∷ []) → ⊥ }
+    /// The byte of the literal start behind so many, where there is one.
+    pub fn wants(&self, seen: usize) -> Option<u8>
+        ensures { result ≡ slice_get (literal_start_of self.now.spec.pattern) seen }
     {
-        let start = self.start();
-        if seen >= start.len() {
-            return false;
-        }
-        start[seen] != byte
+        self.start().get(seen).copied()
     }
 
     /// Whether some text of the language begins with the text that was read.
@@ -121,6 +115,32 @@ impl Rule {
             → IsTrue result ↔ Opens self.now.spec.pattern text }
     {
         self.test.alive(&self.spec.pattern, states)
+    }
+
+    /// Whether the specification fits the text that was read and each text that begins with it, whatever kind is asked
+    /// for. It may say false where that is so.
+    pub fn covers(&self, states: &States) -> bool
+        requires { AreStatesOf self.now.spec.pattern states.now }
+        ensures any { result ≡ true → self.now.spec.kind ≡ None }
+        ensures holds { result ≡ true → (text : List ℕ)
+            → StandsFor self.now.spec.pattern states.now text
+            → TakesAll self.now.spec.pattern text }
+    {
+        if self.spec.kind.is_some() {
+            return false;
+        }
+        self.test.takes_all(&self.spec.pattern, states)
+    }
+
+    /// Whether the states stand as well for the text with one more byte, whichever it is, other than 0. It may say false
+    /// where they do.
+    pub fn stays(&self, states: &States) -> bool
+        requires { AreStatesOf self.now.spec.pattern states.now }
+        ensures { result ≡ true → (byte : ℕ) → 0 < byte → byte < 256
+            → (text : List ℕ) → StandsFor self.now.spec.pattern states.now text
+            → StandsFor self.now.spec.pattern states.now (text ++ byte ∷ []) }
+    {
+        self.test.stays(&self.spec.pattern, states)
     }
 
     /// Whether the specification applies and its language holds the text that was read.
@@ -134,6 +154,7 @@ impl Rule {
         }
         self.test.accepts(&self.spec.pattern, states)
     }
+
     /// Whether the language holds the text that was read.
     pub fn accepts(&self, states: &States) -> bool
         requires { AreStatesOf self.now.spec.pattern states.now }

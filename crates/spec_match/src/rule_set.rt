@@ -1,10 +1,12 @@
-ghost use Rattle.std.specs.Prelude.{◌≡◌, ◌+◌, ◌<◌, ◌^◌, [], IfOk, IfSome, OnOk, Some, length, map, option_and_then, slice_get};
+ghost use Rattle.std.specs.Prelude.{◌≡◌, ◌+◌, ◌<◌, ◌^◌, [], false, IfOk, IfSome, OnOk, Some, length, map, option_and_then, slice_get};
 ghost use Rattle.label_base.specs.Path.{path_text};
 ghost use Rattle.label_base.specs.PathRef.{path_of};
 ghost use Rattle.spec_match.specs.LastMatch.{Decides, last_index, last_match};
 ghost use Rattle.spec_match.specs.Relevant.{relevant_at};
+ghost use Rattle.spec_match.specs.Remembering.{kept};
 ghost use Rattle.spec_match.specs.StatesFor.{AreStatesFor, pattern_in, patterns_of, spec_in};
 ghost use Rattle.spec_match.specs.Scratches.{IsScratchOf};
+ghost use Rattle.spec_match.specs.Tables.{kept_in};
 
 use crate::rule::Rule;
 use crate::scratch::Scratch;
@@ -18,13 +20,20 @@ use std::alloc::Global;
 use std::marker::Model;
 use std::sync::ledger::Ledger;
 
-// For how many lists, specifications in all of them, and words of their marks a scratch reserves room: 26 MB, of which
+// For how many lists, specifications in all of them, and words of their marks a scratch reserves room: 18 MB, of which
 // only what is used is touched.
 const MOST_LISTS: usize = 16384;
 
-const MOST_MEMBERS: usize = 524_288;
+const MOST_MEMBERS: usize = 262_144;
 
-const MOST_WORDS: usize = 1_048_576;
+const MOST_WORDS: usize = 524_288;
+
+// For how many at most where lists are whole: 11 MB more.
+const MOST_WHOLE_LISTS: usize = 8192;
+
+const MOST_WHOLE_MEMBERS: usize = 262_144;
+
+const MOST_WHOLE_WORDS: usize = 262_144;
 
 /// A list of specifications in which the last match is looked for, seen as that list.
 #[derive(Debug, Drop)]
@@ -73,6 +82,26 @@ fn states_of(alloc: Global, rules: &[Rule]) -> Result<Vec<States>, OutOfMemory>
         states.push(rule.states(alloc)?)?;
     }
     Ok(states)
+}
+
+// A table with whole lists, with room for so many lists, specifications and words, as far as it may have it.
+fn whole_table(
+    alloc: Global,
+    lists: usize,
+    members: usize,
+    words: usize,
+) -> Result<Table, OutOfMemory>
+    ensures kept { IfOk result (λ table. kept_in table ≡ kept false [] [] [] []) }
+    ensures draft { IfOk result (λ table. table.lists.draft ≡ []) }
+    ensures trail { IfOk result (λ table. table.trail.known ≡ 0) }
+{
+    Table::new(
+        alloc,
+        false,
+        lists.min(MOST_WHOLE_LISTS),
+        members.min(MOST_WHOLE_MEMBERS),
+        words.min(MOST_WHOLE_WORDS),
+    )
 }
 
 impl RuleSet {
@@ -169,7 +198,8 @@ impl Scratch {
         Scratch::with_room(alloc, rules, MOST_LISTS, MOST_MEMBERS, MOST_WORDS)
     }
 
-    /// The same with room for so many lists, so many specifications in all of them, and so many words of marks.
+    /// The same with room for so many lists, so many specifications in all of them, and so many words of marks, in each
+    /// table.
     pub(crate) fn with_room(
         alloc: Global,
         rules: &RuleSet,
@@ -181,7 +211,8 @@ impl Scratch {
     {
         let room = Workspace {
             states: states_of(alloc, rules.rules.as_slice())?,
-            table: Table::new(alloc, lists, members, words)?,
+            table: Table::new(alloc, true, lists, members, words)?,
+            whole: whole_table(alloc, lists, members, words)?,
             tried: 0,
         };
         Ok(Scratch {

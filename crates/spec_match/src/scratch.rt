@@ -21,6 +21,7 @@ impl Model for Scratch {
 impl Scratch {
     /// How many specifications' states were looked at by all look-ups in this scratch, as far as a number of 64 bits goes.
     pub fn tried(&self) -> u64 {
-        self.room.tried.saturating_add(self.room.table.tried)
+        let by_tables = self.room.table.tried.saturating_add(self.room.whole.tried);
+        self.room.tried.saturating_add(by_tables)
     }
 }

@@ -3,17 +3,17 @@ ghost use Rattle.std.specs.List.{All};
 ghost use Rattle.std.specs.Vec.{vec_capacity, vec_len};
 ghost use Rattle.pattern_syntax.specs.Tree.{Tree};
 ghost use Rattle.spec_reader.specs.SpecValue.{SpecValue};
-ghost use Rattle.spec_match.specs.Alive.{AreAlive, IsOwn, Leads, list_of};
+ghost use Rattle.spec_match.specs.Alive.{IsOwn, LeadsBy, list_of};
 ghost use Rattle.spec_match.specs.Remembering.{CanBeAdded, IsAnswer, IsGrown, IsTableOf, decoded, kept, with_list};
 ghost use Rattle.spec_match.specs.StatesFor.{AreStatesFor, patterns_of, spec_in};
-ghost use Rattle.spec_match.specs.Tables.{IsOnWayFor, IsTableFor, IsTrailFor, kept_in};
+ghost use Rattle.spec_match.specs.Tables.{IsOnWayFor, IsTableFor, IsTrailFor, kept_in, list_for};
 ghost use Rattle.spec_match.specs.Trail.{trace_in};
 
 use crate::answering::{asked_number, first_fit};
 use crate::lists::Lists;
 use crate::rule::Rule;
-use crate::stepping::{start_all, step_all};
-use crate::trail::{NONE_ALIVE, Reached, Trail, follow, list_behind, note};
+use crate::stepping::{list_stays, start_all, step_all};
+use crate::trail::{Reached, Trail, follow, has_no_zero, list_behind, note};
 use label_base::{Asked, OutOfMemory};
 use pattern_match::States;
 use std::alloc::Global;
@@ -35,11 +35,15 @@ const LONGEST_TRAIL: usize = 4096;
 /// out. All memory is reserved when it is made.
 #[derive(Debug, Drop)]
 pub struct Table {
+    // Whether lists end at the first specification that covers whatever follows.
+    pub(crate) cuts: bool,
     pub(crate) lists: Lists,
     // For each list and each byte the number of the list that the byte leads to, or 0 where it isn't known.
     pub(crate) next: Vec<u16>,
     // For each list and each kind that may be asked for one more than the code of the answer, or 0 where it isn't known.
     pub(crate) answers: Vec<u32>,
+    // For each list whether whatever follows leaves it as it is. No byte is read behind such a list.
+    pub(crate) stays: Vec<bool>,
     // Guesses at which list may be one, by its hash.
     slots: Vec<u32>,
     pub(crate) trail: Trail,
@@ -130,14 +134,16 @@ fn coded(found: Option<usize>) -> u32
 }
 
 impl Table {
-    /// Room for so many lists, so many specifications in all of them, and so many words of marks.
+    /// Room for so many lists, so many specifications in all of them, and so many words of marks. Where it `cuts`, lists end
+    /// at the first specification that covers whatever follows.
     pub fn new(
         alloc: Global,
+        cuts: bool,
         lists: usize,
         members: usize,
         words: usize,
     ) -> Result<Table, OutOfMemory>
-        ensures kept { IfOk result (λ table. kept_in table ≡ kept [] [] []) }
+        ensures kept { IfOk result (λ table. kept_in table ≡ kept cuts [] [] [] []) }
         ensures draft { IfOk result (λ table. table.lists.draft ≡ []) }
         ensures trail { IfOk result (λ table. table.trail.known ≡ 0) }
     {
@@ -151,9 +157,11 @@ impl Table {
             return Err(OutOfMemory);
         };
         Ok(Table {
+            cuts,
             lists: Lists::new(alloc, lists, members, words)?,
             next: Vec::with_capacity(alloc, steps)?,
             answers: Vec::with_capacity(alloc, answers)?,
+            stays: Vec::with_capacity(alloc, lists)?,
             slots: vec![in alloc; 0u32; slots]?,
             trail: Trail::new(alloc, LONGEST_TRAIL)?,
             tried: 0,
@@ -169,6 +177,7 @@ impl Table {
         ensures some { IfSome result (λ number. kept_in self.new
             ≡ with_list (kept_in self.old) self.old.lists.draft) }
         ensures number { IfSome result (λ number. number ≡ length self.old.lists.lists) }
+        ensures cuts { self.new.cuts ≡ self.old.cuts }
         ensures draft { self.new.lists.draft ≡ [] }
         ensures trail { trace_in self.new.trail ≡ trace_in self.old.trail }
         ensures table { (patterns : List Tree) (specs : List SpecValue)
@@ -185,21 +194,43 @@ impl Table {
             self.lists.drop_draft();
             return None;
         }
+        if self.stays.capacity() - self.stays.len() < 1 {
+            self.lists.drop_draft();
+            return None;
+        }
         if !self.lists.close() {
             return None;
         }
         add_copies(&mut self.next, 256, 0u16);
         add_copies(&mut self.answers, 9, 0u32);
+        add_copies(&mut self.stays, 1, false);
         Some(number)
     }
 
+    // Notes whether whatever follows leaves a list as it is.
+    fn note_stays(&mut self, rules: &[Rule], states: &mut Vec<States>, number: usize)
+        requires states { AreStatesFor (patterns_of rules.now) states.old.items }
+        requires table { IsTableFor rules.now self.old }
+        requires number { number < length self.old.lists.lists }
+        ensures states { AreStatesFor (patterns_of rules.now) states.new.items }
+        ensures table { IsTableFor rules.now self.new }
+        ensures cuts { self.new.cuts ≡ self.old.cuts }
+        ensures lists { self.new.lists ≡ self.old.lists }
+        ensures trail { trace_in self.new.trail ≡ trace_in self.old.trail }
+    {
+        let stays = list_stays(&self.lists, rules, states, number);
+        self.stays[number] = stays;
+    }
+
     // The number of the list that was written, where it is there or there is room for it.
-    fn number_of(&mut self) -> Option<usize>
-        requires begun { 1 < length self.old.lists.lists }
-        ensures table { (patterns : List Tree) (specs : List SpecValue)
-            → IsTableOf patterns specs (kept_in self.old)
-            → All (IsOwn patterns) self.old.lists.draft
-            → IsTableOf patterns specs (kept_in self.new) }
+    fn number_of(&mut self, rules: &[Rule], states: &mut Vec<States>) -> Option<usize>
+        requires states { AreStatesFor (patterns_of rules.now) states.old.items }
+        requires table { IsTableFor rules.now self.old }
+        requires own { All (IsOwn (patterns_of rules.now)) self.old.lists.draft }
+        requires begun { 0 < length self.old.lists.lists }
+        ensures states { AreStatesFor (patterns_of rules.now) states.new.items }
+        ensures table { IsTableFor rules.now self.new }
+        ensures cuts { self.new.cuts ≡ self.old.cuts }
         ensures draft { self.new.lists.draft ≡ [] }
         ensures trail { trace_in self.new.trail ≡ trace_in self.old.trail }
         ensures grown { IsGrown self.old.lists.lists self.new.lists.lists }
@@ -214,7 +245,9 @@ impl Table {
             }
             Err(slot) => {
                 note_guess(&mut self.slots, slot, self.lists.len());
-                self.add()
+                let number = self.add()?;
+                self.note_stays(rules, states, number);
+                Some(number)
             }
         }
     }
@@ -230,7 +263,7 @@ impl Table {
         self.due = lists.saturating_add(self.lists.members() as u64);
     }
 
-    // The list that a byte leads to, where there is room for it.
+    // The list that a byte other than 0 leads to, where there is room for it.
     fn learn(
         &mut self,
         rules: &[Rule],
@@ -241,29 +274,33 @@ impl Table {
         requires states { AreStatesFor (patterns_of rules.now) states.old.items }
         requires table { IsTableFor rules.now self.old }
         requires draft { self.old.lists.draft ≡ [] }
-        requires begun { 1 < length self.old.lists.lists }
+        requires begun { 0 < length self.old.lists.lists }
         requires from { from < length self.old.lists.lists }
         ensures states { AreStatesFor (patterns_of rules.now) states.new.items }
         ensures table { IsTableFor rules.now self.new }
+        ensures cuts { self.new.cuts ≡ self.old.cuts }
         ensures draft { self.new.lists.draft ≡ [] }
-        ensures begun { 1 < length self.new.lists.lists }
+        ensures begun { 0 < length self.new.lists.lists }
         ensures grown { IsGrown self.old.lists.lists self.new.lists.lists }
         ensures trail { trace_in self.new.trail ≡ trace_in self.old.trail }
         ensures within { IfSome result (λ to. to < length self.new.lists.lists) }
-        ensures leads { IfSome result (λ to. Leads (patterns_of rules.now) (byte ∷ [])
+        ensures leads { IfSome result (λ to. LeadsBy (list_for rules.now self.old) (byte ∷ [])
             (list_of self.old.lists.lists from) (list_of self.new.lists.lists to)) }
     {
+        if byte == 0 {
+            return None;
+        }
         if self.is_full {
             return None;
         }
         let members = self.lists.list_len(from) as u64;
         self.tried = self.tried.saturating_add(members);
-        if !step_all(&mut self.lists, rules, states, from, byte) {
+        if !step_all(&mut self.lists, rules, states, from, byte, self.cuts) {
             self.lists.drop_draft();
             self.fill();
             return None;
         }
-        match self.number_of() {
+        match self.number_of(rules, states) {
             Some(to) => {
                 let Ok(noted) = u16::try_from(to) else {
                     return Some(to);
@@ -281,7 +318,7 @@ impl Table {
     // Begins a text behind what it has in common with the one that was read last.
     fn begin(&mut self, rules: &[Rule], text: &[u8]) -> Reached
         requires table { IsTableFor rules.now self.old }
-        requires begun { 1 < length self.old.lists.lists }
+        requires begun { 0 < length self.old.lists.lists }
         requires trail { IsTrailFor rules.now self.old }
         ensures kept { kept_in self.new ≡ kept_in self.old }
         ensures draft { self.new.lists.draft ≡ self.old.lists.draft }
@@ -296,7 +333,7 @@ impl Table {
     // Reads a text on while it is known where to.
     fn follow(&mut self, rules: &[Rule], text: &[u8], from: Reached) -> Reached
         requires table { IsTableFor rules.now self.old }
-        requires begun { 1 < length self.old.lists.lists }
+        requires begun { 0 < length self.old.lists.lists }
         requires way { IsOnWayFor rules.now self.old text.now from }
         ensures kept { kept_in self.new ≡ kept_in self.old }
         ensures draft { self.new.lists.draft ≡ self.old.lists.draft }
@@ -326,13 +363,14 @@ impl Table {
         requires states { AreStatesFor (patterns_of rules.now) states.old.items }
         requires table { IsTableFor rules.now self.old }
         requires draft { self.old.lists.draft ≡ [] }
-        requires begun { 1 < length self.old.lists.lists }
+        requires begun { 0 < length self.old.lists.lists }
         requires inside { from.at < length text.now }
         requires way { IsOnWayFor rules.now self.old text.now from }
         ensures states { AreStatesFor (patterns_of rules.now) states.new.items }
         ensures table { IsTableFor rules.now self.new }
+        ensures cuts { self.new.cuts ≡ self.old.cuts }
         ensures draft { self.new.lists.draft ≡ [] }
-        ensures begun { 1 < length self.new.lists.lists }
+        ensures begun { 0 < length self.new.lists.lists }
         ensures trail { IsTrailFor rules.now self.new }
         ensures at { IfSome result (λ to. to.at ≡ from.at + 1) }
         ensures way { IfSome result (IsOnWayFor rules.now self.new text.now) }
@@ -359,12 +397,12 @@ impl Table {
         requires list { list < length self.old.lists.lists }
         ensures states { AreStatesFor (patterns_of rules.now) states.new.items }
         ensures table { IsTableFor rules.now self.new }
+        ensures cuts { self.new.cuts ≡ self.old.cuts }
         ensures draft { self.new.lists.draft ≡ [] }
         ensures lists { self.new.lists.lists ≡ self.old.lists.lists }
         ensures trail { trace_in self.new.trail ≡ trace_in self.old.trail }
         ensures told { (text : List ℕ)
-            → AreAlive (patterns_of rules.now) text (length (patterns_of rules.now))
-            (list_of self.old.lists.lists list)
+            → list_for rules.now self.old text (list_of self.old.lists.lists list)
             → IsAnswer asked text (map spec_in rules.now) result }
     {
         let place = 9 * list + asked_number(asked);
@@ -381,7 +419,7 @@ impl Table {
 
     // Forgets everything.
     fn clear(&mut self)
-        ensures kept { kept_in self.new ≡ kept [] [] [] }
+        ensures kept { kept_in self.new ≡ kept self.old.cuts [] [] [] [] }
         ensures draft { self.new.lists.draft ≡ [] }
         ensures trail { self.new.trail.known ≡ 0 }
     {
@@ -389,18 +427,20 @@ impl Table {
         self.lists.clear();
         self.next.clear();
         self.answers.clear();
+        self.stays.clear();
         forget(&mut self.slots);
         self.look_ups = 0;
         self.is_full = false;
     }
 
-    // Adds the list of all specifications and that of none, where there is room.
+    // Adds the list of all specifications, where there is room.
     fn add_first(&mut self, rules: &[Rule], states: &mut Vec<States>) -> bool
         requires states { AreStatesFor (patterns_of rules.now) states.old.items }
-        requires kept { kept_in self.old ≡ kept [] [] [] }
+        requires kept { kept_in self.old ≡ kept self.old.cuts [] [] [] [] }
         requires draft { self.old.lists.draft ≡ [] }
         ensures states { AreStatesFor (patterns_of rules.now) states.new.items }
         ensures table { IsTableFor rules.now self.new }
+        ensures cuts { self.new.cuts ≡ self.old.cuts }
         ensures draft { self.new.lists.draft ≡ [] }
         ensures trail { trace_in self.new.trail ≡ trace_in self.old.trail }
     {
@@ -408,9 +448,6 @@ impl Table {
             self.lists.drop_draft();
             return false;
         }
-        let Some(_) = self.add() else {
-            return false;
-        };
         self.add().is_some()
     }
 
@@ -422,6 +459,7 @@ impl Table {
         requires trail { IsTrailFor rules.now self.old }
         ensures states { AreStatesFor (patterns_of rules.now) states.new.items }
         ensures table { IsTableFor rules.now self.new }
+        ensures cuts { self.new.cuts ≡ self.old.cuts }
         ensures draft { self.new.lists.draft ≡ [] }
         ensures trail { IsTrailFor rules.now self.new }
     {
@@ -447,14 +485,15 @@ impl Table {
         requires trail { IsTrailFor rules.now self.old }
         ensures states { AreStatesFor (patterns_of rules.now) states.new.items }
         ensures table { IsTableFor rules.now self.new }
+        ensures cuts { self.new.cuts ≡ self.old.cuts }
         ensures draft { self.new.lists.draft ≡ [] }
         ensures trail { IsTrailFor rules.now self.new }
         ensures within { IfSome result (λ list. list < length self.new.lists.lists) }
-        ensures alive { IfSome result (λ list. AreAlive (patterns_of rules.now) text.now
-            (length (patterns_of rules.now)) (list_of self.new.lists.lists list)) }
+        ensures alive { IfSome result (λ list.
+            list_for rules.now self.old text.now (list_of self.new.lists.lists list)) }
     {
         self.prepare(rules, states);
-        if self.lists.len() < 2 {
+        if self.lists.len() == 0 {
             return None;
         }
         let mut way = self.begin(rules, text);
@@ -463,8 +502,12 @@ impl Table {
             if way.at == text.len() {
                 return Some(way.list);
             }
-            if way.list == NONE_ALIVE {
-                return Some(NONE_ALIVE);
+            if self.stays[way.list] {
+                // Nothing is learned for a byte 0.
+                if !has_no_zero(&text[way.at..]) {
+                    return None;
+                }
+                return Some(way.list);
             }
             let Some(next) = self.read_byte(rules, states, text, way) else {
                 return None;

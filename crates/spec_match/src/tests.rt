@@ -234,6 +234,38 @@ fn specifications_that_begin_otherwise_are_not_tried(rt: HostRuntime) {
     assert_eq!(rt; tried(rt.alloc(), specs, b"/s5/x"), Some(2));
 }
 
+// Looks a path up until its lists are known.
+fn look_up_often(alloc: Global, rules: &RuleSet, scratch: &mut Scratch, path: &[u8])
+    requires { IsScratchOf rules.now scratch.old }
+    ensures { IsScratchOf rules.now scratch.new }
+{
+    'rounds: for _ in 0..40 {
+        found_in(alloc, rules, scratch, path);
+    }
+}
+
+// How many specifications are tried for a path, where another one is known.
+fn tried_behind(alloc: Global, specs: &[u8], known: &[u8], path: &[u8]) -> Option<u64>
+    requires { length specs.now < 2 ^ 32 }
+{
+    let specs = read_specs(alloc, specs, Part::Base, 9).ok()?;
+    let rules = RuleSet::new(alloc, specs).ok()?;
+    let mut scratch = Scratch::new(alloc, &rules).ok()?;
+    look_up_often(alloc, &rules, &mut scratch, known);
+    let before = scratch.tried();
+    found_in(alloc, &rules, &mut scratch, path);
+    Some(scratch.tried().saturating_sub(before))
+}
+
+#[test]
+fn what_decides_whatever_follows_is_not_read_on(rt: HostRuntime) {
+    let specs = b"/.* <<none>>\n/s(/.*)? <<none>>\n/t <<none>>\n".as_slice();
+    assert_eq!(rt;
+        tried_behind(rt.alloc(), specs, b"/s/a", b"/s/axy/z"),
+        Some(0)
+    );
+}
+
 // The specifications that can decide at or below a path.
 fn relevant(alloc: Global, specs: &[u8], path: &[u8]) -> Option<Vec<u32>>
     requires { length specs.now < 2 ^ 32 }

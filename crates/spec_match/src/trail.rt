@@ -1,15 +1,15 @@
-ghost use Rattle.std.specs.Prelude.{◌≡◌, ◌≤◌, ◌<◌, ◌+◌, ◌++◌, ◌*◌, ℕ, List, length, min, take, drop, set, true, IfOk, if◌then◌else◌, nat_lt};
+ghost use Rattle.std.specs.Prelude.{◌≡◌, ◌≤◌, ◌<◌, ◌+◌, ◌++◌, ◌*◌, ℕ, Bool, List, length, min, take, drop, set, true, IfOk, if◌then◌else◌, nat_lt};
 ghost use Rattle.std.specs.Vec.{vec_capacity};
+ghost use Rattle.pattern_match.specs.Onwards.{AreTextBytes};
 ghost use Rattle.pattern_syntax.specs.Tree.{Tree};
+ghost use Rattle.spec_reader.specs.SpecValue.{SpecValue};
 ghost use Rattle.spec_match.specs.Alive.{Alive};
+ghost use Rattle.spec_match.specs.Listed.{IsListed};
 ghost use Rattle.spec_match.specs.Remembering.{IsStep, Remembers};
 ghost use Rattle.spec_match.specs.Trail.{AreNumbers, IsRead, list_behind};
 
 use label_base::OutOfMemory;
 use std::alloc::Global;
-
-// The list of no specification.
-pub const NONE_ALIVE: usize = 1;
 
 // How many bytes are compared at once.
 const CHUNK: usize = 16;
@@ -75,6 +75,17 @@ pub fn common(a: &[u8], b: &[u8]) -> usize
     most
 }
 
+/// Whether a text has no byte 0. The loop goes to the end, so that it takes many bytes at once.
+pub fn has_no_zero(text: &[u8]) -> bool
+    ensures { result ≡ true → AreTextBytes text.now }
+{
+    let mut least = u8::MAX;
+    'bytes: for byte in text {
+        least = least.min(*byte);
+    }
+    least > 0
+}
+
 /// The number of the list behind so many bytes. Behind none it is 0.
 pub fn list_behind(lists: &[usize], k: usize) -> usize
     requires { k ≤ length lists.now }
@@ -110,16 +121,14 @@ pub fn follow(
     requires list { from.list < count }
     requires from { from.at ≤ length text.now }
     ensures low { from.at ≤ result.at }
-    ensures read { (patterns : List Tree) (all : List (List Alive)) → length all ≡ count
-        → Remembers (IsStep patterns all) next.now
-        → IsRead patterns all text.now lists.old.items from.at from.list
-        → IsRead patterns all text.now lists.new.items result.at result.list }
+    ensures read { (cuts : Bool) (patterns : List Tree) (specs : List SpecValue)
+        (all : List (List Alive)) → length all ≡ count
+        → Remembers (IsStep (IsListed cuts patterns specs) all) next.now
+        → IsRead (IsListed cuts patterns specs) all text.now lists.old.items from.at from.list
+        → IsRead (IsListed cuts patterns specs) all text.now lists.new.items result.at result.list }
 {
     let mut list = from.list;
     'text: for i in from.at..text.len() {
-        if list == NONE_ALIVE {
-            return Reached { at: i, list };
-        }
         // The byte first, so that what depends on the list before is short.
         let column = &next[text[i] as usize..];
         let known = column[256 * list] as usize;

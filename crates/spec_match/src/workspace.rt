@@ -25,6 +25,8 @@ use std::alloc::Global;
 pub struct Workspace {
     pub(crate) states: Vec<States>,
     pub(crate) table: Table,
+    // Its lists are whole, since each specification can decide below a path, whether a later one hides it or not.
+    pub(crate) whole: Table,
     // How many specifications were tried by themselves.
     pub(crate) tried: u64,
 }
@@ -89,10 +91,10 @@ impl Workspace {
         ensures value { IfOk result (λ found. found.items
             ≡ relevant_at (path_of path.now) (map spec_in rules.now)) }
     {
-        match self.table.reach(rules, &mut self.states, path.as_text()) {
+        match self.whole.reach(rules, &mut self.states, path.as_text()) {
             Some(list) => listed_relevant(
                 alloc,
-                &self.table.lists,
+                &self.whole.lists,
                 rules,
                 &mut self.states,
                 list,

@@ -21,7 +21,7 @@ returns-then-does_fit_child-clause-told c = λ path at.
     subst (λ i. IsAnswer c.args.asked text (map spec_in rules) (Some i)) (sym c.index-i.ensures)
     (first_found c.args.asked (path_text path) text (dead_child c.args.asked path c.args.name.now) rules list k rule c.does_fit_child.result within
     (c.index-rules-i.is ∙ ap (λ n. get_or rules n rule) c.index-i.ensures) (omega (arith, own.within, count_rules rules))
-    (λ s. c.does_fit_child.ensures.value path at.0 (subst (λ w. StandsFor rule.spec.pattern w (path_text path)) (sym c.load.ensures.value) s)) c.if-does_fit_child.true (c.alive.invariant.passed path at.0) at.1)
+    (λ s. c.does_fit_child.ensures.value path at.0 (subst (λ w. StandsFor rule.spec.pattern w (path_text path)) (sym c.load.ensures.value) s)) c.if-does_fit_child.true (c.alive.invariant.passed path at.0) 0 at.1)
 
 pub alive-preserved : goal.alive-preserved
 alive-preserved c =

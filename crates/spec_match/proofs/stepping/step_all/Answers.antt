@@ -1,28 +1,40 @@
-use Rattle.std.proofs.Common.{◌∷◌, [], ◌<◌, ◌∙◌, ap, add-one, arith, get_or, length, rules, subst, sym}
-use Rattle.spec_match.specs.Alive.{alive_at, list_of, no_alive}
-use Rattle.spec_match.specs.StatesFor.{patterns_of}
-use Rattle.spec_match.specs.Stepping.{GoesOn}
-use Rattle.spec_match.specs.declared.rule.Rule.{Rule}
-use Rattle.spec_match.proofs.AliveLemmas.{IsStepped, all_stepped, stepped_on}
-use Rattle.spec_match.proofs.AnswerLemmas.{count_rules, pattern_of_rule}
+use Rattle.std.proofs.Common.{◌∷◌, [], ◌<◌, ◌∙◌, ap, arith, length, map, subst}
+use Rattle.spec_match.specs.Alive.{alive_at, list_of}
+use Rattle.spec_match.specs.StatesFor.{patterns_of, spec_in}
+use Rattle.spec_match.specs.Stepping.{GoesOn, IsEnd}
+use Rattle.spec_match.proofs.ScratchLemmas.{states_set}
+use Rattle.spec_match.proofs.SteppingLemmas.{in_rules, listed_on, listed_to, rule_stepped}
 use Rattle.spec_match.proofs.stepping.step_all.Goals as goal
 
 pub alive-preserved : goal.alive-preserved
 alive-preserved c =
-    let ps = patterns_of c.args.rules.now in
     let list = list_of c.args.lists.now.lists c.args.from in
     let k = c.alive.k in
+    let i = c.index-i.result in
     let rule = c.index-rules-i.result in
     let within : k < length list = omega (arith, c.list_len-k-end.ensures) in
-    let own = c.requires.own c.args.from c.requires.from k no_alive within in
+    let owns = c.requires.own c.args.from c.requires.from in
     let index = c.index-i.ensures ∙ ap (λ ls. (alive_at (list_of ls c.args.from) k).index) c.alive.invariant.lists in
-    let pattern = ap (λ (r : Rule). r.spec.pattern) (c.index-rules-i.is ∙ ap (λ n. get_or c.args.rules.now n rule) index) ∙ pattern_of_rule c.args.rules.now (alive_at list k).index rule (omega (arith, own.within, count_rules c.args.rules.now)) in
-    let goes = subst (λ ls. GoesOn rule.spec.pattern (c.args.byte ∷ []) (alive_at (list_of ls c.args.from) k) c.alive.lists.draft c.step_one.new.lists.draft) c.alive.invariant.lists (c.step_one.ensures.goes c.if-not-step_one.false) in record {
-      states = search rules;
+    let goes = subst (λ ls. GoesOn rule.spec.pattern (c.args.byte ∷ []) (alive_at (list_of ls c.args.from) k) c.alive.lists.draft c.step_one.new.lists.draft) c.alive.invariant.lists c.in-Some.ensures.goes in record {
+      states = states_set c.args.rules.now c.alive.states.items i rule c.step_one.new.states (in_rules c.args.rules.now list k i rule within owns index c.index-rules-i.is) c.index-rules-i.is c.step_one.ensures.made c.alive.invariant.states;
       lists = c.step_one.ensures.lists ∙ c.alive.invariant.lists;
-      stepped = subst (IsStepped ps (c.args.byte ∷ []) list c.step_one.new.lists.draft) (sym (add-one k)) (stepped_on ps rule.spec.pattern (c.args.byte ∷ []) list c.alive.lists.draft c.step_one.new.lists.draft k within pattern own goes c.alive.invariant.stepped);
+      stepped = rule_stepped c.args.rules.now list k i rule within owns index c.index-rules-i.is (c.args.byte ∷ []) c.alive.lists.draft c.step_one.new.lists.draft goes c.alive.invariant.stepped;
     }
+
+pub returns-then-ends-clause-leads : goal.returns-then-ends-clause-leads
+returns-then-ends-clause-leads c = λ _.
+    let list = list_of c.args.lists.now.lists c.args.from in
+    let k = c.alive.k in
+    let i = c.index-i.result in
+    let rule = c.index-rules-i.result in
+    let within : k < length list = omega (arith, c.list_len-k-end.ensures) in
+    let owns = c.requires.own c.args.from c.requires.from in
+    let index = c.index-i.ensures ∙ ap (λ ls. (alive_at (list_of ls c.args.from) k).index) c.alive.invariant.lists in
+    let goes = subst (λ ls. GoesOn rule.spec.pattern (c.args.byte ∷ []) (alive_at (list_of ls c.args.from) k) c.alive.lists.draft c.step_one.new.lists.draft) c.alive.invariant.lists c.in-Some.ensures.goes in
+    let end = subst (λ ls. IsEnd c.args.cuts rule.spec (c.args.byte ∷ []) (alive_at (list_of ls c.args.from) k)) c.alive.invariant.lists (c.in-Some.ensures.ends c.if-ends.true) in
+    listed_to c.args.rules.now list k i rule within owns index c.index-rules-i.is c.args.cuts (c.args.byte ∷ []) c.step_one.new.lists.draft end
+    (rule_stepped c.args.rules.now list k i rule within owns index c.index-rules-i.is (c.args.byte ∷ []) c.alive.lists.draft c.step_one.new.lists.draft goes c.alive.invariant.stepped)
 
 pub returns-clause-leads : goal.returns-clause-leads
 returns-clause-leads c = λ _.
-    all_stepped (patterns_of c.args.rules.now) (c.args.byte ∷ []) (list_of c.args.lists.now.lists c.args.from) c.alive.lists.draft c.alive.k (omega (arith, c.list_len-k-end.ensures)) c.alive.invariant.stepped
+    listed_on c.args.cuts (patterns_of c.args.rules.now) (map spec_in c.args.rules.now) c.args.byte (list_of c.args.lists.now.lists c.args.from) c.alive.lists.draft c.alive.k c.requires.some (omega arith) (omega (arith, c.list_len-k-end.ensures)) c.alive.invariant.stepped

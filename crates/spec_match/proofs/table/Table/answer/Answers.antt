@@ -15,4 +15,7 @@ returns-then-known-gt0-clause-told c = λ text a.
 pub returns-clause-table : goal.returns-clause-table
 returns-clause-table c =
     answer_noted (patterns_of c.args.rules.now) (map spec_in c.args.rules.now) (kept_in c.args.self.now) c.args.list c.asked_number.result c.args.asked c.coded.result c.first_fit-found.result
-    c.asked_number.ensures.value c.asked_number.ensures.below c.requires.table c.requires.list c.first_fit-found.ensures.told c.coded.ensures
+    c.asked_number.ensures.value c.asked_number.ensures.below c.requires.table c.requires.list (c.first_fit-found.ensures.told c.args.self.now.cuts) c.coded.ensures
+
+pub returns-clause-told : goal.returns-clause-told
+returns-clause-told c = c.first_fit-found.ensures.told c.args.self.now.cuts

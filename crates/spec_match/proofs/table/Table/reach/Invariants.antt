@@ -1,7 +1,7 @@
 use Rattle.std.proofs.Common.{◌≡◌, ◌<◌, ◌-◌, [], length, map}
 use Rattle.spec_match.specs.Remembering.{IsTableOf}
 use Rattle.spec_match.specs.StatesFor.{AreStatesFor, patterns_of, spec_in}
-use Rattle.spec_match.specs.Tables.{kept_in}
+use Rattle.spec_match.specs.Tables.{kept_in, list_for}
 use Rattle.spec_match.specs.Trail.{IsOnWay, trace_in}
 use Rattle.spec_match.proofs.table.Table.reach.Given as goal
 
@@ -10,9 +10,10 @@ abbrev pub invariant-text : goal.invariant-text
 invariant-text l = record {
   states : AreStatesFor (patterns_of l.rules) l.states.items;
   table : IsTableOf (patterns_of l.rules) (map spec_in l.rules) (kept_in l.self);
+  cuts : l.self.cuts ≡ l.fn.self.cuts;
   draft : l.self.lists.draft ≡ [];
-  begun : 1 < length l.self.lists.lists;
-  way : IsOnWay (patterns_of l.rules) l.self.lists.lists l.text (trace_in l.self.trail) l.way.at l.way.list;
+  begun : 0 < length l.self.lists.lists;
+  way : IsOnWay (list_for l.rules l.self) l.self.lists.lists l.text (trace_in l.self.trail) l.way.at l.way.list;
 }
 
 -- what is left of the text

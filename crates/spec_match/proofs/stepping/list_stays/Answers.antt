@@ -1,0 +1,23 @@
+use Rattle.std.proofs.Common.{◌<◌, arith, length, map}
+use Rattle.spec_match.specs.Alive.{list_of}
+use Rattle.spec_match.specs.StatesFor.{patterns_of, spec_in}
+use Rattle.spec_match.proofs.ScratchLemmas.{states_set}
+use Rattle.spec_match.proofs.SteppingLemmas.{in_rules, listed_stays, rule_stays}
+use Rattle.spec_match.proofs.stepping.list_stays.Goals as goal
+
+pub alive-preserved : goal.alive-preserved
+alive-preserved c =
+    let list = list_of c.args.lists.now.lists c.args.list in
+    let k = c.alive.k in
+    let i = c.index-i.result in
+    let rule = c.index-rules-i.result in
+    let within : k < length list = omega (arith, c.list_len-k-end.ensures) in
+    let owns = c.requires.own c.args.list c.requires.list in record {
+      states = states_set c.args.rules.now c.alive.states.items i rule c.member_stays.new.states (in_rules c.args.rules.now list k i rule within owns c.index-i.ensures c.index-rules-i.is) c.index-rules-i.is c.member_stays.ensures.made c.alive.invariant.states;
+      stay = rule_stays c.args.rules.now list k i rule within owns c.index-i.ensures c.index-rules-i.is (c.member_stays.ensures.stays c.if-not-member_stays.false) c.alive.invariant.stay;
+    }
+
+pub returns-clause-stays : goal.returns-clause-stays
+returns-clause-stays c = λ _ cuts.
+    listed_stays cuts (patterns_of c.args.rules.now) (map spec_in c.args.rules.now) (list_of c.args.lists.now.lists c.args.list)
+    (λ j l. c.alive.invariant.stay j (omega (arith, l, c.list_len-k-end.ensures)))
