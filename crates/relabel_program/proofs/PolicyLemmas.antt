@@ -1,5 +1,5 @@
 -- What is known of stored digests is known of a policy with them.
-use Rattle.std.specs.Prelude.{◌≡◌, ℕ, Result, Ok, Err, IfErr}
+use Rattle.std.specs.Prelude.{ℕ, Result, Ok, Err, IfErr}
 use Rattle.std.proofs.Common.{ap}
 use Rattle.setfattr_dump.specs.declared.dump.Dump.{Dump}
 use Rattle.relabel_core.specs.declared.rules.Rules.{Rules}

@@ -1,6 +1,6 @@
 -- What the end of a run says, from what its parts say.
 use Rattle.std.proofs.Common.{◌≡◌, ◌∙◌, ap, sym, subst, refl, cond, ℕ, ◌≤◌, arith, ◌⊎◌, inl, inr, List, []}
-use Rattle.std.specs.Prelude.{Bool, true, false, Option, Some, None, Result, Ok, Err, is_ok, is_some, IsOk, IfSome, IfErr, OnOk, option_map}
+use Rattle.std.specs.Prelude.{Bool, true, false, Option, Some, None, Result, Ok, Err, is_ok, is_some, IfSome, option_map}
 use Rattle.std.specs.FinMap as map
 use Rattle.std.specs.FinMap.{get-insert, get-remove, same_map, nat_cmp-IsAntisymmetric, slice_cmp-IsAntisymmetric}
 use Rattle.std.specs.Ordering.{eq_by_cmp, nat_cmp}
@@ -10,7 +10,7 @@ use Rattle.label_base.specs.Answers.{Explains}
 use Rattle.label_base.specs.Answers as answers
 use Rattle.label_base.specs.Sink.{AppendsFront}
 use Rattle.label_base.specs.Source.{Rose}
-use Rattle.label_base.specs.Store.{Files, SaveCounts, SaveTold}
+use Rattle.label_base.specs.Store.{Files}
 use Rattle.label_base.specs.declared.fault.Fault.{Fault}
 use Rattle.label_base.specs.declared.fault.Fault.TheVariants as faults
 use Rattle.label_base.specs.declared.store.SaveFault.{SaveFault}
@@ -23,14 +23,15 @@ use Rattle.tool_words.specs.declared.command.RelabelWords.{RelabelWords}
 use Rattle.tool_words.specs.declared.usage.Usage.{Usage}
 use Rattle.tool_words.specs.declared.usage.UsageWhy.{UsageWhy}
 use Rattle.relabel_program.specs.Answer.{answer, answer_for, cause_of, saved_as, told_by, told_by_lookup, told_by_walk}
-use Rattle.relabel_program.specs.Asked.{input_for, input_in, output_in, output_of, takes_records}
-use Rattle.relabel_program.specs.Causes.{and_then, CauseCounts, Counts, Explained, Gives, IsFileCause, IsInputCause, IsReadingCause, IsReported, IsWritten, words_cause}
+use Rattle.relabel_program.specs.Asked.{input_for, input_in, output_of, takes_records}
+use Rattle.relabel_program.specs.Causes.{and_then, CauseCounts, Explained, IsFileCause, IsInputCause, IsReadingCause, IsWritten, words_cause}
 use Rattle.relabel_program.specs.Faults.{fault_line}
 use Rattle.relabel_program.specs.Files.{policy}
 use Rattle.relabel_program.specs.Input.{entries_for}
 use Rattle.relabel_program.specs.Names.{names_for, names_in, no_names}
 use Rattle.relabel_program.specs.Sample.{told_by_sample}
-use Rattle.relabel_program.specs.Run.{Ends, FileFailed, FilesDecide, InputFailed, LineOrFront, LosesDump, LosesReport, OthersStay, Reports, ReportsFront, Run, Saves, WritesReport, files_with}
+use Rattle.relabel_program.specs.Run.{Ends, FileFailed, FilesDecide, InputFailed, LineOrFront, LosesDump, LosesReport, OthersStay, Reports, Run, Saves, WritesReport, files_with}
+use Rattle.relabel_program.specs.Stages.{FilesRead, InputRead, Tells, loses_dump, no_texts, saves_dump, saves_nothing}
 use Rattle.relabel_program.specs.declared.cause.Cause.{Cause}
 use Rattle.relabel_program.specs.declared.cause.Cause.TheVariants as causes
 use Rattle.relabel_program.specs.declared.cause.Cause.TheVariants.{Done, RecordRefused, Unended, Doubled, Limit, WalkErrors, Differs, ReadFault, WriteFault, OutOfMemory}
@@ -265,19 +266,6 @@ not_usage cause wrong calm written is = subst IsWritten is written
 
 -- ---- runs
 
--- what reading the files leaves
-pub record FilesRead {S : Type 0} (files : S → Option Files) (read_faults write_faults : S → ℕ) (command : Command) (store mid : S) (result : Result Policy Cause) : Type 0 where
-  pub same : files mid ≡ files store
-  pub unwritten : write_faults mid ≡ write_faults store
-  pub gives : IfSome (files store) (λ told. Gives (policy command told) result)
-  pub counts : Counts (read_faults store) (read_faults mid) result
-
--- what reading the input leaves
-pub record InputRead {I : Type 0} (left : I → Option (List ℕ)) (faults : I → ℕ) (command : Command) (input input_now : I) (result : Result (List Record) Cause) : Type 0 where
-  pub gives : IfSome (input_for command (left input)) (λ bytes. Gives (entries_for command bytes) result)
-  pub untouched : takes_records command ≡ false → input_now ≡ input
-  pub counts : Counts (faults input) (faults input_now) result
-
 module _ {S I O : Type 0} (files : S → Option Files) (read_faults write_faults : S → ℕ)
     (left : I → Option (List ℕ)) (input_faults : I → ℕ) (written : O → Option (List ℕ)) (out_faults : O → ℕ)
     (command : Command) (store store_now : S) (input input_now : I) (out out_now : O) where
@@ -417,7 +405,7 @@ module _ {S I O : Type 0} (files : S → Option Files) (read_faults write_faults
       (omega (arith, read.counts)) (counts_later _ _ cause entries.counts) read.unwritten)
 
   -- no memory for the texts
-  pub told_late : (told : Cause) (found : Policy) (entries : List Record) → told ≡ OutOfMemory
+  told_late : (told : Cause) (found : Policy) (entries : List Record) → told ≡ OutOfMemory
       → FilesRead files read_faults write_faults command store store_now (Ok found)
       → InputRead left input_faults command input input_now (Ok entries)
       → Told_line OutOfMemory → Ran told
@@ -521,7 +509,7 @@ module _ {S I O : Type 0} (files : S → Option Files) (read_faults write_faults
       }
 
   -- the dump was saved, and the report written whole or not
-  pub finished : (cause : Cause) (mid : S) (found : Policy) (entries : List Record) (made : Told)
+  finished : (cause : Cause) (mid : S) (found : Policy) (entries : List Record) (made : Told)
       → FilesRead files read_faults write_faults command store mid (Ok found)
       → InputRead left input_faults command input input_now (Ok entries)
       → (takes_records command ≡ true → IfSome (left input) (λ bytes. left input_now ≡ Some []))
@@ -535,7 +523,7 @@ module _ {S I O : Type 0} (files : S → Option Files) (read_faults write_faults
       subst Ran (sym failed.0) (lost_report mid found entries made read given ended is saves writes reads failed.1 failed.2)
 
   -- the dump could not be written
-  pub lost_dump : (cause : Cause) (mid : S) (found : Policy) (entries : List Record) (made : Told) → cause ≡ WriteFault
+  lost_dump : (cause : Cause) (mid : S) (found : Policy) (entries : List Record) (made : Told) → cause ≡ WriteFault
       → FilesRead files read_faults write_faults command store mid (Ok found)
       → InputRead left input_faults command input input_now (Ok entries)
       → (takes_records command ≡ true → IfSome (left input) (λ bytes. left input_now ≡ Some []))
@@ -571,7 +559,7 @@ module _ {S I O : Type 0} (files : S → Option Files) (read_faults write_faults
       })
 
   -- no memory to write the dump
-  pub unsaved : (cause : Cause) (mid : S) (found : Policy) (entries : List Record) (made : Told) → cause ≡ OutOfMemory
+  unsaved : (cause : Cause) (mid : S) (found : Policy) (entries : List Record) (made : Told) → cause ≡ OutOfMemory
       → FilesRead files read_faults write_faults command store mid (Ok found)
       → InputRead left input_faults command input input_now (Ok entries)
       → made ≡ told_by command found entries
@@ -583,6 +571,22 @@ module _ {S I O : Type 0} (files : S → Option Files) (read_faults write_faults
       (stays mid found entries made (Err save.OutOfMemory) read.same is saves)
       (none_saved (files store) (files store_now) made.saved (subst (λ (old : Option Files). Saves old (files store_now) made.saved (Err save.OutOfMemory)) read.same saves))
       line (omega (arith, reads, read.counts)) (omega (arith, given.counts)) (writes ∙ read.unwritten))
+
+  -- what a run told of the policy and the tree that it read
+  pub told_by_tells : (cause : Cause) (mid : S) (found : Policy) (entries : List Record)
+      → FilesRead files read_faults write_faults command store mid (Ok found)
+      → InputRead left input_faults command input input_now (Ok entries)
+      → (takes_records command ≡ true → IfSome (left input) (λ bytes. left input_now ≡ Some []))
+      → Tells files read_faults write_faults written out_faults command found entries mid store_now out out_now cause
+      → Ran cause
+  told_by_tells cause mid found entries read given ended (no_texts is same line) =
+      told_late cause found entries is (subst (λ (s : S). FilesRead files read_faults write_faults command store s (Ok found)) (sym same) read) given line
+  told_by_tells cause mid found entries read given ended (saves_dump made is saves writes reads report) =
+      finished cause mid found entries made read given ended is saves writes reads report
+  told_by_tells cause mid found entries read given ended (loses_dump made told is saves writes reads line) =
+      lost_dump cause mid found entries made told read given ended is saves writes reads line
+  told_by_tells cause mid found entries read given ended (saves_nothing made told is saves writes reads line) =
+      unsaved cause mid found entries made told read given is saves writes reads line
 
 -- ---- the words
 

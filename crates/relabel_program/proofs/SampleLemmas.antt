@@ -1,14 +1,14 @@
 -- Samples: readers that never fail, counts of lines, and what one walk leaves to the next.
-use Rattle.std.proofs.Common.{◌≡◌, ◌∙◌, ap, sym, subst, refl, ℕ, ◌+◌, ◌<◌, Bool, false, cond, List, [], ◌∷◌, ◌++◌, length, map, get_or, add-one, arith, inl, inr}
+use Rattle.std.proofs.Common.{◌≡◌, ◌∙◌, ap, sym, refl, ℕ, ◌+◌, Bool, false, cond, List, [], ◌∷◌, ◌++◌, length, map, get_or, add-one, arith, inl, inr}
 use Rattle.std.specs.Prelude.{◌&&◌, ◌||◌, Option, Some, None, Result, Ok, Err, is_some}
 use Rattle.std.proofs.lemmas.Bool.{cases_lt}
 use Rattle.std.proofs.lemmas.List.{length-map, map-append}
 use Rattle.std.proofs.Math.ListN.{get_or-eq_default}
-use Rattle.label_base.specs.Bounded.{all_numbers, any_below}
+use Rattle.label_base.specs.Bounded.{all_numbers}
 use Rattle.label_base.proofs.BoundedLemmas.{count_numbers}
 use Rattle.context_syntax.specs.declared.label.Label.{Label}
 use Rattle.find_records.specs.Record.{Record}
-use Rattle.tree_model.specs.Extents.{in_extent, is_directory}
+use Rattle.tree_model.specs.Extents.{is_directory}
 use Rattle.tree_model.specs.Groups.{groups_in}
 use Rattle.tree_model.specs.Labelled.{DifferInLabels, labelled}
 use Rattle.tree_model.specs.Selection.{whole_at}

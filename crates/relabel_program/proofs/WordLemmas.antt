@@ -1,13 +1,13 @@
 -- A command names no more paths than it has words.
-use Rattle.std.proofs.Common.{◌≡◌, ◌∙◌, ap, sym, subst, refl, cond, ℕ, suc, ◌+◌, ◌<◌, ◌≤◌, ◌^◌, arith, Bool, true, false, List, [], ◌∷◌, ◌++◌, length}
-use Rattle.std.specs.Prelude.{Option, Some, None, Result, Ok, Err, String}
+use Rattle.std.proofs.Common.{◌≡◌, ◌∙◌, ap, subst, refl, cond, ℕ, suc, ◌+◌, ◌<◌, ◌≤◌, ◌^◌, arith, Bool, true, false, List, [], ◌∷◌, ◌++◌, length}
+use Rattle.std.specs.Prelude.{Option, Some, None, Ok, String}
 use Rattle.std.specs.List.{cons_option}
 use Rattle.std.specs.String.{string_bytes}
 use Rattle.std.specs.declared.alloc.Global.{Global}
 use Rattle.std.proofs.lemmas.List.{length-map, length-append}
 use Rattle.std.proofs.lemmas.List.Elements.{filter_map-append}
 use Rattle.label_base.specs.Path.{path_read, same_bytes}
-use Rattle.tool_words.specs.Items.{Item, Letters, Taken, ahead, any_taken, is_cluster, item, items_from, items_of, letters_say, letters_taken, operand_says, operand_taken, taken, unended, with_letter, word_taken}
+use Rattle.tool_words.specs.Items.{Item, Letters, Taken, ahead, any_taken, is_cluster, item, items_from, items_of, letters_say, letters_taken, operand_says, taken, unended, with_letter, word_taken}
 use Rattle.tool_words.specs.Tools.{letter_of, tool_named}
 use Rattle.tool_words.specs.Words.{asked_by, command_for, command_in, command_of, end_wrong, is_operand, operands_of, or_at_end, path_in, paths_of, text_if, unless_wrong, word_texts}
 use Rattle.tool_words.specs.Values.{first_wrong}

@@ -7,3 +7,4 @@ pub mod Input
 pub mod Faults
 pub mod Answer
 pub mod Run
+pub mod Stages

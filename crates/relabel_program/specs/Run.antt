@@ -1,5 +1,5 @@
 -- What a run of the command says and does, over any store, input and sink.
-use Rattle.std.specs.Prelude.{◌≡◌, ℕ, ◌≤◌, Bool, true, false, List, [], Option, Some, None, is_some, Result, Ok, Err, IsOk, IfErr, IfOk, IfSome, ◌⊎◌}
+use Rattle.std.specs.Prelude.{◌≡◌, ℕ, ◌≤◌, true, false, List, [], Option, Some, None, is_some, Result, Ok, Err, IsOk, IfErr, IfOk, IfSome, ◌⊎◌}
 use Rattle.std.specs.FinMap as map
 use Rattle.std.specs.Io.KnownBytes.{Appends}
 use Rattle.label_base.specs.Sink.{AppendsFront}
@@ -17,7 +17,6 @@ use Rattle.relabel_program.specs.Names.{names_in}
 use Rattle.relabel_program.specs.declared.cause.Cause.{Cause}
 use Rattle.relabel_program.specs.declared.cause.Cause.TheVariants as causes
 use Rattle.relabel_program.specs.declared.cause.Cause.TheVariants.{Done, WalkErrors, Differs, ReadFault, WriteFault, OutOfMemory}
-use Rattle.relabel_program.specs.declared.names.FileNames.{FileNames}
 use Rattle.relabel_program.specs.declared.policy.Policy.{Policy}
 use Rattle.relabel_program.specs.declared.told.Saved.{Saved}
 use Rattle.relabel_program.specs.declared.told.Told.{Told}

@@ -1,5 +1,5 @@
 -- A sample of a tree, walked twice.
-use Rattle.std.specs.Prelude.{ℕ, zero, suc, ◌+◌, Bool, true, false, List, [], ◌∷◌, ◌++◌, map, Option, Some, None, Result}
+use Rattle.std.specs.Prelude.{ℕ, zero, suc, ◌+◌, Bool, true, false, List, [], ◌∷◌, ◌++◌, map, Option, Some, None}
 use Rattle.std.specs.FinMap as map_of
 use Rattle.std.specs.Fmt.{decimal}
 use Rattle.label_base.specs.Bounded.{all_numbers}

@@ -3,8 +3,9 @@ ghost use Rattle.tool_words.specs.Words.{command_of, word_texts};
 ghost use Rattle.relabel_program.specs.Asked.{is_soft_in, paths_in};
 ghost use Rattle.relabel_program.specs.Causes.{words_cause};
 ghost use Rattle.relabel_program.specs.Faults.{fault_line, status_of};
-ghost use Rattle.relabel_program.specs.Names.{no_names};
+ghost use Rattle.relabel_program.specs.Names.{names_for, no_names};
 ghost use Rattle.relabel_program.specs.Run.{LineOrFront, Run};
+ghost use Rattle.relabel_program.specs.Stages.{FilesRead, Tells};
 ghost use Rattle.relabel_program.specs.declared.cause.Cause.TheVariants as causes;
 
 use crate::asked::is_soft;
@@ -13,12 +14,13 @@ use crate::ending::{finish, give_up, lose_dump, refuse};
 use crate::fault::status;
 use crate::input::read_entries;
 use crate::names::FileNames;
-use crate::policy::read_policy;
+use crate::policy::{Policy, read_policy};
 use crate::saving::save;
 use crate::told::tell_command;
 use label_base::{Fault, SaveFault, Sink, Source, Store};
 use std::alloc::Global;
 use tool_words::{Command, Usage, read_words};
+use tree_model::Tree;
 
 fn words_cause(fault: Fault<Usage>) -> Cause
     ensures { result ≡ words_cause fault }
@@ -32,7 +34,79 @@ fn words_cause(fault: Fault<Usage>) -> Cause
     }
 }
 
-// Runs a command. All texts are made before the first byte is written, and the dump is written first.
+// Tells what a command asks for, of the policy and the tree. All texts are made before the first byte is written, and
+// the dump is written first.
+fn tell<S: Store, O: Sink>(
+    alloc: Global,
+    command: &Command,
+    policy: &Policy,
+    tree: &Tree,
+    store: &mut S,
+    out: &mut O,
+) -> Cause
+    requires tree { length tree.now < 2 ^ 31 }
+    requires words { length (paths_in command.now) < 2 ^ 31 }
+    ensures { Tells S.files S.read_faults S.write_faults O.written O.faults command.now policy.now
+        tree.now store.old store.new out.old out.new result }
+{
+    let told = match tell_command(alloc, command, policy, tree) {
+        Ok(told) => told,
+        Err(_) => return give_up(out),
+    };
+    match save(alloc, &told, store) {
+        Ok(()) => finish(&told, out),
+        Err(SaveFault::Failed) => lose_dump(out),
+        Err(SaveFault::OutOfMemory) => give_up(out),
+    }
+}
+
+// Runs a command whose files were read and have this policy: reads the input, then tells.
+fn run_ruled<S: Store, I: Source, O: Sink>(
+    alloc: Global,
+    command: &Command,
+    names: &FileNames,
+    policy: &Policy,
+    store: &mut S,
+    input: &mut I,
+    out: &mut O,
+) -> Cause
+    requires words { length (paths_in command.now) < 2 ^ 31 }
+    requires names { names.now ≡ names_for command.now }
+    ensures { (before : S)
+        → FilesRead S.files S.read_faults S.write_faults command.now before store.old
+        (Ok policy.now)
+        → Run S.files S.read_faults S.write_faults I.left I.faults O.written O.faults
+        (Ok command.now) before store.new input.old input.new out.old out.new result }
+{
+    let tree = match read_entries(alloc, command, input) {
+        Ok(tree) => tree,
+        Err(refusal) => return refuse(alloc, names, refusal, out),
+    };
+    tell(alloc, command, policy, &tree, store, out)
+}
+
+// Runs a command whose files have these names: reads them before the input.
+fn run_named<S: Store, I: Source, O: Sink>(
+    alloc: Global,
+    command: &Command,
+    names: &FileNames,
+    store: &mut S,
+    input: &mut I,
+    out: &mut O,
+) -> Cause
+    requires words { length (paths_in command.now) < 2 ^ 31 }
+    requires names { names.now ≡ names_for command.now }
+    ensures { Run S.files S.read_faults S.write_faults I.left I.faults O.written O.faults
+        (Ok command.now) store.old store.new input.old input.new out.old out.new result }
+{
+    let policy = match read_policy(alloc, command, names, store) {
+        Ok(policy) => policy,
+        Err(refusal) => return refuse(alloc, names, refusal, out),
+    };
+    run_ruled(alloc, command, names, &policy, store, input, out)
+}
+
+// Runs a command. Each function from here inwards owns one value: together, their ways were too many for one proof.
 fn run<S: Store, I: Source, O: Sink>(
     alloc: Global,
     command: &Command,
@@ -48,23 +122,7 @@ fn run<S: Store, I: Source, O: Sink>(
         Ok(names) => names,
         Err(_) => return give_up(out),
     };
-    let policy = match read_policy(alloc, command, &names, store) {
-        Ok(policy) => policy,
-        Err(refusal) => return refuse(alloc, &names, refusal, out),
-    };
-    let tree = match read_entries(alloc, command, input) {
-        Ok(tree) => tree,
-        Err(refusal) => return refuse(alloc, &names, refusal, out),
-    };
-    let told = match tell_command(alloc, command, &policy, &tree) {
-        Ok(told) => told,
-        Err(_) => return give_up(out),
-    };
-    match save(alloc, &told, store) {
-        Ok(()) => finish(&told, out),
-        Err(SaveFault::Failed) => lose_dump(out),
-        Err(SaveFault::OutOfMemory) => give_up(out),
-    }
+    run_named(alloc, command, &names, store, input, out)
 }
 
 fn refuse_words<O: Sink>(alloc: Global, fault: Fault<Usage>, out: &mut O) -> Cause
