@@ -8,7 +8,10 @@ use Rattle.pattern_match.specs.Residuals.{residuals, is_some_list}
 use Rattle.pattern_match.specs.Automaton.{automaton, all_places}
 use Rattle.pattern_match.specs.States.{bit, is_bare, AreMarks, IsMarked, AreMarksBy, IsBehindBy, AreMarksOf, IsBehind, IsRead}
 use Rattle.pattern_match.specs.Onwards.{AreTextBytes}
+use Rattle.pattern_syntax.specs.Nodes.{tree_of}
+use Rattle.pattern_match.specs.Compiled.{IsCompiled}
 use Rattle.pattern_match.specs.Tables.{AreTables}
+use Rattle.pattern_match.specs.declared.machine.Machine.TheInside.{Inside}
 use Rattle.pattern_match.specs.declared.class.Class.{Class}
 use Rattle.pattern_match.proofs.Language.{and_first, and_second, empty_in}
 use Rattle.pattern_match.proofs.Onwards.{LeadsOnward, onward_left}
@@ -51,6 +54,11 @@ pub record IsReady (t : Tree) (bare : Bool) (rows width : ℕ) (follow accept : 
   pub none : bare ≡ true → width ≡ 0
   pub rows_are : bare ≡ false → rows ≡ length (all_places (automaton t))
   pub tables : bare ≡ false → AreTables width follow accept classes (all_places (automaton t))
+
+-- what a machine keeps, as its pattern's
+pub ready_by : (m : Inside) (t : Tree) → tree_of m.nodes.items ≡ t → IsCompiled m → IsReady t m.is_bare m.rows m.width m.follow.items m.accept.items m.classes.items
+ready_by m t is kept = subst (λ u. IsReady u m.is_bare m.rows m.width m.follow.items m.accept.items m.classes.items) is
+    (record { bare_is = kept.bare; none = kept.none; rows_are = kept.rows; tables = kept.tables })
 
 module _ (t : Tree) (bare : Bool) (rows width : ℕ) (follow accept : List ℕ) (classes : List Class) (r : IsReady t bare rows width follow accept classes) where
   pub machine : bare ≡ false → IsMachine t rows width follow accept classes

@@ -1,16 +1,13 @@
 use Rattle.std.proofs.Common.{◌∙◌, subst, ◌<◌, ◌*◌}
-use Rattle.pattern_syntax.specs.Tree.{Tree}
-use Rattle.pattern_match.proofs.Ready.{IsReady, restart_made, restart_starts, as_wide}
+use Rattle.pattern_match.proofs.Ready.{ready_by, restart_made, restart_starts, as_wide}
 use Rattle.pattern_match.proofs.machine.Machine.restart.Goals as goal
 
 pub returns-clause-made : goal.returns-clause-made
 returns-clause-made c =
-    let P : Tree → Type 0 = λ t. IsReady t c.self.inside.is_bare c.self.inside.rows c.self.inside.width c.self.inside.follow.items c.self.inside.accept.items c.self.inside.classes.items in
-    let r : IsReady c.args.self.now c.self.inside.is_bare c.self.inside.rows c.self.inside.width c.self.inside.follow.items c.self.inside.accept.items c.self.inside.classes.items = subst P c.self.view_is (record { bare_is = c.self.invariant.bare; none = c.self.invariant.none; rows_are = c.self.invariant.rows; tables = c.self.invariant.tables }) in
+    let r = ready_by c.self.inside c.args.self.now c.self.view_is c.self.invariant in
     restart_made c.args.self.now c.self.inside.is_bare c.self.inside.rows c.self.inside.width c.self.inside.follow.items c.self.inside.accept.items c.self.inside.classes.items r c.restart.new.self (c.restart.ensures.words ∙ as_wide c.args.self.now c.self.inside.is_bare c.self.inside.rows c.self.inside.width c.self.inside.follow.items c.self.inside.accept.items c.self.inside.classes.items r c.args.marks.now c.requires) (λ k l. c.restart.ensures.bits k (subst (λ n. k < 64 * n) c.restart.ensures.words l))
 
 pub returns-clause-starts : goal.returns-clause-starts
 returns-clause-starts c =
-    let P : Tree → Type 0 = λ t. IsReady t c.self.inside.is_bare c.self.inside.rows c.self.inside.width c.self.inside.follow.items c.self.inside.accept.items c.self.inside.classes.items in
-    let r : IsReady c.args.self.now c.self.inside.is_bare c.self.inside.rows c.self.inside.width c.self.inside.follow.items c.self.inside.accept.items c.self.inside.classes.items = subst P c.self.view_is (record { bare_is = c.self.invariant.bare; none = c.self.invariant.none; rows_are = c.self.invariant.rows; tables = c.self.invariant.tables }) in
+    let r = ready_by c.self.inside c.args.self.now c.self.view_is c.self.invariant in
     restart_starts c.args.self.now c.self.inside.is_bare c.self.inside.rows c.self.inside.width c.self.inside.follow.items c.self.inside.accept.items c.self.inside.classes.items r c.restart.new.self (c.restart.ensures.words ∙ as_wide c.args.self.now c.self.inside.is_bare c.self.inside.rows c.self.inside.width c.self.inside.follow.items c.self.inside.accept.items c.self.inside.classes.items r c.args.marks.now c.requires) (λ k l. c.restart.ensures.bits k (subst (λ n. k < 64 * n) c.restart.ensures.words l))

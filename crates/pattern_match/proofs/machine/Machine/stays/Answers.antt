@@ -1,14 +1,12 @@
-use Rattle.std.proofs.Common.{◌≡◌, ◌∙◌, subst, sym, false}
-use Rattle.pattern_syntax.specs.Tree.{Tree}
+use Rattle.std.proofs.Common.{◌≡◌, ◌∙◌, sym, false}
 use Rattle.pattern_match.specs.States.{is_bare}
 use Rattle.pattern_match.proofs.RunTables.{rows_at, stays_at}
-use Rattle.pattern_match.proofs.Ready.{IsReady, machine, some_marks, step_behind}
+use Rattle.pattern_match.proofs.Ready.{ready_by, machine, some_marks, step_behind}
 use Rattle.pattern_match.proofs.machine.Machine.stays.Goals as goal
 
 pub are_steady-requires : goal.are_steady-requires
 are_steady-requires c =
-    let P : Tree → Type 0 = λ t. IsReady t c.self.inside.is_bare c.self.inside.rows c.self.inside.width c.self.inside.follow.items c.self.inside.accept.items c.self.inside.classes.items in
-    let r : IsReady c.args.self.now c.self.inside.is_bare c.self.inside.rows c.self.inside.width c.self.inside.follow.items c.self.inside.accept.items c.self.inside.classes.items = subst P c.self.view_is (record { bare_is = c.self.invariant.bare; none = c.self.invariant.none; rows_are = c.self.invariant.rows; tables = c.self.invariant.tables }) in
+    let r = ready_by c.self.inside c.args.self.now c.self.view_is c.self.invariant in
     let e : c.self.inside.is_bare ≡ false = c.if-self.false in
     let m = machine c.args.self.now c.self.inside.is_bare c.self.inside.rows c.self.inside.width c.self.inside.follow.items c.self.inside.accept.items c.self.inside.classes.items r e in
     let b : is_bare c.args.self.now ≡ false = sym r.bare_is ∙ e in
@@ -17,8 +15,7 @@ are_steady-requires c =
 
 pub returns : goal.returns
 returns c =
-    let P : Tree → Type 0 = λ t. IsReady t c.self.inside.is_bare c.self.inside.rows c.self.inside.width c.self.inside.follow.items c.self.inside.accept.items c.self.inside.classes.items in
-    let r : IsReady c.args.self.now c.self.inside.is_bare c.self.inside.rows c.self.inside.width c.self.inside.follow.items c.self.inside.accept.items c.self.inside.classes.items = subst P c.self.view_is (record { bare_is = c.self.invariant.bare; none = c.self.invariant.none; rows_are = c.self.invariant.rows; tables = c.self.invariant.tables }) in
+    let r = ready_by c.self.inside c.args.self.now c.self.view_is c.self.invariant in
     let e : c.self.inside.is_bare ≡ false = c.if-self.false in
     let m = machine c.args.self.now c.self.inside.is_bare c.self.inside.rows c.self.inside.width c.self.inside.follow.items c.self.inside.accept.items c.self.inside.classes.items r e in
     let b : is_bare c.args.self.now ≡ false = sym r.bare_is ∙ e in

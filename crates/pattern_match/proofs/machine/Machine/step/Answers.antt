@@ -1,13 +1,11 @@
-use Rattle.std.proofs.Common.{◌≡◌, ◌∙◌, ap, subst, arith, length, List, ℕ, false}
-use Rattle.pattern_syntax.specs.Tree.{Tree}
+use Rattle.std.proofs.Common.{◌≡◌, ◌∙◌, ap, arith, length, List, ℕ, false}
 use Rattle.pattern_match.proofs.RunTables.{marked_in, room, step_at}
-use Rattle.pattern_match.proofs.Ready.{IsReady, machine, some_marks, step_made, step_behind}
+use Rattle.pattern_match.proofs.Ready.{ready_by, machine, some_marks, step_made, step_behind}
 use Rattle.pattern_match.proofs.machine.Machine.step.Goals as goal
 
 pub step-requires-clause-rows : goal.step-requires-clause-rows
 step-requires-clause-rows c =
-    let P : Tree → Type 0 = λ t. IsReady t c.self.inside.is_bare c.self.inside.rows c.self.inside.width c.self.inside.follow.items c.self.inside.accept.items c.self.inside.classes.items in
-    let r : IsReady c.args.self.now c.self.inside.is_bare c.self.inside.rows c.self.inside.width c.self.inside.follow.items c.self.inside.accept.items c.self.inside.classes.items = subst P c.self.view_is (record { bare_is = c.self.invariant.bare; none = c.self.invariant.none; rows_are = c.self.invariant.rows; tables = c.self.invariant.tables }) in
+    let r = ready_by c.self.inside c.args.self.now c.self.view_is c.self.invariant in
     let e : c.self.inside.is_bare ≡ false = r.bare_is ∙ c.requires.some in
     let m = machine c.args.self.now c.self.inside.is_bare c.self.inside.rows c.self.inside.width c.self.inside.follow.items c.self.inside.accept.items c.self.inside.classes.items r e in
     let a = some_marks c.args.self.now c.args.marks.now c.requires.some c.requires.made in
@@ -16,8 +14,7 @@ step-requires-clause-rows c =
 
 pub step-requires-clause-room : goal.step-requires-clause-room
 step-requires-clause-room c =
-    let P : Tree → Type 0 = λ t. IsReady t c.self.inside.is_bare c.self.inside.rows c.self.inside.width c.self.inside.follow.items c.self.inside.accept.items c.self.inside.classes.items in
-    let r : IsReady c.args.self.now c.self.inside.is_bare c.self.inside.rows c.self.inside.width c.self.inside.follow.items c.self.inside.accept.items c.self.inside.classes.items = subst P c.self.view_is (record { bare_is = c.self.invariant.bare; none = c.self.invariant.none; rows_are = c.self.invariant.rows; tables = c.self.invariant.tables }) in
+    let r = ready_by c.self.inside c.args.self.now c.self.view_is c.self.invariant in
     let e : c.self.inside.is_bare ≡ false = r.bare_is ∙ c.requires.some in
     let m = machine c.args.self.now c.self.inside.is_bare c.self.inside.rows c.self.inside.width c.self.inside.follow.items c.self.inside.accept.items c.self.inside.classes.items r e in
     let a = some_marks c.args.self.now c.args.marks.now c.requires.some c.requires.made in
@@ -26,8 +23,7 @@ step-requires-clause-room c =
 
 pub returns-clause-made : goal.returns-clause-made
 returns-clause-made c =
-    let P : Tree → Type 0 = λ t. IsReady t c.self.inside.is_bare c.self.inside.rows c.self.inside.width c.self.inside.follow.items c.self.inside.accept.items c.self.inside.classes.items in
-    let r : IsReady c.args.self.now c.self.inside.is_bare c.self.inside.rows c.self.inside.width c.self.inside.follow.items c.self.inside.accept.items c.self.inside.classes.items = subst P c.self.view_is (record { bare_is = c.self.invariant.bare; none = c.self.invariant.none; rows_are = c.self.invariant.rows; tables = c.self.invariant.tables }) in
+    let r = ready_by c.self.inside c.args.self.now c.self.view_is c.self.invariant in
     let e : c.self.inside.is_bare ≡ false = r.bare_is ∙ c.requires.some in
     let m = machine c.args.self.now c.self.inside.is_bare c.self.inside.rows c.self.inside.width c.self.inside.follow.items c.self.inside.accept.items c.self.inside.classes.items r e in
     let a = some_marks c.args.self.now c.args.marks.now c.requires.some c.requires.made in
@@ -35,8 +31,7 @@ returns-clause-made c =
 
 pub returns-clause-behind : goal.returns-clause-behind
 returns-clause-behind c =
-    let P : Tree → Type 0 = λ t. IsReady t c.self.inside.is_bare c.self.inside.rows c.self.inside.width c.self.inside.follow.items c.self.inside.accept.items c.self.inside.classes.items in
-    let r : IsReady c.args.self.now c.self.inside.is_bare c.self.inside.rows c.self.inside.width c.self.inside.follow.items c.self.inside.accept.items c.self.inside.classes.items = subst P c.self.view_is (record { bare_is = c.self.invariant.bare; none = c.self.invariant.none; rows_are = c.self.invariant.rows; tables = c.self.invariant.tables }) in
+    let r = ready_by c.self.inside c.args.self.now c.self.view_is c.self.invariant in
     let e : c.self.inside.is_bare ≡ false = r.bare_is ∙ c.requires.some in
     let m = machine c.args.self.now c.self.inside.is_bare c.self.inside.rows c.self.inside.width c.self.inside.follow.items c.self.inside.accept.items c.self.inside.classes.items r e in
     let a = some_marks c.args.self.now c.args.marks.now c.requires.some c.requires.made in

@@ -1,14 +1,12 @@
-use Rattle.std.proofs.Common.{◌≡◌, ◌∙◌, subst, sym, false}
-use Rattle.pattern_syntax.specs.Tree.{Tree}
+use Rattle.std.proofs.Common.{◌≡◌, ◌∙◌, sym, false}
 use Rattle.pattern_match.specs.States.{is_bare}
 use Rattle.pattern_match.proofs.RunTables.{accept_at, ended_rows_at, loop_at}
-use Rattle.pattern_match.proofs.Ready.{IsReady, machine, some_marks, all_behind}
+use Rattle.pattern_match.proofs.Ready.{ready_by, machine, some_marks, all_behind}
 use Rattle.pattern_match.proofs.machine.Machine.takes_all.Goals as goal
 
 pub has_loop-requires-clause-accept : goal.has_loop-requires-clause-accept
 has_loop-requires-clause-accept c =
-    let P : Tree → Type 0 = λ t. IsReady t c.self.inside.is_bare c.self.inside.rows c.self.inside.width c.self.inside.follow.items c.self.inside.accept.items c.self.inside.classes.items in
-    let r : IsReady c.args.self.now c.self.inside.is_bare c.self.inside.rows c.self.inside.width c.self.inside.follow.items c.self.inside.accept.items c.self.inside.classes.items = subst P c.self.view_is (record { bare_is = c.self.invariant.bare; none = c.self.invariant.none; rows_are = c.self.invariant.rows; tables = c.self.invariant.tables }) in
+    let r = ready_by c.self.inside c.args.self.now c.self.view_is c.self.invariant in
     let e : c.self.inside.is_bare ≡ false = c.if-self.false in
     let m = machine c.args.self.now c.self.inside.is_bare c.self.inside.rows c.self.inside.width c.self.inside.follow.items c.self.inside.accept.items c.self.inside.classes.items r e in
     let b : is_bare c.args.self.now ≡ false = sym r.bare_is ∙ e in
@@ -17,16 +15,14 @@ has_loop-requires-clause-accept c =
 
 pub has_loop-requires-clause-rows : goal.has_loop-requires-clause-rows
 has_loop-requires-clause-rows c =
-    let P : Tree → Type 0 = λ t. IsReady t c.self.inside.is_bare c.self.inside.rows c.self.inside.width c.self.inside.follow.items c.self.inside.accept.items c.self.inside.classes.items in
-    let r : IsReady c.args.self.now c.self.inside.is_bare c.self.inside.rows c.self.inside.width c.self.inside.follow.items c.self.inside.accept.items c.self.inside.classes.items = subst P c.self.view_is (record { bare_is = c.self.invariant.bare; none = c.self.invariant.none; rows_are = c.self.invariant.rows; tables = c.self.invariant.tables }) in
+    let r = ready_by c.self.inside c.args.self.now c.self.view_is c.self.invariant in
     let e : c.self.inside.is_bare ≡ false = c.if-self.false in
     let m = machine c.args.self.now c.self.inside.is_bare c.self.inside.rows c.self.inside.width c.self.inside.follow.items c.self.inside.accept.items c.self.inside.classes.items r e in
     ended_rows_at c.args.self.now c.self.inside.rows c.self.inside.width c.self.inside.follow.items c.self.inside.accept.items c.self.inside.classes.items m c.as_slice-2.result.now c.as_slice-3.result.now c.as_slice-2.ensures.value c.as_slice-3.ensures.value
 
 pub returns : goal.returns
 returns c =
-    let P : Tree → Type 0 = λ t. IsReady t c.self.inside.is_bare c.self.inside.rows c.self.inside.width c.self.inside.follow.items c.self.inside.accept.items c.self.inside.classes.items in
-    let r : IsReady c.args.self.now c.self.inside.is_bare c.self.inside.rows c.self.inside.width c.self.inside.follow.items c.self.inside.accept.items c.self.inside.classes.items = subst P c.self.view_is (record { bare_is = c.self.invariant.bare; none = c.self.invariant.none; rows_are = c.self.invariant.rows; tables = c.self.invariant.tables }) in
+    let r = ready_by c.self.inside c.args.self.now c.self.view_is c.self.invariant in
     let e : c.self.inside.is_bare ≡ false = c.if-self.false in
     let m = machine c.args.self.now c.self.inside.is_bare c.self.inside.rows c.self.inside.width c.self.inside.follow.items c.self.inside.accept.items c.self.inside.classes.items r e in
     let b : is_bare c.args.self.now ≡ false = sym r.bare_is ∙ e in
