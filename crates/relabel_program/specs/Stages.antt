@@ -33,9 +33,9 @@ pub record InputRead {I : Type 0} (left : I → Option (List ℕ)) (faults : I �
   pub untouched : takes_records command ≡ false → input_now ≡ input
   pub counts : Counts (faults input) (faults input_now) result
 
--- What telling leaves, of the policy and the entries that were read. It has four ends: no memory for
--- the texts, with the store as it was; the dump saved, where one is asked for, and the report written
--- whole or a front of it; a failed write of the dump; and no memory to write it.
+-- What telling leaves, of the policy and the entries that were read. It has four ends: no memory
+-- for the texts, with the store as it was; the dump saved, where one is asked for, and the report
+-- written whole or a front of it; a failed write of the dump; and no memory to write it.
 pub data Tells {S O : Type 0} (files : S → Option Files) (read_faults write_faults : S → ℕ)
     (written : O → Option (List ℕ)) (out_faults : O → ℕ) (command : Command) (found : Policy)
     (entries : List Record) (store store_now : S) (out out_now : O) (cause : Cause)
