@@ -21,11 +21,11 @@ use Rattle.find_records.specs.Record.{Record}
 use Rattle.tree_model.specs.Extents.{entry_at, in_extent, is_directory}
 use Rattle.tree_model.specs.Groups.{group_of, label_in}
 use Rattle.tree_model.specs.Selection.{whole_at}
+use Rattle.tree_model.specs.declared.options.Options.{Options}
 use Rattle.report_text.specs.Message.{MessageValue, Relabel, Customized, Conflict, NoDefault, Skipped, Absent, NoMatches}
 use Rattle.relabel_core.specs.Decide as verdicts
 use Rattle.relabel_core.specs.Decide.{VerdictValue, label_by, verdict_for}
 use Rattle.relabel_core.specs.declared.digests.TheConstants.{VOID_DIGEST}
-use Rattle.relabel_core.specs.declared.options.Options.{Options}
 use Rattle.relabel_core.specs.declared.rules.Rules.{Rules}
 
 -- the digest that is stored for each directory that has one

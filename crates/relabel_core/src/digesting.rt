@@ -7,12 +7,12 @@ ghost use Rattle.relabel_core.specs.Walk.{count, digest_now};
 ghost use Rattle.relabel_core.specs.Walked.{walk_of};
 
 use crate::input::WalkInput;
-use crate::options::Options;
 use crate::rules::Rules;
 use dir_digest::{Listings, Mode};
 use label_base::{Bytes, OutOfMemory};
 use spec_match::Scratch;
 use std::alloc::Global;
+use tree_model::Options;
 
 /// What the look-ups and the listings of a walk are made in, again and again.
 #[derive(Drop)]

@@ -11,13 +11,13 @@ ghost use Rattle.relabel_core.specs.Walked.{IsFit, walk_of};
 use crate::digesting::{Buffers, digest_of, listings_by};
 use crate::digests::VOID_DIGEST;
 use crate::input::WalkInput;
-use crate::options::Options;
 use crate::passed::{Passed, Skip};
 use crate::stored::is_directory;
 use dir_digest::Listings;
 use label_base::OutOfMemory;
 use std::alloc::Global;
 use std::collections::BTreeMap;
+use tree_model::Options;
 
 fn skips(options: &Options) -> bool
     ensures { result ≡ (options.now.digests && not options.now.ignore_digests) }

@@ -1,5 +1,9 @@
-pub mod EntryCounts
+pub mod Completeness
+pub mod FilesLemmas
+pub mod MemoryRuns
+pub mod PartLemmas
 pub mod PolicyLemmas
-pub mod RunLemmas
+pub mod RefusedRuns
 pub mod SampleLemmas
-pub mod WordLemmas
+pub mod WordRuns
+pub mod WrittenRuns

@@ -3,10 +3,10 @@ use Rattle.std.specs.Prelude.{ℕ, Result, Ok, Err, IfErr}
 use Rattle.std.proofs.Common.{ap}
 use Rattle.setfattr_dump.specs.declared.dump.Dump.{Dump}
 use Rattle.relabel_core.specs.declared.rules.Rules.{Rules}
-use Rattle.relabel_program.specs.Causes.{Counts, Explained, Gives, IsFileCause}
+use Rattle.run_faults.specs.Causes.{Counts, Explained, Gives, IsFileCause}
 use Rattle.relabel_program.specs.Files.{with_kept}
-use Rattle.relabel_program.specs.declared.cause.Cause.{Cause}
-use Rattle.relabel_program.specs.declared.cause.Cause.TheVariants.{ReadFault, OutOfMemory}
+use Rattle.run_faults.specs.declared.cause.Cause.{Cause}
+use Rattle.run_faults.specs.declared.cause.Cause.TheVariants.{ReadFault, OutOfMemory}
 
 kept_explained : (rules : Rules) (meant : Result Dump Cause) (cause : Cause) → Explained meant cause
     → Explained (with_kept rules meant) cause

@@ -1,6 +1,6 @@
--- Samples: readers that never fail, counts of lines, and what one walk leaves to the next.
-use Rattle.std.proofs.Common.{◌≡◌, ◌∙◌, ap, sym, refl, ℕ, ◌+◌, Bool, false, cond, List, [], ◌∷◌, ◌++◌, length, map, get_or, add-one, arith, inl, inr}
-use Rattle.std.specs.Prelude.{◌&&◌, ◌||◌, Option, Some, None, Result, Ok, Err, is_some}
+-- Samples: counts of lines, and what one walk leaves to the next.
+use Rattle.std.proofs.Common.{◌≡◌, ◌∙◌, ap, sym, ℕ, ◌+◌, Bool, false, cond, List, [], ◌∷◌, ◌++◌, length, map, get_or, add-one, arith, inl, inr}
+use Rattle.std.specs.Prelude.{◌&&◌, ◌||◌, Option, Some, None, is_some}
 use Rattle.std.proofs.lemmas.Bool.{cases_lt}
 use Rattle.std.proofs.lemmas.List.{length-map, map-append}
 use Rattle.std.proofs.Math.ListN.{get_or-eq_default}
@@ -15,21 +15,12 @@ use Rattle.tree_model.specs.Selection.{whole_at}
 use Rattle.tree_model.proofs.LabelledLemmas.{mapped_at}
 use Rattle.relabel_core.specs.DigestAfter.{digest_told}
 use Rattle.relabel_core.specs.Stored.{digests_listed, no_digests}
-use Rattle.relabel_core.specs.Walk.{StoredDigests, Walk, count, digest_after, digest_now, digests, has_changed_name, is_outdated, is_renewed, line, new_label, one_if, walked}
+use Rattle.relabel_core.specs.Walk.{Walk, count, digest_after, digest_now, digests, has_changed_name, is_outdated, is_renewed, line, new_label, one_if, walked}
 use Rattle.relabel_core.specs.declared.digest_after.DigestAfter.{DigestAfter}
 use Rattle.relabel_core.specs.declared.digests.TheConstants.{VOID_DIGEST}
-use Rattle.relabel_program.specs.Causes.{Counts}
 use Rattle.relabel_program.specs.Sample.{has_line_of, labels_after, lines_below, sample_walk, walk_after}
-use Rattle.relabel_program.specs.declared.cause.Cause.{Cause}
-use Rattle.relabel_program.specs.declared.cause.Cause.TheVariants.{ReadFault}
 use Rattle.relabel_program.specs.declared.policy.Policy.{Policy}
 use Rattle.relabel_program.specs.declared.sample.LineKind.{LineKind}
-
--- a reader of what never fails raises no count
-pub calm_counts : {V : Type 0} (r : Result V Cause) (n : ℕ) → Counts 0 0 r → Counts n n r
-calm_counts (Ok v) n h = refl
-calm_counts (Err ReadFault) n h = absurd (omega (arith, h.1))
-calm_counts (Err cause) n h = refl
 
 -- one entry more
 pub one_more_line : (kind : LineKind) (w : Walk) (e lines more : ℕ) → lines ≡ lines_below kind w e → more ≡ one_if (has_line_of kind (line w e)) → lines + more ≡ lines_below kind w (e + 1)
@@ -65,27 +56,25 @@ not_renewed : (w : Walk) (e : ℕ) → is_directory w.entries e ≡ false → is
 unfolding is_renewed
 not_renewed w e none = third_false (w.options.digests || w.options.ignore_digests) (walked w e) (is_directory w.entries e) (whole_at w.entries w.live e) none
 
-pub only_directories : (w : Walk) (tree next : List Record) → w.entries ≡ tree → w.stored ≡ no_digests → DifferInLabels tree next → (row : List (Option (List ℕ))) → row ≡ digests w → (e : ℕ) → is_directory next e ≡ false → get_or row e None ≡ None
-only_directories w tree next own none same row is e other =
-    let here : is_directory w.entries e ≡ false = ap (λ es. is_directory es e) own ∙ sym (same.directories e) ∙ other in
+pub only_directories : (w : Walk) (next : List Record) → w.stored ≡ no_digests → DifferInLabels w.entries next → (row : List (Option (List ℕ))) → row ≡ digests w → (e : ℕ) → is_directory next e ≡ false → get_or row e None ≡ None
+only_directories w next none same row is e other =
+    let here : is_directory w.entries e ≡ false = sym (same.directories e) ∙ other in
     ap (λ r. get_or r e None) is
     ∙ elim (cases_lt e (count w)) as (λ _. get_or (digests w) e None ≡ None) [
       | inl lt ↦ mapped_at (digest_after w) (count w) e None lt ∙ none_at w e (ap (λ s. s e) none) (not_renewed w e here)
       | inr ge ↦ get_or-eq_default (digests w) None {n = e} (omega (arith, ge, length-map (all_numbers (count w)) (digest_after w), count_numbers (count w)))
     ]
 
-pub each_digest : (w : Walk) (tree next : List Record) (row : List (Option (List ℕ))) → w.entries ≡ tree → DifferInLabels tree next → row ≡ digests w → length row ≡ length next
-each_digest w tree next row own same is =
-    ap length is ∙ length-map (all_numbers (count w)) (digest_after w) ∙ count_numbers (count w) ∙ ap length own ∙ sym same.count
+pub each_digest : (w : Walk) (next : List Record) (row : List (Option (List ℕ))) → DifferInLabels w.entries next → row ≡ digests w → length row ≡ length next
+each_digest w next row same is =
+    ap length is ∙ length-map (all_numbers (count w)) (digest_after w) ∙ count_numbers (count w) ∙ sym same.count
 
 pub each_label : (w : Walk) (tree : List Record) (labels : List Label) → w.entries ≡ tree → labels ≡ labels_after w → length labels ≡ groups_in tree
 each_label w tree labels own is =
     ap length is ∙ length-map (all_numbers (groups_in w.entries)) (new_label w) ∙ count_numbers (groups_in w.entries) ∙ ap groups_in own
 
-pub after_is : (policy : Policy) (w : Walk) (tree next : List Record) (labels : List Label) (row : List (Option (List ℕ))) (stored : StoredDigests) → w.entries ≡ tree → labels ≡ labels_after w → next ≡ labelled labels tree
-    → row ≡ digests w → stored ≡ digests_listed row → sample_walk policy next stored ≡ walk_after policy w
+pub after_is : (policy : Policy) (w : Walk) (tree next : List Record) → w.entries ≡ tree → next ≡ labelled (labels_after w) tree
+    → sample_walk policy next (digests_listed (digests w)) ≡ walk_after policy w
 unfolding walk_after
-after_is policy w tree next labels row stored own labels_are next_is row_is stored_is =
-    let entries : next ≡ labelled (labels_after w) w.entries = next_is ∙ ap (λ ls. labelled ls tree) labels_are ∙ ap (labelled (labels_after w)) (sym own) in
-    let digests_are : stored ≡ digests_listed (digests w) = stored_is ∙ ap digests_listed row_is in
-    λ i. sample_walk policy (entries i) (digests_are i)
+after_is policy w tree next own next_is =
+    ap (λ entries. sample_walk policy entries (digests_listed (digests w))) (next_is ∙ ap (labelled (labels_after w)) (sym own))

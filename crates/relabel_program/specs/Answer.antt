@@ -15,12 +15,12 @@ use Rattle.tool_words.specs.declared.command.Command.TheVariants.{Relabel, Looku
 use Rattle.tool_words.specs.declared.command.LookupWords.{LookupWords}
 use Rattle.tool_words.specs.declared.command.RelabelWords.{RelabelWords}
 use Rattle.tool_words.specs.declared.usage.Usage.{Usage}
-use Rattle.relabel_program.specs.Causes.{and_then}
+use Rattle.run_faults.specs.Causes.{and_then}
 use Rattle.relabel_program.specs.Files.{policy}
-use Rattle.relabel_program.specs.Input.{entries_for}
+use Rattle.run_faults.specs.Input.{entries_for}
 use Rattle.relabel_program.specs.Sample.{told_by_sample}
-use Rattle.relabel_program.specs.declared.cause.Cause.{Cause}
-use Rattle.relabel_program.specs.declared.cause.Cause.TheVariants as causes
+use Rattle.run_faults.specs.declared.cause.Cause.{Cause}
+use Rattle.run_faults.specs.declared.cause.Cause.TheVariants as causes
 use Rattle.relabel_program.specs.declared.policy.Policy.{Policy}
 use Rattle.relabel_program.specs.declared.told.End.{End}
 use Rattle.relabel_program.specs.declared.told.End.TheVariants.{Done, WalkErrors, Differs}

@@ -1,5 +1,5 @@
 -- The files of a policy, and the rules that they give.
-use Rattle.std.specs.Prelude.{ℕ, ◌-◌, nat_lt, List, [], ◌++◌, length, Option, Some, None, Result, Ok, Err, if◌then◌else◌}
+use Rattle.std.specs.Prelude.{◌≡◌, ℕ, ◌-◌, nat_lt, List, [], ◌++◌, length, Option, Some, None, Result, Ok, Err, IfErr, IfSome, if◌then◌else◌}
 use Rattle.label_base.specs.Store.{Files, content}
 use Rattle.label_base.specs.declared.kind.Part.{Part}
 use Rattle.label_base.specs.declared.lines.LinesWhy.{LinesWhy}
@@ -15,6 +15,7 @@ use Rattle.spec_order.specs.Order.{in_order}
 use Rattle.path_subs.specs.Subs.{SubValue}
 use Rattle.path_subs.specs.SubLines.{subs_of}
 use Rattle.path_subs.specs.declared.sub_fault.NoSub.{NoSub}
+use Rattle.path_subs.specs.declared.subs.Subs as both
 use Rattle.relabel_core.specs.declared.rules.Rules.{Rules}
 use Rattle.setfattr_dump.specs.Reading.{dump_read}
 use Rattle.setfattr_dump.specs.declared.dump.Dump.{Dump}
@@ -22,16 +23,26 @@ use Rattle.setfattr_dump.specs.declared.dump.Section.{Section}
 use Rattle.setfattr_dump.specs.declared.fault.DumpWhy.{DumpWhy}
 use Rattle.tool_words.specs.declared.command.Command.{Command}
 use Rattle.tool_words.specs.declared.command.Command.TheVariants.{Relabel, Lookup, Sample}
-use Rattle.relabel_program.specs.Asked.{asks_kept}
-use Rattle.relabel_program.specs.Causes.{and_then}
-use Rattle.relabel_program.specs.Names.{name_of, names_for}
+use Rattle.run_faults.specs.Asked.{asks_kept}
+use Rattle.run_faults.specs.Causes.{Counts, Gives, IsFileCause, and_then}
+use Rattle.run_faults.specs.Names.{name_of, names_for}
 use Rattle.relabel_program.specs.Sample.{sample_files, sample_words}
-use Rattle.relabel_program.specs.declared.cause.Cause.{Cause}
-use Rattle.relabel_program.specs.declared.cause.Cause.TheVariants.{Missing, SpecRefused, SubRefused, CustomRefused, DumpRefused, Limit}
-use Rattle.relabel_program.specs.declared.cause.LimitKind.TheVariants.{File, Specs}
+use Rattle.run_faults.specs.declared.cause.Cause.{Cause}
+use Rattle.run_faults.specs.declared.cause.Cause.TheVariants.{Missing, SpecRefused, SubRefused, CustomRefused, DumpRefused, Limit}
+use Rattle.run_faults.specs.declared.cause.LimitKind.TheVariants.{File, Specs}
 use Rattle.relabel_program.specs.declared.files.TheConstants.{MOST_BYTES, MOST_KEPT_BYTES, MOST_SPEC_BYTES, MOST_SPECS}
-use Rattle.relabel_program.specs.declared.names.FileNames.{FileNames}
+use Rattle.run_faults.specs.declared.names.FileNames.{FileNames}
 use Rattle.relabel_program.specs.declared.policy.Policy.{Policy}
+
+-- what is left by reading a part of the files, and what it answers
+pub record Reads {S V : Type 0} (files : S → Option Files) (read_faults write_faults : S → ℕ)
+    (meant : Files → Result V Cause) (store store_now : S) (result : Result V Cause)
+    : Type 0 where
+  pub same : files store_now ≡ files store
+  pub unwritten : write_faults store_now ≡ write_faults store
+  pub gives : IfSome (files store) (λ told. Gives (meant told) result)
+  pub counts : Counts (read_faults store) (read_faults store_now) result
+  pub kinds : IfErr result IsFileCause
 
 -- the greatest number of bytes of a file
 abbrev pub most_bytes : Part → ℕ
@@ -119,6 +130,20 @@ rules_for command files =
     and_then (part_subs (names_for command) SubsDist files) (λ second.
     and_then (types_for command files) (λ types.
     Ok (rules_with list first second types)))))
+
+-- both lists of substitutions
+unfoldable pub subs_for : FileNames → Files → Result both.Subs Cause
+subs_for names files =
+    and_then (part_subs names Subs files) (λ first.
+    and_then (part_subs names SubsDist files) (λ second.
+    Ok (record { first = first; second = second })))
+
+-- what is read behind the specifications
+unfoldable pub rest_for : Command → Files → Result (both.Subs × NameSet) Cause
+rest_for command files =
+    and_then (subs_for (names_for command) files) (λ subs.
+    and_then (types_for command files) (λ types.
+    Ok (subs, types)))
 
 abbrev pub dump_from : Result (List Section) (RefusedLine DumpWhy) → Result Dump Cause
 dump_from (Ok sections) = Ok (record { sections = sections })

@@ -1,10 +1,5 @@
-pub mod Asked
-pub mod Names
-pub mod Causes
 pub mod Sample
 pub mod Files
-pub mod Input
-pub mod Faults
 pub mod Answer
 pub mod Run
 pub mod Stages

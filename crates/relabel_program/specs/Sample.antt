@@ -8,12 +8,12 @@ use Rattle.context_syntax.specs.declared.label.Label.{Label}
 use Rattle.find_records.specs.Record.{Record}
 use Rattle.tree_model.specs.Groups.{groups_in}
 use Rattle.tree_model.specs.Labelled.{labelled}
+use Rattle.tree_model.specs.declared.options.Options.{Options}
 use Rattle.tree_model.specs.declared.selection.Choice.{Choice}
 use Rattle.report_text.specs.Message.{MessageValue, Relabel, Conflict, Skipped}
 use Rattle.relabel_core.specs.Stored.{digests_listed, no_digests}
 use Rattle.relabel_core.specs.Walk.{StoredDigests, Walk, count, digests, errors, line, new_label, one_if}
 use Rattle.relabel_core.specs.Walked.{walk_for}
-use Rattle.relabel_core.specs.declared.options.Options.{Options}
 use Rattle.sample_tree.specs.declared.records.TheConstants.{SPECS}
 use Rattle.tool_words.specs.declared.command.RelabelWords.{RelabelWords}
 use Rattle.relabel_program.specs.declared.policy.Policy.{Policy}

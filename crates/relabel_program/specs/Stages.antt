@@ -5,15 +5,15 @@ use Rattle.label_base.specs.declared.store.SaveFault.TheVariants as save
 use Rattle.find_records.specs.Record.{Record}
 use Rattle.tool_words.specs.declared.command.Command.{Command}
 use Rattle.relabel_program.specs.Answer.{told_by}
-use Rattle.relabel_program.specs.Asked.{input_for, takes_records}
-use Rattle.relabel_program.specs.Causes.{Counts, Gives}
-use Rattle.relabel_program.specs.Faults.{fault_line}
+use Rattle.run_faults.specs.Asked.{input_for, takes_records}
+use Rattle.run_faults.specs.Causes.{Counts, Gives}
+use Rattle.run_faults.specs.Faults.{fault_line}
 use Rattle.relabel_program.specs.Files.{policy}
-use Rattle.relabel_program.specs.Input.{entries_for}
-use Rattle.relabel_program.specs.Names.{names_for}
+use Rattle.run_faults.specs.Input.{entries_for}
+use Rattle.run_faults.specs.Names.{names_for}
 use Rattle.relabel_program.specs.Run.{LineOrFront, Saves, WritesReport}
-use Rattle.relabel_program.specs.declared.cause.Cause.{Cause}
-use Rattle.relabel_program.specs.declared.cause.Cause.TheVariants.{OutOfMemory, WriteFault}
+use Rattle.run_faults.specs.declared.cause.Cause.{Cause}
+use Rattle.run_faults.specs.declared.cause.Cause.TheVariants.{OutOfMemory, WriteFault}
 use Rattle.relabel_program.specs.declared.policy.Policy.{Policy}
 use Rattle.relabel_program.specs.declared.told.Told.{Told}
 

@@ -1,15 +1,13 @@
 ghost use Rattle.std.specs.Prelude.{◌≡◌, ◌⊎◌, ◌≤◌, ◌++◌};
 ghost use Rattle.relabel_program.specs.Answer.{cause_of};
-ghost use Rattle.relabel_program.specs.Faults.{fault_line};
+ghost use Rattle.run_faults.specs.Faults.{fault_line};
 ghost use Rattle.relabel_program.specs.Run.{LineOrFront, WritesReport};
-ghost use Rattle.relabel_program.specs.declared.cause.Cause.TheVariants as causes;
-ghost use Rattle.relabel_program.specs.declared.names.FileNames.{FileNames};
+ghost use Rattle.run_faults.specs.declared.cause.Cause.TheVariants as causes;
+ghost use Rattle.run_faults.specs.declared.names.FileNames.{FileNames};
 
-use crate::cause::Cause;
-use crate::fault::refusal_line;
-use crate::names::FileNames;
 use crate::told::{End, Told};
 use label_base::{Sink, write_all};
+use run_faults::{Cause, FileNames, refusal_line};
 use std::alloc::Global;
 
 /// The line that tells want of memory. It takes none.

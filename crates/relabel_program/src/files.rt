@@ -1,14 +1,16 @@
-ghost use Rattle.std.specs.Prelude.{◌≡◌, ℕ, ◌≤◌, ◌-◌, IfOk, IfErr, IfSome, OnOk, length};
-ghost use Rattle.relabel_program.specs.Causes.{Counts, Gives, IsFileCause};
-ghost use Rattle.relabel_program.specs.Files.{absent, customizable_types, list_of, most_bytes, part_bytes, part_specs, part_subs, rules_for, rules_with, types_for};
-ghost use Rattle.relabel_program.specs.Names.{names_for};
+ghost use Rattle.std.specs.Prelude.{◌≡◌, ℕ, ◌<◌, ◌≤◌, ◌-◌, ◌^◌, IfOk, IfErr, IfSome, OnOk, length};
+ghost use Rattle.context_syntax.specs.TypeNames.{types_read};
+ghost use Rattle.path_subs.specs.SubLines.{subs_of};
+ghost use Rattle.spec_reader.specs.SpecLines.{specs_of};
+ghost use Rattle.run_faults.specs.Causes.{Counts, Gives, IsFileCause};
+ghost use Rattle.relabel_program.specs.Files.{Reads, absent, customizable_types, list_of, most_bytes, part_bytes, part_specs, part_subs, rest_for, rules_for, specs_from, subs_for, subs_from, types_for, types_from};
+ghost use Rattle.run_faults.specs.Names.{names_for};
 
-use crate::cause::{Cause, LimitKind};
-use crate::names::FileNames;
 use context_syntax::{TypeNames, read_customizable};
-use label_base::{Bytes, Fault, FileFault, LinesWhy, Name, OutOfMemory, Part, Row, Store};
-use path_subs::{Sub, SubList, Subs, read_subs};
+use label_base::{Bytes, Fault, FileFault, LinesWhy, Name, Part, Row, Store};
+use path_subs::{SubList, Subs, read_subs};
 use relabel_core::Rules;
+use run_faults::{Cause, FileNames, LimitKind};
 use spec_match::RuleSet;
 use spec_order::ordered;
 use spec_reader::{Spec, read_specs};
@@ -75,23 +77,14 @@ pub fn read_part<S: Store>(
     }
 }
 
-#[tactic(auto, unfolding(crate::specs::Files::part_specs))]
-fn read_specs_part<S: Store>(
-    alloc: Global,
-    names: &FileNames,
-    part: Part,
-    room: u32,
-    store: &mut S,
-) -> Result<Row<Spec>, Cause>
-    ensures files { S.files store.new ≡ S.files store.old }
-    ensures writes { S.write_faults store.new ≡ S.write_faults store.old }
+// Reads the specifications of a file in its bytes, with room for so many.
+fn specs_in(alloc: Global, bytes: &Bytes, part: Part, room: u32) -> Result<Row<Spec>, Cause>
+    requires { length bytes.now < 2 ^ 32 }
     ensures within { IfOk result (λ specs. length specs ≤ room) }
-    ensures answer { IfSome (S.files store.old) (λ files.
-        Gives (part_specs names.now part room files) result) }
-    ensures counts { Counts (S.read_faults store.old) (S.read_faults store.new) result }
+    ensures answer { Gives (specs_from part (specs_of part room bytes.now)) result }
+    ensures counts { (count : ℕ) → Counts count count result }
     ensures kinds { IfErr result IsFileCause }
 {
-    let bytes = read_part(alloc, names, part, store)?;
     match read_specs(alloc, bytes.as_slice(), part, room) {
         Ok(specs) => Ok(specs),
         Err(Fault::Why(LinesWhy::Refused(line))) => Err(Cause::SpecRefused {
@@ -106,27 +99,71 @@ fn read_specs_part<S: Store>(
     }
 }
 
-#[tactic(auto, unfolding(crate::specs::Files::part_subs))]
+fn read_specs_part<S: Store>(
+    alloc: Global,
+    names: &FileNames,
+    part: Part,
+    room: u32,
+    store: &mut S,
+) -> Result<Row<Spec>, Cause>
+    ensures within { IfOk result (λ specs. length specs ≤ room) }
+    ensures read { Reads S.files S.read_faults S.write_faults (part_specs names.now part room)
+        store.old store.new result }
+{
+    let bytes = read_part(alloc, names, part, store)?;
+    specs_in(alloc, &bytes, part, room)
+}
+
+// Reads the substitutions of a file in its bytes, and makes them ready for look-ups.
+fn subs_in(alloc: Global, bytes: &Bytes, part: Part) -> Result<SubList, Cause>
+    requires { length bytes.now < 2 ^ 32 }
+    ensures answer { Gives (subs_from part (subs_of bytes.now)) result }
+    ensures counts { (count : ℕ) → Counts count count result }
+    ensures kinds { IfErr result IsFileCause }
+{
+    match read_subs(alloc, bytes.as_slice()) {
+        Ok(subs) => Ok(SubList::new(alloc, subs)?),
+        Err(Fault::Why(line)) => Err(Cause::SubRefused {
+            part,
+            line: line.number,
+        }),
+        Err(Fault::OutOfMemory) => Err(Cause::OutOfMemory),
+    }
+}
+
 fn read_subs_part<S: Store>(
     alloc: Global,
     names: &FileNames,
     part: Part,
     store: &mut S,
-) -> Result<Row<Sub>, Cause>
-    ensures files { S.files store.new ≡ S.files store.old }
-    ensures writes { S.write_faults store.new ≡ S.write_faults store.old }
-    ensures answer { IfSome (S.files store.old) (λ files.
-        Gives (part_subs names.now part files) result) }
-    ensures counts { Counts (S.read_faults store.old) (S.read_faults store.new) result }
-    ensures kinds { IfErr result IsFileCause }
+) -> Result<SubList, Cause>
+    ensures { Reads S.files S.read_faults S.write_faults (part_subs names.now part)
+        store.old store.new result }
 {
     let bytes = read_part(alloc, names, part, store)?;
-    match read_subs(alloc, bytes.as_slice()) {
-        Ok(subs) => Ok(subs),
-        Err(Fault::Why(line)) => Err(Cause::SubRefused {
-            part,
-            line: line.number,
-        }),
+    subs_in(alloc, &bytes, part)
+}
+
+// Reads both lists of substitutions.
+fn read_all_subs<S: Store>(alloc: Global, names: &FileNames, store: &mut S) -> Result<Subs, Cause>
+    ensures { Reads S.files S.read_faults S.write_faults (subs_for names.now)
+        store.old store.new result }
+{
+    let first = read_subs_part(alloc, names, Part::Subs, store)?;
+    let second = read_subs_part(alloc, names, Part::SubsDist, store)?;
+    Ok(Subs { first, second })
+}
+
+// Reads the customizable types of a file in its bytes.
+fn types_in(alloc: Global, bytes: &Bytes) -> Result<TypeNames, Cause>
+    requires { length bytes.now < 2 ^ 32 }
+    ensures answer { Gives (types_from (types_read bytes.now)) result }
+    ensures counts { (count : ℕ) → Counts count count result }
+    ensures kinds { IfErr result IsFileCause }
+{
+    match read_customizable(alloc, bytes.as_slice()) {
+        Ok(types) => Ok(types),
+        Err(Fault::Why(line)) => Err(Cause::CustomRefused { line: line.number }),
         Err(Fault::OutOfMemory) => Err(Cause::OutOfMemory),
     }
 }
@@ -141,29 +178,21 @@ fn read_types<S: Store>(alloc: Global, names: &FileNames, store: &mut S) -> Resu
     ensures kinds { IfErr result IsFileCause }
 {
     let bytes = read_part(alloc, names, Part::Customizable, store)?;
-    match read_customizable(alloc, bytes.as_slice()) {
-        Ok(types) => Ok(types),
-        Err(Fault::Why(line)) => Err(Cause::CustomRefused { line: line.number }),
-        Err(Fault::OutOfMemory) => Err(Cause::OutOfMemory),
-    }
+    types_in(alloc, &bytes)
 }
 
-#[tactic(auto, unfolding(crate::specs::Files::list_of))]
-fn read_list<S: Store>(alloc: Global, names: &FileNames, store: &mut S) -> Result<Row<Spec>, Cause>
-    ensures files { S.files store.new ≡ S.files store.old }
-    ensures writes { S.write_faults store.new ≡ S.write_faults store.old }
-    ensures within { IfOk result (λ list. length list ≤ MOST_SPECS) }
-    ensures answer { IfSome (S.files store.old) (λ files.
-        Gives (list_of names.now files) result) }
-    ensures counts { Counts (S.read_faults store.old) (S.read_faults store.new) result }
-    ensures kinds { IfErr result IsFileCause }
+// Reads the specifications, and makes them ready for look-ups.
+fn read_list<S: Store>(alloc: Global, names: &FileNames, store: &mut S) -> Result<RuleSet, Cause>
+    ensures { Reads S.files S.read_faults S.write_faults (list_of names.now)
+        store.old store.new result }
 {
     let first = read_specs_part(alloc, names, Part::Base, MOST_SPECS, store)?;
     let room = MOST_SPECS - first.len() as u32;
     let home = read_specs_part(alloc, names, Part::Homedirs, room, store)?;
     let room = room - home.len() as u32;
     let local = read_specs_part(alloc, names, Part::Local, room, store)?;
-    Ok(ordered(alloc, first, home, local)?)
+    let list = ordered(alloc, first, home, local)?;
+    Ok(RuleSet::new(alloc, list)?)
 }
 
 // The customizable types, at which matchpathcon doesn't look.
@@ -187,30 +216,24 @@ fn read_types_for<S: Store>(
     }
 }
 
-// Makes rules ready for look-ups.
-fn rules_with(
+// Reads what stands behind the specifications: the substitutions, then the customizable types.
+fn read_rest<S: Store>(
     alloc: Global,
-    list: Row<Spec>,
-    first: Row<Sub>,
-    second: Row<Sub>,
-    types: TypeNames,
-) -> Result<Rules, OutOfMemory>
-    requires { length list ≤ MOST_SPECS }
-    ensures { IfOk result (λ rules. rules ≡ rules_with list first second types) }
+    command: &Command,
+    names: &FileNames,
+    store: &mut S,
+) -> Result<(Subs, TypeNames), Cause>
+    requires { names.now ≡ names_for command.now }
+    ensures { Reads S.files S.read_faults S.write_faults (rest_for command.now)
+        store.old store.new result }
 {
-    Ok(Rules {
-        rules: RuleSet::new(alloc, list)?,
-        subs: Subs {
-            first: SubList::new(alloc, first)?,
-            second: SubList::new(alloc, second)?,
-        },
-        types,
-    })
+    let subs = read_all_subs(alloc, names, store)?;
+    let types = read_types_for(alloc, command, names, store)?;
+    Ok((subs, types))
 }
 
 /// Reads the files of a policy: the base file, then `.homedirs`, `.local`, `.subs` and `.subs_dist`
 /// beside it, then the customizable types, at which matchpathcon doesn't look. Each but the base file may be absent.
-#[tactic(auto, unfolding(crate::specs::Files::rules_for))]
 pub fn read_rules<S: Store>(
     alloc: Global,
     command: &Command,
@@ -225,9 +248,7 @@ pub fn read_rules<S: Store>(
     ensures counts { Counts (S.read_faults store.old) (S.read_faults store.new) result }
     ensures kinds { IfErr result IsFileCause }
 {
-    let list = read_list(alloc, names, store)?;
-    let first = read_subs_part(alloc, names, Part::Subs, store)?;
-    let second = read_subs_part(alloc, names, Part::SubsDist, store)?;
-    let types = read_types_for(alloc, command, names, store)?;
-    Ok(rules_with(alloc, list, first, second, types)?)
+    let rules = read_list(alloc, names, store)?;
+    let (subs, types) = read_rest(alloc, command, names, store)?;
+    Ok(Rules { rules, subs, types })
 }

@@ -4,13 +4,8 @@
 
 ghost use Rattle.std.specs.Prelude.{◌<◌, ◌^◌, IfOk, length};
 
-mod asked;
-mod cause;
 mod ending;
-mod fault;
 mod files;
-mod input;
-mod names;
 mod policy;
 mod runs;
 mod sample;

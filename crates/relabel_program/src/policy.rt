@@ -1,17 +1,15 @@
 ghost use Rattle.std.specs.Prelude.{◌≡◌, ℕ, ◌<◌, ◌^◌, IfErr, IfOk, IfSome, length};
-ghost use Rattle.relabel_program.specs.Causes.{Counts, Gives, IsFileCause};
+ghost use Rattle.run_faults.specs.Causes.{Counts, Gives, IsFileCause};
 ghost use Rattle.relabel_program.specs.Files.{kept_dump, kept_for, policy, policy_in, with_kept};
 ghost use Rattle.relabel_program.specs.Sample.{sample_files, sample_words};
 ghost use Rattle.tool_words.specs.declared.command.Command.TheVariants as commands;
-ghost use Rattle.relabel_program.specs.Names.{names_for};
+ghost use Rattle.run_faults.specs.Names.{names_for};
 
-use crate::asked::asks_kept;
-use crate::cause::Cause;
 use crate::files::{read_part, read_rules};
-use crate::names::FileNames;
 use crate::sample::{SAMPLE_FILE, sample_words};
 use label_base::{Fault, OutOfMemory, Part, Row, Store, SureStore};
 use relabel_core::Rules;
+use run_faults::{Cause, FileNames, asks_kept};
 use sample_tree::SPECS;
 use setfattr_dump::Dump;
 use std::alloc::Global;
@@ -108,17 +106,36 @@ fn sample_store(alloc: Global) -> Result<SureStore, OutOfMemory>
     Ok(store)
 }
 
-// Reads the files of a sample, by the readers of any others.
-#[tactic(auto, using(crate::proofs::SampleLemmas::calm_counts))]
+// Reads the files of a sample by these names.
+#[tactic(auto, using(run_faults::proofs::CountLemmas::calm_counts))]
+fn read_sample_named(alloc: Global, command: &Command, names: &FileNames) -> Result<Policy, Cause>
+    requires { names.now ≡ names_for command.now }
+    ensures answer { Gives (policy_in command.now sample_files) result }
+    ensures counts { (count : ℕ) → Counts count count result }
+    ensures kinds { IfErr result IsFileCause }
+{
+    let mut store = sample_store(alloc)?;
+    read_files(alloc, command, names, &mut store)
+}
+
+// Reads the files of a sample as this command reads files.
+fn read_sample_as(alloc: Global, command: &Command) -> Result<Policy, Cause>
+    ensures answer { Gives (policy_in command.now sample_files) result }
+    ensures counts { (count : ℕ) → Counts count count result }
+    ensures kinds { IfErr result IsFileCause }
+{
+    let names = FileNames::of(alloc, command)?;
+    read_sample_named(alloc, command, &names)
+}
+
+// Reads the files of a sample, by the readers of any others. Each function from here inwards owns one value.
 fn read_sample(alloc: Global) -> Result<Policy, Cause>
     ensures answer { Gives (policy_in (commands.Relabel sample_words) sample_files) result }
     ensures counts { (count : ℕ) → Counts count count result }
     ensures kinds { IfErr result IsFileCause }
 {
     let command = Command::Relabel(sample_words(alloc)?);
-    let names = FileNames::of(alloc, &command)?;
-    let mut store = sample_store(alloc)?;
-    read_files(alloc, &command, &names, &mut store)
+    read_sample_as(alloc, &command)
 }
 
 /// Reads the files that a command asks for: those of the policy, then that of the stored digests. A sample has files of its

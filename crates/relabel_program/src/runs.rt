@@ -1,23 +1,19 @@
 ghost use Rattle.std.specs.Prelude.{◌≡◌, ◌<◌, ◌⊎◌, ◌^◌, Ok, length};
-ghost use Rattle.tool_words.specs.Words.{command_of, word_texts};
-ghost use Rattle.relabel_program.specs.Asked.{is_soft_in, paths_in};
-ghost use Rattle.relabel_program.specs.Causes.{words_cause};
-ghost use Rattle.relabel_program.specs.Faults.{fault_line, status_of};
-ghost use Rattle.relabel_program.specs.Names.{names_for, no_names};
+ghost use Rattle.tool_words.specs.Words.{command_of, named_paths, word_texts};
+ghost use Rattle.run_faults.specs.Asked.{is_soft_in};
+ghost use Rattle.run_faults.specs.Causes.{words_cause};
+ghost use Rattle.run_faults.specs.Faults.{fault_line, status_of};
+ghost use Rattle.run_faults.specs.Names.{names_for, no_names};
 ghost use Rattle.relabel_program.specs.Run.{LineOrFront, Run};
 ghost use Rattle.relabel_program.specs.Stages.{FilesRead, Tells};
-ghost use Rattle.relabel_program.specs.declared.cause.Cause.TheVariants as causes;
+ghost use Rattle.run_faults.specs.declared.cause.Cause.TheVariants as causes;
 
-use crate::asked::is_soft;
-use crate::cause::{Cause, Outcome};
 use crate::ending::{finish, give_up, lose_dump, refuse};
-use crate::fault::status;
-use crate::input::read_entries;
-use crate::names::FileNames;
 use crate::policy::{Policy, read_policy};
 use crate::saving::save;
 use crate::told::tell_command;
 use label_base::{Fault, SaveFault, Sink, Source, Store};
+use run_faults::{Cause, FileNames, Outcome, is_soft, read_entries, status};
 use std::alloc::Global;
 use tool_words::{Command, Usage, read_words};
 use tree_model::Tree;
@@ -45,7 +41,7 @@ fn tell<S: Store, O: Sink>(
     out: &mut O,
 ) -> Cause
     requires tree { length tree.now < 2 ^ 31 }
-    requires words { length (paths_in command.now) < 2 ^ 31 }
+    requires words { length (named_paths command.now) < 2 ^ 31 }
     ensures { Tells S.files S.read_faults S.write_faults O.written O.faults command.now policy.now
         tree.now store.old store.new out.old out.new result }
 {
@@ -70,7 +66,7 @@ fn run_ruled<S: Store, I: Source, O: Sink>(
     input: &mut I,
     out: &mut O,
 ) -> Cause
-    requires words { length (paths_in command.now) < 2 ^ 31 }
+    requires words { length (named_paths command.now) < 2 ^ 31 }
     requires names { names.now ≡ names_for command.now }
     ensures { (before : S)
         → FilesRead S.files S.read_faults S.write_faults command.now before store.old
@@ -94,7 +90,7 @@ fn run_named<S: Store, I: Source, O: Sink>(
     input: &mut I,
     out: &mut O,
 ) -> Cause
-    requires words { length (paths_in command.now) < 2 ^ 31 }
+    requires words { length (named_paths command.now) < 2 ^ 31 }
     requires names { names.now ≡ names_for command.now }
     ensures { Run S.files S.read_faults S.write_faults I.left I.faults O.written O.faults
         (Ok command.now) store.old store.new input.old input.new out.old out.new result }
@@ -114,7 +110,7 @@ fn run<S: Store, I: Source, O: Sink>(
     input: &mut I,
     out: &mut O,
 ) -> Cause
-    requires { length (paths_in command.now) < 2 ^ 31 }
+    requires { length (named_paths command.now) < 2 ^ 31 }
     ensures { Run S.files S.read_faults S.write_faults I.left I.faults O.written O.faults
         (Ok command.now) store.old store.new input.old input.new out.old out.new result }
 {

@@ -5,17 +5,19 @@ ghost use Rattle.report_text.specs.Message.{message_of};
 ghost use Rattle.relabel_core.specs.Answer.{walk_in};
 ghost use Rattle.relabel_core.specs.DigestAfter.{digest_told};
 ghost use Rattle.relabel_core.specs.Digests.{walk_before};
-ghost use Rattle.relabel_core.specs.Stored.{no_digests};
+ghost use Rattle.relabel_core.specs.Stored.{digests_listed, no_digests};
 ghost use Rattle.relabel_core.specs.Walk.{count, digests, line, one_if};
+ghost use Rattle.relabel_core.specs.Walked.{IsFit, walk_of};
 ghost use Rattle.relabel_core.specs.Stored as stored_digests;
+ghost use Rattle.tree_model.specs.Labelled.{DifferInLabels, labelled};
 ghost use Rattle.relabel_program.specs.declared.sample.LineKind.TheVariants as kinds;
-ghost use Rattle.relabel_program.specs.Sample.{first_walk, has_line_of, is_of, lines_of, number_line, sample_choice, sample_options, sample_summary, sample_walk, sample_words, summary_of, summary_text, told_by_sample, walk_after};
+ghost use Rattle.relabel_program.specs.Sample.{first_walk, has_line_of, is_of, labels_after, lines_of, number_line, sample_choice, sample_options, sample_summary, sample_walk, sample_words, summary_of, summary_text, told_by_sample, walk_after};
 
 use crate::policy::Policy;
 use crate::told::{End, Told};
 use label_base::{Bytes, Name, NormPath, OutOfMemory, Row};
 use relabel_core::{
-    DigestAfter, Digests, Options, Stored, VOID_DIGEST, Walked, next_labels, walk_input,
+    DigestAfter, Digests, Options, Stored, VOID_DIGEST, WalkInput, Walked, next_labels, walk_input,
     walk_uncounted,
 };
 use report_text::Message;
@@ -174,6 +176,21 @@ fn digests_of(alloc: Global, walked: &Walked<'_>) -> Result<Row<Option<Bytes>>, 
     Ok(row)
 }
 
+// Counts the lines of two kinds of a walk over this input.
+fn walk_counted(alloc: Global, input: &WalkInput<'_>) -> Result<(u32, u32), OutOfMemory>
+    requires { IsFit input.now }
+    ensures skipped { IfOk result (λ lines. lines.0
+        ≡ lines_of kinds.Skipping (walk_of input.now)) }
+    ensures relabelled { IfOk result (λ lines. lines.1
+        ≡ lines_of kinds.Relabelled (walk_of input.now)) }
+{
+    let walked = walk_uncounted(alloc, input)?;
+    Ok((
+        lines_of(LineKind::Skipping, &walked),
+        lines_of(LineKind::Relabelled, &walked),
+    ))
+}
+
 // Walks over a tree that has these digests, and counts the lines of two kinds.
 fn walk_again(
     alloc: Global,
@@ -192,23 +209,57 @@ fn walk_again(
         (sample_walk policy.now tree.now (stored_digests.digests_of stored.now))) }
 {
     let chosen = tree.select(alloc, choice)?;
-    let input = walk_input(
-        tree,
-        choice,
-        &chosen,
-        &policy.rules,
-        sample_options(),
-        stored,
-    );
-    let walked = walk_uncounted(alloc, &input)?;
-    Ok((
-        lines_of(LineKind::Skipping, &walked),
-        lines_of(LineKind::Relabelled, &walked),
-    ))
+    let options = sample_options();
+    let input = walk_input(tree, choice, &chosen, &policy.rules, options, stored);
+    walk_counted(alloc, &input)
 }
 
-// Walks over the tree that a walk leaves, with its labels and its digests.
-#[tactic(auto, unfolding(crate::specs::Sample::walk_after))]
+// The tree that a walk over a tree leaves, with its labels.
+fn tree_after(alloc: Global, tree: &Tree, first: &Walked<'_>) -> Result<Tree, OutOfMemory>
+    requires { (walk_in first.now).entries ≡ tree.now }
+    ensures value { IfOk result (λ next. next
+        ≡ labelled (labels_after (walk_in first.now)) tree.now) }
+    ensures same { IfOk result (λ next. DifferInLabels tree.now next) }
+{
+    let labels = next_labels(alloc, first)?;
+    tree.with_labels(alloc, &labels)
+}
+
+// The digests that a walk before which none was stored leaves for the tree that it leaves.
+fn stored_after(alloc: Global, next: &Tree, first: &Walked<'_>) -> Result<Stored, OutOfMemory>
+    requires stored { (walk_in first.now).stored ≡ no_digests }
+    requires same { DifferInLabels (walk_in first.now).entries next.now }
+    ensures { IfOk result (λ stored. stored_digests.digests_of stored
+        ≡ digests_listed (digests (walk_in first.now))) }
+{
+    let digests = digests_of(alloc, first)?;
+    Stored::of(alloc, next, &digests)
+}
+
+// Walks over the tree that a walk leaves, with its digests.
+fn walk_next(
+    alloc: Global,
+    choice: &Choice,
+    policy: &Policy,
+    next: &Tree,
+    first: &Walked<'_>,
+) -> Result<(u32, u32), OutOfMemory>
+    requires choice { choice.now ≡ sample_choice }
+    requires tree { length next.now < 2 ^ 31 }
+    requires stored { (walk_in first.now).stored ≡ no_digests }
+    requires same { DifferInLabels (walk_in first.now).entries next.now }
+    ensures skipped { IfOk result (λ lines. lines.0
+        ≡ lines_of kinds.Skipping
+        (sample_walk policy.now next.now (digests_listed (digests (walk_in first.now))))) }
+    ensures relabelled { IfOk result (λ lines. lines.1
+        ≡ lines_of kinds.Relabelled
+        (sample_walk policy.now next.now (digests_listed (digests (walk_in first.now))))) }
+{
+    let stored = stored_after(alloc, next, first)?;
+    walk_again(alloc, choice, policy, next, &stored)
+}
+
+// Walks over the tree that a walk leaves, with its labels and its digests. Each function from here inwards owns one value.
 fn walk_after(
     alloc: Global,
     choice: &Choice,
@@ -225,32 +276,27 @@ fn walk_after(
     ensures relabelled { IfOk result (λ lines. lines.1
         ≡ lines_of kinds.Relabelled (walk_after policy.now (walk_in first.now))) }
 {
-    let labels = next_labels(alloc, first)?;
-    let digests = digests_of(alloc, first)?;
-    let next = tree.with_labels(alloc, &labels)?;
-    let stored = Stored::of(alloc, &next, &digests)?;
-    walk_again(alloc, choice, policy, &next, &stored)
+    let next = tree_after(alloc, tree, first)?;
+    walk_next(alloc, choice, policy, &next, first)
 }
 
-// Walks over a tree twice.
+// Summarizes the walk over this input, and the second one.
 #[tactic(auto, unfolding(crate::specs::Sample::first_walk))]
-fn summarize(alloc: Global, policy: &Policy, tree: &Tree) -> Result<Summary, OutOfMemory>
-    requires { length tree.now < 2 ^ 31 }
+fn summarize_walks(
+    alloc: Global,
+    choice: &Choice,
+    policy: &Policy,
+    tree: &Tree,
+    input: &WalkInput<'_>,
+) -> Result<Summary, OutOfMemory>
+    requires fit { IsFit input.now }
+    requires choice { choice.now ≡ sample_choice }
+    requires tree { length tree.now < 2 ^ 31 }
+    requires walk { walk_of input.now ≡ first_walk policy.now tree.now }
     ensures { IfOk result (λ summary. summary ≡ sample_summary policy.now tree.now) }
 {
-    let choice = sample_choice(alloc)?;
-    let chosen = tree.select(alloc, &choice)?;
-    let stored = Stored::none(alloc);
-    let input = walk_input(
-        tree,
-        &choice,
-        &chosen,
-        &policy.rules,
-        sample_options(),
-        &stored,
-    );
-    let first = walk_uncounted(alloc, &input)?;
-    let (skipped_again, relabelled_again) = walk_after(alloc, &choice, policy, tree, &first)?;
+    let first = walk_uncounted(alloc, input)?;
+    let (skipped_again, relabelled_again) = walk_after(alloc, choice, policy, tree, &first)?;
     Ok(Summary {
         entries: first.len(),
         relabelled: lines_of(LineKind::Relabelled, &first),
@@ -259,6 +305,36 @@ fn summarize(alloc: Global, policy: &Policy, tree: &Tree) -> Result<Summary, Out
         skipped_again,
         relabelled_again,
     })
+}
+
+// Summarizes two walks over a tree, of what a choice means there.
+#[tactic(auto, unfolding(crate::specs::Sample::first_walk))]
+fn summarize_chosen(
+    alloc: Global,
+    choice: &Choice,
+    policy: &Policy,
+    tree: &Tree,
+    stored: &Stored,
+) -> Result<Summary, OutOfMemory>
+    requires choice { choice.now ≡ sample_choice }
+    requires tree { length tree.now < 2 ^ 31 }
+    requires stored { stored_digests.digests_of stored.now ≡ no_digests }
+    ensures { IfOk result (λ summary. summary ≡ sample_summary policy.now tree.now) }
+{
+    let chosen = tree.select(alloc, choice)?;
+    let options = sample_options();
+    let input = walk_input(tree, choice, &chosen, &policy.rules, options, stored);
+    summarize_walks(alloc, choice, policy, tree, &input)
+}
+
+// Walks over a tree twice.
+fn summarize(alloc: Global, policy: &Policy, tree: &Tree) -> Result<Summary, OutOfMemory>
+    requires { length tree.now < 2 ^ 31 }
+    ensures { IfOk result (λ summary. summary ≡ sample_summary policy.now tree.now) }
+{
+    let choice = sample_choice(alloc)?;
+    let stored = Stored::none(alloc);
+    summarize_chosen(alloc, &choice, policy, tree, &stored)
 }
 
 #[tactic(auto, unfolding(crate::specs::Sample::number_line))]

@@ -1,10 +1,8 @@
 ghost use Rattle.std.specs.Prelude.{◌<◌, ◌^◌, IfOk, length};
 
-use crate::cause::{Cause, LimitKind, Outcome};
-use crate::fault::refusal_line;
-use crate::names::FileNames;
 use crate::runs::{plain, top};
 use label_base::{Bytes, MemSink, MemSource, MemStore, OutOfMemory, Row};
+use run_faults::{Cause, Outcome};
 use std::alloc::Global;
 use std::test::Fail;
 
@@ -567,16 +565,6 @@ fn records_past_their_limit(rt: HostRuntime) -> Result<(), Fail> {
     let records = repeated(rt.alloc(), b"d 1 2 ? /\0", 2_097_153)?;
     let ran = run(rt.alloc(), WORDS, files, records.as_slice(), &NONE_FAILS)?;
     assert!(rt; ran.ended(255, b"relabel: limit: records\n"));
-    Ok(())
-}
-
-#[test]
-fn bytes_past_their_limit_have_a_line(rt: HostRuntime) -> Result<(), Fail> {
-    let cause = Cause::Limit {
-        which: LimitKind::RecordBytes,
-    };
-    let line = refusal_line(rt.alloc(), &FileNames::none(rt.alloc()), &cause)?;
-    assert!(rt; line.as_slice() == b"relabel: limit: bytes of input\n".as_slice());
     Ok(())
 }
 

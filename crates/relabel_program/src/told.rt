@@ -2,14 +2,16 @@ ghost use Rattle.std.specs.Prelude.{◌≡◌, [], ◌+◌, ◌-◌, ◌<◌, �
 ghost use Rattle.setfattr_dump.specs.Texts.{dump_text};
 ghost use Rattle.relabel_core.specs.Answer.{walk_in};
 ghost use Rattle.relabel_core.specs.Changes.{changes};
-ghost use Rattle.relabel_program.specs.Asked.{paths_in};
+ghost use Rattle.relabel_core.specs.Stored.{digests_of};
+ghost use Rattle.relabel_core.specs.Walked.{IsFit, walk_for, walk_of};
+ghost use Rattle.tool_words.specs.Words.{named_paths};
 ghost use Rattle.relabel_program.specs.Answer.{lookup_end, saved_as, told_by, told_by_looking_up, told_by_lookup, told_by_verifying, told_by_walk, told_of, walk_end};
 
 use crate::policy::Policy;
 use crate::sample::tell_sample;
 use label_base::{Bytes, Name, OutOfMemory};
 use relabel_core::{
-    Stored, Walked, add_found_report, add_verified_report, walk_input, walk_uncounted,
+    Stored, WalkInput, Walked, add_found_report, add_verified_report, walk_input, walk_uncounted,
 };
 use std::alloc::Global;
 use tool_words::{Command, LookupWords, RelabelWords};
@@ -132,7 +134,47 @@ fn tell(
     })
 }
 
-// What setfiles and restorecon tell.
+// What a walk over this input tells, where there are so many entries.
+fn tell_input(
+    alloc: Global,
+    output: &Option<Name>,
+    input: &WalkInput<'_>,
+    entries: u32,
+) -> Result<Told, OutOfMemory>
+    requires { IsFit input.now }
+    ensures { IfOk result (λ told. told ≡ told_of output.now (walk_of input.now)) }
+{
+    let walked = walk_uncounted(alloc, input)?;
+    tell(alloc, output, &walked, entries)
+}
+
+// What a walk over a tree tells whose directories have these digests.
+fn tell_stored(
+    alloc: Global,
+    words: &RelabelWords,
+    policy: &Policy,
+    tree: &Tree,
+    stored: &Stored,
+) -> Result<Told, OutOfMemory>
+    requires tree { length tree.now < 2 ^ 31 }
+    requires words { length words.now.choice.operands < 2 ^ 31 }
+    ensures { IfOk result (λ told. told
+        ≡ told_of words.now.output (walk_for tree.now words.now.choice policy.now.rules
+        words.now.options (digests_of stored.now))) }
+{
+    let chosen = tree.select(alloc, &words.choice)?;
+    let input = walk_input(
+        tree,
+        &words.choice,
+        &chosen,
+        &policy.rules,
+        words.options,
+        stored,
+    );
+    tell_input(alloc, &words.output, &input, tree.len())
+}
+
+// What setfiles and restorecon tell. Each function from here inwards owns one value.
 #[tactic(auto, unfolding(crate::specs::Answer::told_by_walk))]
 fn tell_walk(
     alloc: Global,
@@ -144,18 +186,8 @@ fn tell_walk(
     requires words { length words.now.choice.operands < 2 ^ 31 }
     ensures { IfOk result (λ told. told ≡ told_by_walk words.now policy.now tree.now) }
 {
-    let chosen = tree.select(alloc, &words.choice)?;
     let stored = Stored::new(alloc, tree, &policy.kept)?;
-    let input = walk_input(
-        tree,
-        &words.choice,
-        &chosen,
-        &policy.rules,
-        words.options,
-        &stored,
-    );
-    let walked = walk_uncounted(alloc, &input)?;
-    tell(alloc, &words.output, &walked, tree.len())
+    tell_stored(alloc, words, policy, tree, &stored)
 }
 
 fn tell_found(alloc: Global, words: &LookupWords, policy: &Policy) -> Result<Told, OutOfMemory>
@@ -227,7 +259,7 @@ pub fn tell_command(
     tree: &Tree,
 ) -> Result<Told, OutOfMemory>
     requires tree { length tree.now < 2 ^ 31 }
-    requires words { length (paths_in command.now) < 2 ^ 31 }
+    requires words { length (named_paths command.now) < 2 ^ 31 }
     ensures { IfOk result (λ told. told ≡ told_by command.now policy.now tree.now) }
 {
     match command {

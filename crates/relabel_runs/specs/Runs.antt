@@ -3,10 +3,10 @@ use Rattle.std.specs.Prelude.{◌≡◌, ℕ, suc, ◌||◌, false, List, [], �
 use Rattle.context_syntax.specs.declared.label.Label.{Label}
 use Rattle.find_records.specs.Record.{Record}
 use Rattle.tree_model.specs.Groups.{group_of}
+use Rattle.tree_model.specs.declared.options.Options.{Options}
 use Rattle.tree_model.specs.declared.selection.Choice.{Choice}
 use Rattle.relabel_core.specs.Walk.{StoredDigests, Walk, digest_after, new_label}
 use Rattle.relabel_core.specs.Walked.{walk_for}
-use Rattle.relabel_core.specs.declared.options.Options.{Options}
 use Rattle.relabel_core.specs.declared.rules.Rules.{Rules}
 
 -- a run: what decides labels, what it is asked for, and how it goes

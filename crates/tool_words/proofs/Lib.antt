@@ -1,3 +1,4 @@
 pub mod GrammarLemmas
 pub mod LetterLemmas
 pub mod RefusalLemmas
+pub mod PathCounts

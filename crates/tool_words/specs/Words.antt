@@ -7,8 +7,8 @@ use Rattle.std.specs.String.{string_bytes}
 use Rattle.std.specs.declared.alloc.Global.{Global}
 use Rattle.label_base.specs.Path.{Path, path_read}
 use Rattle.label_base.specs.declared.path_fault.PathWhy.{PathWhy}
+use Rattle.tree_model.specs.declared.options.Options.{Options}
 use Rattle.tree_model.specs.declared.selection.Choice.{Choice}
-use Rattle.relabel_core.specs.declared.options.Options.{Options}
 use Rattle.tool_words.specs.Items.{Item, items_of}
 use Rattle.tool_words.specs.Tools.{base_letter, tool_named}
 use Rattle.tool_words.specs.Values.{count_named, first_wrong, kind_named, workers_named}
@@ -156,6 +156,12 @@ abbrev pub asked_by : Tool → List Item → Command
 asked_by Matchpathcon items = Lookup (lookup_of items)
 asked_by Sample items = OfSample (count_of items)
 asked_by tool items = Relabel (relabel_of tool items)
+
+-- the paths that a command names
+abbrev pub named_paths : Command → List Path
+named_paths (Relabel words) = words.choice.operands
+named_paths (Lookup words) = words.paths
+named_paths (OfSample count) = []
 
 -- ---- what is refused
 

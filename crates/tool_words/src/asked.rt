@@ -17,9 +17,8 @@ use crate::tool::{Tool, base_letter};
 use crate::usage::{Usage, UsageWhy};
 use crate::values::{count_named, kind_named, workers_named};
 use label_base::{EntryKind, Name, OutOfMemory};
-use relabel_core::Options;
 use std::alloc::Global;
-use tree_model::Choice;
+use tree_model::{Choice, Options};
 
 /// The file of specifications where the words name none.
 pub const DEFAULT_BASE: &str = "/etc/selinux/targeted/contexts/files/file_contexts";

@@ -1,6 +1,5 @@
 use label_base::{EntryKind, Name, NormPath, Row};
-use relabel_core::Options;
-use tree_model::Choice;
+use tree_model::{Choice, Options};
 
 /// What setfiles(8) or restorecon(8) is asked for.
 #[derive(Debug, Drop)]

@@ -1,6 +1,6 @@
-ghost use Rattle.std.specs.Prelude.{◌≡◌, ◌<◌, ◌+◌, ◌^◌, length, Some};
+ghost use Rattle.std.specs.Prelude.{◌≡◌, ◌<◌, ◌≤◌, ◌+◌, ◌^◌, IfOk, length, Some};
 ghost use Rattle.label_base.specs.Answers.{Answers, cause_of};
-ghost use Rattle.tool_words.specs.Words.{command_for, command_in, command_of, usage, word_texts};
+ghost use Rattle.tool_words.specs.Words.{command_for, command_in, command_of, named_paths, usage, word_texts};
 ghost use Rattle.tool_words.specs.declared.usage.UsageWhy.TheVariants.{UnknownTool};
 
 use crate::asked::{asked_by, end_wrong};
@@ -48,13 +48,9 @@ fn unknown_tool() -> Fault<Usage>
     })
 }
 
-/// Reads the words of a command, of which the first names the tool: setfiles(8), restorecon(8),
-/// matchpathcon(8) or sample.
-///
-/// Words are looked at from left to right, and the first that is wrong is told with its index, from
-/// 0; where nothing is wrong, so is what is missing, with the number of words as its index.
+// Reads the words, of which the first names the tool.
 #[tactic(auto, unfolding(crate::specs::Words::command_of))]
-pub fn read_words(alloc: Global, words: &[String]) -> Result<Command, Fault<Usage>>
+fn read_command(alloc: Global, words: &[String]) -> Result<Command, Fault<Usage>>
     requires { length words.now < 2 ^ 31 }
     ensures { Answers (λ command. command) cause_of result (command_of (word_texts words.now)) }
 {
@@ -65,4 +61,18 @@ pub fn read_words(alloc: Global, words: &[String]) -> Result<Command, Fault<Usag
         Some(tool) => read_rest(alloc, tool, rest),
         None => Err(unknown_tool()),
     }
+}
+
+/// Reads the words of a command, of which the first names the tool: setfiles(8), restorecon(8),
+/// matchpathcon(8) or sample.
+///
+/// Words are looked at from left to right, and the first that is wrong is told with its index, from
+/// 0; where nothing is wrong, so is what is missing, with the number of words as its index.
+pub fn read_words(alloc: Global, words: &[String]) -> Result<Command, Fault<Usage>>
+    requires { length words.now < 2 ^ 31 }
+    ensures meant { Answers (λ command. command) cause_of result
+        (command_of (word_texts words.now)) }
+    ensures few { IfOk result (λ command. length (named_paths command) ≤ length words.now) }
+{
+    read_command(alloc, words)
 }

@@ -1,4 +1,4 @@
-//! The tree of the entries that records tell.
+//! The tree of the entries that records tell, and what a walk over it is asked for.
 #![tactic(auto)]
 
 mod above;
@@ -14,6 +14,7 @@ mod jobs;
 mod laws;
 mod marks;
 mod numbered;
+mod options;
 mod same;
 mod search;
 mod selection;
@@ -22,6 +23,7 @@ mod tree;
 
 pub use fault::TreeFault;
 pub use laws::{absent_have_no_entry, groups_are_inodes};
+pub use options::Options;
 pub use selection::{Choice, Selected};
 pub use tree::Tree;
 

@@ -1,7 +1,7 @@
 use Rattle.std.proofs.Common.{subst, sym, inr}
-use Rattle.relabel_program.specs.Faults.{fault_line}
+use Rattle.run_faults.specs.Faults.{fault_line}
 use Rattle.relabel_program.specs.Run.{LineOrFront}
-use Rattle.relabel_program.specs.declared.cause.Cause.{Cause}
+use Rattle.run_faults.specs.declared.cause.Cause.{Cause}
 use Rattle.relabel_program.proofs.ending.refuse.Goals as goal
 
 pub returns-in-OutOfMemory-clause-told : goal.returns-in-OutOfMemory-clause-told

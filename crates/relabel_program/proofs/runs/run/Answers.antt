@@ -1,6 +1,6 @@
 use Rattle.std.proofs.Common.{refl}
-use Rattle.relabel_program.specs.Names.{names_for}
-use Rattle.relabel_program.proofs.RunLemmas.{told_early}
+use Rattle.run_faults.specs.Names.{names_for}
+use Rattle.relabel_program.proofs.MemoryRuns.{told_early}
 use Rattle.relabel_program.proofs.runs.run.Goals as goal
 
 pub returns-in-Err : goal.returns-in-Err

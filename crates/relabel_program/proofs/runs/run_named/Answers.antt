@@ -1,5 +1,5 @@
 use Rattle.std.proofs.Common.{refl}
-use Rattle.relabel_program.proofs.RunLemmas.{told_file}
+use Rattle.relabel_program.proofs.RefusedRuns.{told_file}
 use Rattle.relabel_program.proofs.runs.run_named.Goals as goal
 
 pub returns-in-Err : goal.returns-in-Err

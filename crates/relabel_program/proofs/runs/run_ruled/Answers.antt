@@ -1,4 +1,5 @@
-use Rattle.relabel_program.proofs.RunLemmas.{told_by_tells, told_input}
+use Rattle.relabel_program.proofs.RefusedRuns.{told_input}
+use Rattle.relabel_program.proofs.WrittenRuns.{told_by_tells}
 use Rattle.relabel_program.proofs.runs.run_ruled.Goals as goal
 
 pub returns-in-Err : goal.returns-in-Err

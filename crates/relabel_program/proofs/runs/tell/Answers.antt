@@ -1,5 +1,5 @@
 use Rattle.std.proofs.Common.{refl}
-use Rattle.relabel_program.specs.Names.{names_for}
+use Rattle.run_faults.specs.Names.{names_for}
 use Rattle.relabel_program.specs.Stages.{loses_dump, no_texts, saves_dump, saves_nothing}
 use Rattle.relabel_program.proofs.runs.tell.Goals as goal
 

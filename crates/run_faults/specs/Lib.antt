@@ -1,0 +1,5 @@
+pub mod Asked
+pub mod Names
+pub mod Causes
+pub mod Input
+pub mod Faults

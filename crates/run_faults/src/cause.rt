@@ -1,0 +1,76 @@
+ghost use Rattle.std.specs.Prelude.{◌≡◌};
+ghost use Rattle.run_faults.specs.declared.cause.Cause.TheVariants as causes;
+
+use find_records::RecordWhy;
+use label_base::{Name, OutOfMemory, Part};
+use setfattr_dump::DumpWhy;
+use spec_reader::SpecWhy;
+use tool_words::UsageWhy;
+
+/// A quantity that has a greatest value.
+#[derive(Clone, Copy, Debug, PartialEq, Eq)]
+pub enum LimitKind {
+    /// The bytes of a file.
+    File(Part),
+    /// The specifications of all files together.
+    Specs,
+    /// The records of the input.
+    Records,
+    /// The bytes of the input.
+    RecordBytes,
+}
+
+/// How a run ended.
+#[derive(Debug, Drop)]
+pub enum Cause {
+    /// The report was written, and tells no error.
+    Done,
+    /// This word is the first that is wrong; words count from 0, and where they end too early the index is their number.
+    Usage { index: u32, why: UsageWhy },
+    /// The file of the specifications, or that of the stored digests, does not exist.
+    Missing { name: Name },
+    /// This line of a file of specifications is the first that is none; lines count from 1.
+    SpecRefused { part: Part, line: u32, why: SpecWhy },
+    /// This line of a file of substitutions is the first that is none; lines count from 1.
+    SubRefused { part: Part, line: u32 },
+    /// This line of the file of customizable types is the first that is none; lines count from 1.
+    CustomRefused { line: u32 },
+    /// This line of the file of stored digests is the first that is refused; lines count from 1.
+    DumpRefused { line: u32, why: DumpWhy },
+    /// This record of the input is the first that is none; records count from 1.
+    RecordRefused { number: u32, why: RecordWhy },
+    /// The last record of the input has no NUL, and this number.
+    Unended { number: u32 },
+    /// The second record is the first whose path an earlier one has for another entry, and the
+    /// first one is the first with that path.
+    Doubled { first: u32, second: u32 },
+    /// A quantity is past its greatest value.
+    Limit { which: LimitKind },
+    /// The report was written, and tells so many errors of a walk.
+    WalkErrors { count: u32 },
+    /// The report was written, and tells so many paths that differ or have no record.
+    Differs { count: u32 },
+    /// A file or the input could not be read.
+    ReadFault,
+    /// The dump or the report could not be written.
+    WriteFault,
+    /// There was not enough memory.
+    OutOfMemory,
+}
+
+/// What a run answers.
+#[derive(Debug, Drop)]
+pub struct Outcome {
+    /// The exit status.
+    pub status: u8,
+    /// How the run ended.
+    pub cause: Cause,
+}
+
+impl From<OutOfMemory> for Cause {
+    ghost from_gives = { λ _ cause. cause ≡ causes.OutOfMemory };
+
+    fn from(_refused: OutOfMemory) -> Cause {
+        Cause::OutOfMemory
+    }
+}
