@@ -1,12 +1,15 @@
 -- Which bytes a class has.
-use Rattle.std.proofs.Common.{◌≡◌, refl, sym, subst, ℕ, ◌+◌, ◌<◌, ◌≤◌, ◌==◌, Bool, true, false, cond, List, [], ◌∷◌, zero, suc, ◌⊎◌, inl, inr, arith}
-use Rattle.std.specs.Prelude.{filter, ◌||◌}
+use Rattle.std.proofs.Common.{◌≡◌, refl, sym, subst, ℕ, ◌+◌, ◌<◌, ◌≤◌, ◌==◌, not, Bool, true, false, cond, List, [], ◌∷◌, length, get_or, zero, suc, None, ◌⊎◌, inl, inr, Decides, arith}
+use Rattle.std.specs.Prelude.{filter, slice_get, ◌||◌}
 use Rattle.std.specs.List.{list_any, range_with_len}
+use Rattle.std.proofs.lemmas.Bool.Decides.{Decides-eqb, Decides-like}
+use Rattle.std.proofs.lemmas.Option.{slice_get_past, slice_get_read}
+use Rattle.pattern_syntax.specs.declared.byte_set.ByteSet.{ByteSet}
 use Rattle.pattern_syntax.specs.ByteSet.{bytes_with, has_byte}
 use Rattle.pattern_match.specs.declared.class.Class.{Class}
 use Rattle.pattern_match.specs.declared.class.Class.TheVariants.{Byte, Set}
-use Rattle.pattern_match.specs.Class.{class_bytes, takes}
-use Rattle.pattern_match.proofs.Language.{or_either}
+use Rattle.pattern_match.specs.Class.{HasEachByte, class_bytes, has_class, takes, takes_at}
+use Rattle.pattern_match.proofs.Language.{and_second, or_either}
 use Rattle.pattern_match.specs.Residuals.{is_some_list}
 
 or_right : (x y : Bool) → y ≡ true → (x || y) ≡ true
@@ -99,3 +102,30 @@ class_takes (Set set) b m = at (is_zero b)
     at : (b ≡ 0) ⊎ (0 < b) → takes (Set set) b ≡ list_any (λ c. c == b) (bytes_with (has_byte set))
     at (inl e) = rw e (no_zero (has_byte set))
     at (inr l) = let n : (b == 0) ≡ false = grind arith in rw n (set_bytes (has_byte set) b l m)
+
+-- ---- classes of every byte that texts have
+
+pub byte_lacks : (class : Class) (c : ℕ) → class ≡ Byte c → HasEachByte (takes class) → ⊥
+byte_lacks class c e h =
+    let each : HasEachByte (takes (Byte c)) = subst (λ k. HasEachByte (takes k)) e h in
+    let one : c ≡ 1 = (Decides-eqb c 1).0 (each 1 (omega arith) (omega arith)) in
+    let two : c ≡ 2 = (Decides-eqb c 2).0 (each 2 (omega arith) (omega arith)) in
+    omega arith
+
+set_takes : (set : ByteSet) → HasEachByte (has_byte set) → HasEachByte (takes (Set set))
+set_takes set h b l m = let n : (b == 0) ≡ false = grind arith in rw n (h b l m)
+
+takes_set : (set : ByteSet) → HasEachByte (takes (Set set)) → HasEachByte (has_byte set)
+takes_set set h b l m = and_second (not (b == 0)) _ (h b l m)
+
+pub set_each : (set : ByteSet) (v : Bool) → Decides v (HasEachByte (has_byte set)) → Decides v (HasEachByte (takes (Set set)))
+set_each set v d = Decides-like v (set_takes set) (takes_set set) d
+
+pub none_each : (classes : List Class) (i : ℕ) → length classes ≤ i → HasEachByte (takes_at classes i) → ⊥
+none_each classes i l h =
+    let n : slice_get classes i ≡ None = slice_get_past classes i l in
+    let e : has_class None 1 ≡ true = subst (λ o. has_class o 1 ≡ true) n (h 1 (omega arith) (omega arith)) in
+    cc
+
+pub some_each : (classes : List Class) (i : ℕ) (class : Class) (v : Bool) → i < length classes → class ≡ get_or classes i class → Decides v (HasEachByte (takes class)) → Decides v (HasEachByte (takes_at classes i))
+some_each classes i class v l e d = subst (λ o. Decides v (HasEachByte (has_class o))) (sym (slice_get_read classes (length classes) i class refl l e)) d

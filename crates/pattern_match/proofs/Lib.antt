@@ -13,6 +13,7 @@ pub mod Stepping
 pub mod Onwards
 pub mod WordBits
 pub mod LowestBits
+pub mod Sweeps
 pub mod Keeping
 pub mod Rows
 pub mod RunTables

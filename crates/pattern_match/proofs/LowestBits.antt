@@ -9,6 +9,7 @@ use Rattle.std.proofs.lemmas.Nat.Bits.{bit_at_and, bit_at-zero, bit_at-suc, bit_
 use Rattle.std.proofs.lemmas.List.{get_or-set_same}
 use Rattle.pattern_match.specs.States.{bit}
 use Rattle.pattern_match.specs.Tables.{any_below, any_bit}
+use Rattle.pattern_match.proofs.WordBits.{bit_in_word}
 
 -- the number below has the same bits above the lowest one, and not that one
 same_above : (t n m j : ℕ) → m + 1 ≡ n → bit_at n t ≡ 1 → ((i : ℕ) → i < t → bit_at n i ≡ 0) → t < j → bit_at m j ≡ bit_at n j
@@ -171,12 +172,6 @@ still_marked n j p l h = at (equal_or_not j (trailing_zeros w64 n))
     at : (j ≡ trailing_zeros w64 n) ⊎ (j ≢ trailing_zeros w64 n) → bit_at n j ≡ 1
     at (inl e) = let z : bit_at (bit_and n (n - 1)) j ≡ 0 = rw e (lowest_gone n p l) in absurd (omega arith)
     at (inr e) = sym (others_stay n j p l e) ∙ h
-
-bit_in_word : (marks : List ℕ) (i j : ℕ) → j < 64 → bit marks (64 * i + j) ≡ (bit_at (get_or marks i 0) j == 1)
-bit_in_word marks i j l =
-    let p : (64 * i + j) / 64 ≡ i = omega arith in
-    let q : (64 * i + j) % 64 ≡ j = omega arith in
-    rw (p, q) refl
 
 word_rows : (marks : List ℕ) (i n : ℕ) (test : ℕ → Bool) → n ≤ 64 → any_below (λ j. bit marks (64 * i + j) && test (64 * i + j)) n ≡ any_below (λ j. (bit_at (get_or marks i 0) j == 1) && test (64 * i + j)) n
 word_rows marks i n test l = same_below _ _ n (λ j u. ap (λ v. v && test (64 * i + j)) (bit_in_word marks i j (omega arith)))

@@ -6,6 +6,7 @@ use Rattle.pattern_syntax.specs.Tree.{Tree}
 use Rattle.pattern_syntax.specs.Language.{In}
 use Rattle.pattern_match.specs.Residuals.{residuals, is_some_list}
 use Rattle.pattern_match.specs.Automaton.{automaton, all_places}
+use Rattle.pattern_match.specs.Settled.{MarksLeadOnward}
 use Rattle.pattern_match.specs.States.{bit, is_bare, AreMarks, IsMarked, AreMarksBy, IsBehindBy, AreMarksOf, IsBehind, IsRead}
 use Rattle.pattern_match.specs.Onwards.{AreTextBytes}
 use Rattle.pattern_syntax.specs.Nodes.{tree_of}
@@ -14,8 +15,9 @@ use Rattle.pattern_match.specs.Tables.{AreTables}
 use Rattle.pattern_match.specs.declared.machine.Machine.TheInside.{Inside}
 use Rattle.pattern_match.specs.declared.class.Class.{Class}
 use Rattle.pattern_match.proofs.Language.{and_first, and_second, empty_in}
-use Rattle.pattern_match.proofs.Onwards.{LeadsOnward, onward_left}
+use Rattle.pattern_match.proofs.Onwards.{onward_left}
 use Rattle.pattern_match.proofs.Running.{Runs, automaton_runs, no_first}
+use Rattle.pattern_match.proofs.WordBits.{bit_within}
 use Rattle.pattern_match.proofs.Stepping.{IsStep, IsEnd, IsAny, step_onto, step_from, end_from, end_onto, any_left, left_any}
 use Rattle.pattern_match.proofs.RunTables.{IsMachine, start_made, start_stands, wide, stepped_states}
 
@@ -48,6 +50,12 @@ some_behind t marks text e a = subst (λ v. IsBehindBy v t marks text) (sym e) a
 
 pub bare_behind : (t : Tree) (marks text : List ℕ) → is_bare t ≡ true → (IsBehind t marks text → text ≡ []) × (text ≡ [] → IsBehind t marks text)
 bare_behind t marks text e = (λ a. subst (λ v. IsBehindBy v t marks text) e a, λ a. subst (λ v. IsBehindBy v t marks text) (sym e) a)
+
+pub bare_unmarked : (t : Tree) (marks : List ℕ) → is_bare t ≡ true → AreMarksOf t marks → (p : ℕ) → bit marks p ≡ true → ⊥
+bare_unmarked t marks e a p h =
+    let n : length marks ≡ 0 = subst (λ v. AreMarksBy v t marks) e a in
+    let l = bit_within marks p h in
+    omega arith
 
 pub record IsReady (t : Tree) (bare : Bool) (rows width : ℕ) (follow accept : List ℕ) (classes : List Class) : Type 0 where
   pub bare_is : bare ≡ is_bare t
@@ -107,8 +115,8 @@ end_behind t marks v e s = (λ h. some_behind t marks [] e (end_from t marks v s
 pub bare_ends : (t : Tree) (marks : List ℕ) → is_bare t ≡ true → (true ≡ true → IsBehind t marks []) × (IsBehind t marks [] → true ≡ true)
 bare_ends t marks e = (λ h. (bare_behind t marks [] e).1 refl, λ a. refl)
 
-pub all_behind : (t : Tree) (marks : List ℕ) → is_bare t ≡ false → ((k : ℕ) × (bit marks k ≡ true) × LeadsOnward (all_places (automaton t)) k) → (text : List ℕ) → AreTextBytes text → IsBehind t marks text
-all_behind t marks e s text a = some_behind t marks text e (onward_left t marks s.0 s.1 s.2 text a)
+pub all_behind : (t : Tree) (marks : List ℕ) → is_bare t ≡ false → MarksLeadOnward t marks → (text : List ℕ) → AreTextBytes text → IsBehind t marks text
+all_behind t marks e s text a = some_behind t marks text e (onward_left t marks s text a)
 
 pub any_behind : (t : Tree) (marks : List ℕ) (v : Bool) → is_bare t ≡ false → AreMarksOf t marks → IsAny marks v → v ≡ true → (text : List ℕ) × IsBehind t marks text
 any_behind t marks v e a s h = let r = any_left t marks v (some_marks t marks e a) s h in (r.0, some_behind t marks r.0 e r.1)

@@ -1,5 +1,5 @@
 -- A matcher's tables and what its calls do to sets of states.
-use Rattle.std.proofs.Common.{◌≡◌, refl, sym, ◌∙◌, ap, subst, ℕ, zero, suc, ◌+◌, ◌-◌, ◌*◌, ◌/◌, ◌<◌, ◌≤◌, ◌==◌, Bool, true, false, List, [], ◌∷◌, length, map, None, ◌⊎◌, inl, inr, arith}
+use Rattle.std.proofs.Common.{◌≡◌, refl, sym, ◌∙◌, ap, subst, ℕ, zero, suc, ◌+◌, ◌-◌, ◌*◌, ◌/◌, ◌<◌, ◌≤◌, ◌==◌, Bool, true, false, List, [], ◌∷◌, length, map, None, ◌⊎◌, inl, inr, ◌↔◌, arith}
 use Rattle.std.specs.Prelude.{◌&&◌, slice_get, nat_lt}
 use Rattle.std.proofs.lemmas.List.{length-map}
 use Rattle.std.specs.List.{list_any}
@@ -9,15 +9,15 @@ use Rattle.pattern_match.specs.declared.class.Class.{Class}
 use Rattle.pattern_match.proofs.Classes.{class_takes}
 use Rattle.pattern_match.specs.Residuals.{all_residuals, has_texts}
 use Rattle.pattern_match.specs.Automaton.{Place, automaton, all_places}
-use Rattle.pattern_match.specs.States.{bit, width_of, AreMarks}
-use Rattle.pattern_match.specs.Loops.{IsLoop, HaveRows, LeadsToLoop, HasLoop, IsSteady}
+use Rattle.pattern_match.specs.States.{bit, width_of, is_bare, AreMarks}
+use Rattle.pattern_match.specs.Loops.{IsLoop, HaveRows, LeadsToLoop, HasLoop, IsSteady, AreSteady}
+use Rattle.pattern_match.specs.Settled.{IsOnward, LeadsOnward, MarksLeadOnward, IsSteadyPlace, MarksStay}
 use Rattle.pattern_match.specs.Tables.{AreTables, leads, ends, has, any_below, bytes_in}
 use Rattle.pattern_match.proofs.Language.{and_first, and_second, and_both, or_either, or_left, or_right}
-use Rattle.pattern_match.proofs.WordBits.{bit_within}
+use Rattle.pattern_match.proofs.WordBits.{bit_within, no_word}
 use Rattle.pattern_match.proofs.Rows.{get_past, row_within}
 use Rattle.pattern_match.proofs.LowestBits.{any_past}
-use Rattle.pattern_match.proofs.Onwards.{IsOnward, LeadsOnward}
-use Rattle.pattern_match.proofs.Stepping.{IsStep, IsEnd, IsStart, Starts, as_many, starts}
+use Rattle.pattern_match.proofs.Stepping.{IsStep, IsEnd, IsStart, Starts, as_many, next_within, starts}
 
 any_from : (test : ℕ → Bool) (n : ℕ) → any_below test n ≡ true → (p : ℕ) × (p < n) × (test p ≡ true)
 any_from test zero h = cc
@@ -124,14 +124,12 @@ module _ (ps : List Place) (width : ℕ) (follow accept : List ℕ) (classes : L
       let w : k < 64 * width = omega arith in
       (w, sym (t.last k w) ∙ a)
 
-  machine_loops : (k : ℕ) → bit accept k ≡ true → IsLoop (length accept) follow classes k → IsOnward ps k
-  machine_loops k a h =
-      let e = ended_within k a in
-      record {
-        last = e.1;
-        again = sym (t.follows k k (ends_within ps k e.1) e.0) ∙ subst (λ w. bit follow (64 * (k * w) + k) ≡ true) t.accepts h.again;
-        takes = λ b u v. sym (taken b k v) ∙ h.takes b u v;
-      }
+  ends_within_row : (k : ℕ) → ends (slice_get ps k) ≡ true → (k < 64 * width) × (bit accept k ≡ true)
+  ends_within_row k e =
+      let l = ends_within ps k e in
+      let f = rows_fit in
+      let w : k < 64 * width = omega arith in
+      (w, t.last k w ∙ e)
 
   machine_rows : HaveRows accept follow
   machine_rows k a =
@@ -140,32 +138,64 @@ module _ (ps : List Place) (width : ℕ) (follow accept : List ℕ) (classes : L
       let f = t.rows in
       rw (n, f) w
 
-  machine_leads : (k : ℕ) → bit accept k ≡ true → LeadsToLoop accept follow classes (k * length accept) → LeadsOnward ps k
-  machine_leads k a h =
-      let e = (ended_within k a).1 in
-      let l = (ended_within h.next h.last).0 in
+  follow_bit : (n p q : ℕ) → n ≡ width → p < length ps → q < 64 * width → bit follow (64 * (p * n) + q) ≡ leads (slice_get ps p) q
+  follow_bit n p q e l u = subst (λ w. bit follow (64 * (p * w) + q) ≡ leads (slice_get ps p) q) (sym e) (t.follows p q l u)
+
+  loop_onward : (k : ℕ) → bit accept k ≡ true → IsLoop (length accept) follow classes k → IsOnward ps k
+  loop_onward k a h =
+      let e = ended_within k a in
       record {
-        last = e;
-        next = h.next;
-        follows = sym (t.follows k h.next (ends_within ps k e) l) ∙ subst (λ w. bit follow (64 * (k * w) + h.next) ≡ true) t.accepts h.follows;
-        onward = machine_loops h.next h.last h.loops;
+        last = e.1;
+        again = sym (follow_bit (length accept) k k t.accepts (ends_within ps k e.1) e.0) ∙ h.again;
+        takes = λ b u v. sym (taken b k v) ∙ h.takes b u v;
       }
 
-  machine_stays : (states : List ℕ) (b : ℕ) → 0 < b → b < 256 → length states ≡ width → ((p : ℕ) → bit states p ≡ true → IsSteady states follow classes p) → IsStep ps states states b
-  machine_stays states b l m n h = record {
-    onto = λ p q u v w.
-        let lp = leads_within ps p q v in
-        let lq = has_within ps q b w in
-        let f = rows_fit in
-        let r : bit follow (64 * (p * width) + q) ≡ true = t.follows p q lp (omega arith) ∙ v in
-        sym ((h p u).same q (omega arith)) ∙ subst (λ w. bit follow (64 * (p * w) + q) ≡ true) (sym n) r;
-    from = λ q u.
-        let s = h q u in
-        let k : has (slice_get ps q) b ≡ true = sym (taken b q m) ∙ s.takes b l m in
-        let lq = has_within ps q b k in
-        let f = rows_fit in
-        let r : bit follow (64 * (q * width) + q) ≡ true = subst (λ w. bit follow (64 * (q * w) + q) ≡ true) n (s.same q (omega arith) ∙ u) in
-        (k, (q, u, sym (t.follows q q lq (omega arith)) ∙ r));
+  onward_loop : (k : ℕ) → IsOnward ps k → IsLoop (length accept) follow classes k
+  onward_loop k s = record {
+    again = follow_bit (length accept) k k t.accepts (ends_within ps k s.last) (ends_within_row k s.last).0 ∙ s.again;
+    takes = λ b u v. taken b k v ∙ s.takes b u v;
+  }
+
+  leads_onward : (k : ℕ) → bit accept k ≡ true → LeadsToLoop accept follow classes (k * length accept) → LeadsOnward ps k
+  leads_onward k a h =
+      let e = (ended_within k a).1 in
+      let l = (ended_within h.0 h.1.last).0 in
+      record {
+        last = e;
+        next = h.0;
+        follows = sym (follow_bit (length accept) k h.0 t.accepts (ends_within ps k e) l) ∙ h.1.follows;
+        onward = loop_onward h.0 h.1.last h.1.loops;
+      }
+
+  onward_leads : (k : ℕ) → LeadsOnward ps k → LeadsToLoop accept follow classes (k * length accept)
+  onward_leads k s =
+      let l = ends_within_row s.next s.onward.last in (
+        s.next,
+        record {
+          follows = follow_bit (length accept) k s.next t.accepts (ends_within ps k s.last) l.0 ∙ s.follows;
+          last = l.1;
+          loops = onward_loop s.next s.onward;
+        },
+      )
+
+  steady_place : (marks : List ℕ) (p : ℕ) → length marks ≡ width → p < length ps → ((q : ℕ) → leads (slice_get ps p) q ≡ true → q < length ps) → IsSteady marks follow classes p → IsSteadyPlace ps marks p
+  steady_place marks p n l within h = record {
+    same = λ q. at q (within_or_past q (64 * width));
+    takes = λ b u v. sym (taken b p v) ∙ h.takes b u v;
+  }
+    where
+      past : (q : ℕ) → 64 * width ≤ q → (v : Bool) → leads (slice_get ps p) q ≡ v → leads (slice_get ps p) q ≡ false
+      past q u false e = e
+      past q u true e = let f = rows_fit in let i = within q e in absurd (omega arith)
+
+      at : (q : ℕ) → (q < 64 * width) ⊎ (64 * width ≤ q) → leads (slice_get ps p) q ≡ bit marks q
+      at q (inl u) = sym (follow_bit (length marks) p q n l u) ∙ h.same q (omega arith)
+      at q (inr u) = past q u (leads (slice_get ps p) q) refl ∙ sym (no_word marks q (omega arith))
+
+  place_steady : (marks : List ℕ) (p : ℕ) → length marks ≡ width → p < length ps → IsSteadyPlace ps marks p → IsSteady marks follow classes p
+  place_steady marks p n l s = record {
+    same = λ q u. follow_bit (length marks) p q n l (omega arith) ∙ s.same q;
+    takes = λ b u v. taken b p v ∙ s.takes b u v;
   }
 
   machine_starts : (states : List ℕ) → length states ≡ width → ((k : ℕ) → k < 64 * length states → bit states k ≡ (nat_lt 0 (length ps) && (length ps - 1 == k))) → IsStart ps states
@@ -197,6 +227,13 @@ started_states t states n s = record {
     at : (k : ℕ) → length (all_residuals t) ≤ k → (v : Bool) → bit states k ≡ v → bit states k ≡ false
     at k l false e = e
     at k l true e = let w = s.from k e in let m = as_many t in absurd (omega arith)
+
+marked_within : (t : Tree) (marks : List ℕ) → AreMarks t marks → (p : ℕ) → bit marks p ≡ true → p < length (all_places (automaton t))
+marked_within t marks a p h = at (within_or_past p (length (all_places (automaton t))))
+  where
+    at : (p < length (all_places (automaton t))) ⊎ (length (all_places (automaton t)) ≤ p) → p < length (all_places (automaton t))
+    at (inl l) = l
+    at (inr l) = let n = as_many t in let e : bit marks p ≡ false = a.none_past p (omega arith) in let d : true ≡ false = sym h ∙ e in cc
 
 -- the tables of a pattern
 pub record IsMachine (t : Tree) (rows width : ℕ) (follow accept : List ℕ) (classes : List Class) : Type 0 where
@@ -230,11 +267,12 @@ module _ (t : Tree) (rows width : ℕ) (follow accept : List ℕ) (classes : Lis
   follow_in old a = let n = wide old a in let r = m.rows_is in let f = m.tables.rows in rw (n, r, f) (omega arith)
 
   pub marked_in : (old : List ℕ) → AreMarks t old → (p : ℕ) → bit old p ≡ true → p * length old + length old ≤ length follow
-  marked_in old a p h = at (within_or_past p rows)
-    where
-      at : (p < rows) ⊎ (rows ≤ p) → p * length old + length old ≤ length follow
-      at (inl l) = let f = follow_in old a in let w = row_within p rows (length old) l in omega arith
-      at (inr l) = let n = as_many t in let r = m.rows_is in let e : bit old p ≡ false = a.none_past p (omega arith) in let d : true ≡ false = sym h ∙ e in cc
+  marked_in old a p h =
+      let n = marked_within t old a p h in
+      let r = m.rows_is in
+      let f = follow_in old a in
+      let w = row_within p rows (length old) (omega arith) in
+      omega arith
 
   -- no state stands past the rows
   pub all_rows : (old : List ℕ) (test : ℕ → Bool) → AreMarks t old → any_below (λ p. bit old p && test p) (64 * length old) ≡ any_below (λ p. bit old p && test p) rows
@@ -251,20 +289,45 @@ module _ (t : Tree) (rows width : ℕ) (follow accept : List ℕ) (classes : Lis
   pub end_is : (states : List ℕ) (v : Bool) → AreMarks t states → ((k : ℕ) → bit states k ≡ true → bit accept k ≡ true → v ≡ true) → (v ≡ true → (k : ℕ) × (bit states k ≡ true) × (bit accept k ≡ true)) → IsEnd (all_places (automaton t)) states v
   end_is states v a f g = machine_ends (all_places (automaton t)) width follow accept classes m.tables states v (wide states a) f g
 
-  pub loop_at : (states shown kept table : List ℕ) (bytes : List Class) → shown ≡ states → kept ≡ accept → table ≡ follow → bytes ≡ classes → HasLoop shown kept table bytes → (k : ℕ) × (bit states k ≡ true) × LeadsOnward (all_places (automaton t)) k
-  loop_at states shown kept table bytes e f g i h =
-      let l : HasLoop states accept follow classes =
-      subst (λ w. HasLoop w accept follow classes) e
-      (subst (λ w. HasLoop shown w follow classes) f
-      (subst (λ w. HasLoop shown kept w classes) g
-      (subst (λ w. HasLoop shown kept table w) i h))) in
-      (l.state, l.marked, machine_leads (all_places (automaton t)) width follow accept classes m.tables l.state l.last l.leads)
+  -- the tables' loops are places that lead onward, and their steady states are steady places
+  loops_onward : (states : List ℕ) → HasLoop states accept follow classes ↔ MarksLeadOnward t states
+  loops_onward states = (
+    λ h. record {
+      place = h.0;
+      marked = h.1.marked;
+      onward = leads_onward (all_places (automaton t)) width follow accept classes m.tables h.0 h.1.last h.1.leads;
+    },
+    λ s. (
+      s.place,
+      record {
+        marked = s.marked;
+        last = (ends_within_row (all_places (automaton t)) width follow accept classes m.tables s.place s.onward.last).1;
+        leads = onward_leads (all_places (automaton t)) width follow accept classes m.tables s.place s.onward;
+      },
+    ),
+  )
 
-  pub stays_at : (states shown table : List ℕ) (bytes : List Class) → shown ≡ states → table ≡ follow → bytes ≡ classes → AreMarks t states → ((p : ℕ) → bit shown p ≡ true → IsSteady shown table bytes p) → (b : ℕ) → 0 < b → b < 256 → IsStep (all_places (automaton t)) states states b
-  stays_at states shown table bytes e f g a h b l m' =
-      let F : List ℕ → List ℕ → List Class → Type 0 = λ s w c. (p : ℕ) → bit s p ≡ true → IsSteady s w c p in
-      machine_stays (all_places (automaton t)) width follow accept classes m.tables states b l m' (wide states a)
-      (subst (λ s. F s follow classes) e (subst (λ w. F shown w classes) f (subst (F shown table) g h)))
+  steady_stay : (states : List ℕ) → is_bare t ≡ false → AreMarks t states → AreSteady states follow classes ↔ MarksStay t states
+  steady_stay states b a = (
+    λ h. record {
+      some = b;
+      each = λ p i. steady_place (all_places (automaton t)) width follow accept classes m.tables states p (wide states a) (marked_within t states a p i) (next_within t p) (h p i);
+    },
+    λ s p i. place_steady (all_places (automaton t)) width follow accept classes m.tables states p (wide states a) (marked_within t states a p i) (s.each p i),
+  )
+
+  pub loops_at : (states shown kept table : List ℕ) (bytes : List Class) → shown ≡ states → kept ≡ accept → table ≡ follow → bytes ≡ classes → HasLoop shown kept table bytes ↔ MarksLeadOnward t states
+  loops_at states shown kept table bytes e f g i =
+      subst (λ w. HasLoop w kept table bytes ↔ MarksLeadOnward t states) (sym e)
+      (subst (λ w. HasLoop states w table bytes ↔ MarksLeadOnward t states) (sym f)
+      (subst (λ w. HasLoop states accept w bytes ↔ MarksLeadOnward t states) (sym g)
+      (subst (λ w. HasLoop states accept follow w ↔ MarksLeadOnward t states) (sym i) (loops_onward states))))
+
+  pub steady_at : (states shown table : List ℕ) (bytes : List Class) → shown ≡ states → table ≡ follow → bytes ≡ classes → is_bare t ≡ false → AreMarks t states → AreSteady shown table bytes ↔ MarksStay t states
+  steady_at states shown table bytes e f g b a =
+      subst (λ w. AreSteady w table bytes ↔ MarksStay t states) (sym e)
+      (subst (λ w. AreSteady states w bytes ↔ MarksStay t states) (sym f)
+      (subst (λ w. AreSteady states follow w ↔ MarksStay t states) (sym g) (steady_stay states b a)))
 
   pub rows_at : (states shown table : List ℕ) → shown ≡ states → table ≡ follow → AreMarks t states → (p : ℕ) → bit shown p ≡ true → p * length shown + length shown ≤ length table
   rows_at states shown table e f a =

@@ -1,5 +1,5 @@
 -- What states stand for: the literal start, and then the marks behind it.
-use Rattle.std.proofs.Common.{◌≡◌, ◌≢◌, refl, sym, ◌∙◌, ap, subst, ℕ, zero, suc, ◌+◌, ◌-◌, ◌<◌, ◌≤◌, Bool, true, false, List, [], ◌∷◌, ◌++◌, length, take, drop, get_or, arith, append_assoc, append-nil, nat_eq, eq-eqb, length-append}
+use Rattle.std.proofs.Common.{◌≡◌, ◌≢◌, refl, sym, ◌∙◌, ap, subst, ℕ, zero, suc, ◌+◌, ◌-◌, ◌<◌, ◌≤◌, Bool, true, false, List, [], ◌∷◌, ◌++◌, length, take, drop, get_or, inl, inr, arith, append_assoc, append-nil, nat_eq, eq-eqb, length-append}
 use Rattle.std.specs.Prelude.{◌&&◌}
 use Rattle.std.specs.List.{starts_with}
 use Rattle.std.proofs.lemmas.List.{drop_more, take_all, length-drop}
@@ -8,6 +8,7 @@ use Rattle.pattern_syntax.specs.Language.{In, Opens, holds}
 use Rattle.pattern_syntax.specs.Literal.{literal_start_of}
 use Rattle.pattern_match.specs.Onwards.{AreTextBytes, TakesAll}
 use Rattle.pattern_match.specs.Starts.{behind_start}
+use Rattle.pattern_match.specs.Settled.{MarksLeadOnward, StatesLeadOnward, MarksStay, StatesStay}
 use Rattle.pattern_match.specs.States.{Progress, IsLeft, IsBehind, StandsFor, is_bare}
 use Rattle.pattern_match.proofs.Cutting.{cut_behind_start}
 use Rattle.pattern_match.proofs.Holding.{holds_tells}
@@ -200,6 +201,42 @@ module _ (t : Tree) (start : List ℕ) (machine : Tree) (s : start ≡ literal_s
   takes_all inside states n i l e h =
       takes_rest t states (ap (λ (p : Progress). p.seen) (sym i) ∙ e ∙ l ∙ ap length s)
       (subst (λ b. (rest : List ℕ) → AreTextBytes rest → IsBehind b states.marks rest) m (subst (λ (p : Progress). (rest : List ℕ) → AreTextBytes rest → IsBehind machine p.marks rest) i h))
+
+  whole_start : (inside states : Progress) (n : ℕ) → inside ≡ states → n ≡ length start → inside.seen ≡ n → states.seen ≡ length (literal_start_of t)
+  whole_start inside states n i l e = ap (λ (p : Progress). p.seen) (sym i) ∙ e ∙ l ∙ ap length s
+
+  pub leads_at : (inside states : Progress) (n : ℕ) (v : Bool) → inside ≡ states → n ≡ length start → inside.seen ≡ n → Tells v (MarksLeadOnward machine inside.marks) → Tells v (StatesLeadOnward t states)
+  leads_at inside states n v i l e h =
+      let d : Tells v (MarksLeadOnward (behind_start t) states.marks) = subst (λ b. Tells v (MarksLeadOnward b states.marks)) m (subst (λ (p : Progress). Tells v (MarksLeadOnward machine p.marks)) i h) in
+      (λ a. record { whole = whole_start inside states n i l e; behind = d.0 a }, λ a. d.1 a.behind)
+
+  pub leads_not : (inside states : Progress) (n : ℕ) → inside ≡ states → n ≡ length start → (inside.seen ≡ n → ⊥) → Tells false (StatesLeadOnward t states)
+  leads_not inside states n i l d = false_tells (StatesLeadOnward t states) (λ a. d (ap (λ (p : Progress). p.seen) i ∙ a.whole ∙ ap length (sym s) ∙ sym l))
+
+  pub stays_at : (inside states : Progress) (n : ℕ) (v : Bool) → inside ≡ states → n ≡ length start → inside.seen ≡ n → Tells v (MarksStay machine inside.marks) → Tells v (StatesStay t states)
+  stays_at inside states n v i l e h =
+      let d : Tells v (MarksStay (behind_start t) states.marks) = subst (λ b. Tells v (MarksStay b states.marks)) m (subst (λ (p : Progress). Tells v (MarksStay machine p.marks)) i h) in
+      (λ a. inr (whole_start inside states n i l e, d.0 a), at d.1)
+    where
+      at : (MarksStay (behind_start t) states.marks → v ≡ true) → StatesStay t states → v ≡ true
+      at f (inl a) = let w = whole_start inside states n i l e in absurd (omega arith)
+      at f (inr a) = f a.1
+
+  pub stays_past : (inside states : Progress) (n : ℕ) → inside ≡ states → n ≡ length start → n < inside.seen → Tells true (StatesStay t states)
+  stays_past inside states n i l e = let q : inside.seen ≡ states.seen = ap (λ (p : Progress). p.seen) i in let r : length start ≡ length (literal_start_of t) = ap length s in (λ _. inl (omega arith), λ _. refl)
+
+  pub stays_before : (inside states : Progress) (n : ℕ) → inside ≡ states → n ≡ length start → inside.seen < n → Tells false (StatesStay t states)
+  stays_before inside states n i l e = false_tells (StatesStay t states) at
+    where
+      seen : inside.seen ≡ states.seen
+      seen = ap (λ (p : Progress). p.seen) i
+
+      long : length start ≡ length (literal_start_of t)
+      long = ap length s
+
+      at : StatesStay t states → ⊥
+      at (inl a) = let q = seen in let r = long in omega arith
+      at (inr a) = let q = seen in let r = long in let w = a.0 in omega arith
 
   pub is_dead : (inside states : Progress) (n : ℕ) → inside ≡ states → n ≡ length start → n < inside.seen → (text : List ℕ) → StandsFor t states text → Tells false (Opens t text)
   is_dead inside states n i l e = let q : inside.seen ≡ states.seen = ap (λ (p : Progress). p.seen) i in let r : length start ≡ length (literal_start_of t) = ap length s in dead_opens t states (omega arith)

@@ -9,7 +9,7 @@ use Rattle.pattern_match.specs.Automaton.{Place, automaton, all_places}
 use Rattle.pattern_match.specs.States.{bit, AreMarks, IsMarked}
 use Rattle.pattern_match.specs.Tables.{leads, ends, has}
 use Rattle.pattern_match.proofs.Language.{has_text, text_of, empty_in, in_empty, or_either, or_left, or_right}
-use Rattle.pattern_match.proofs.Running.{Takes, Goes, Good, AllGood, Runs, automaton_runs, good_length, good_append, good_all, good_left, goes_more, goes_less, within_more, get_right}
+use Rattle.pattern_match.proofs.Running.{Takes, Goes, Within, Good, AllGood, Runs, automaton_runs, good_length, good_append, good_all, good_left, goes_more, goes_less, within_more, get_right}
 
 start_good : (t : Tree) (zs : List Residual) → Runs (automaton t) t zs → has_texts t ≡ true → Good (zs ++ (0 ∷ [], t) ∷ []) (record { bytes = 0 ∷ []; is_last = (automaton t).holds_empty; next = (automaton t).first }) (0 ∷ [], t)
 start_good t zs r l = record {
@@ -88,6 +88,20 @@ place_good zs (q ∷ ps) (s ∷ rs) a (suc k) p h = place_good zs ps rs a.1 k p 
 
 pub residual_at : (t : Tree) (k : ℕ) (p : Place) → slice_get (all_places (automaton t)) k ≡ Some p → (r : Residual) × (slice_get (all_residuals t) k ≡ Some r) × Good (all_residuals t) p r
 residual_at t k p h = place_good (all_residuals t) (all_places (automaton t)) (all_residuals t) (all_good t (has_texts t) refl) k p h
+
+any_within : (n : ℕ) (qs : List ℕ) (q : ℕ) → Within n qs → list_any (λ m. m == q) qs ≡ true → q < n
+any_within n [] q w h = cc
+any_within n (m ∷ qs) q w h = elim (or_either (m == q) _ h) [ inl e ↦ (let f : m ≡ q = grind arith in let g : m < n = w.0 in omega arith) | inr r ↦ any_within n qs q w.1 r ]
+
+-- what follows a place is a place
+pub next_within : (t : Tree) (p q : ℕ) → leads (slice_get (all_places (automaton t)) p) q ≡ true → q < length (all_places (automaton t))
+next_within t p q h =
+    let f = leads_from (slice_get (all_places (automaton t)) p) q h in
+    let r = residual_at t p f.0 f.1 in
+    let l : list_any (λ n. n == q) f.0.next ≡ true = rw f.1 at h in
+    let w : q < length (all_residuals t) = any_within (length (all_residuals t)) f.0.next q r.2.within l in
+    let n = as_many t in
+    omega arith
 
 pub step_from : (t : Tree) (old new : List ℕ) (b : ℕ) → IsStep (all_places (automaton t)) old new b → (rest : List ℕ) → IsMarked t new rest → IsMarked t old (b ∷ rest)
 step_from t old new b s rest (q, z, e, m, i) =

@@ -4,7 +4,8 @@ use Rattle.std.specs.Prelude.{◌||◌, ◌&&◌, bit_and, bit_or}
 use Rattle.std.specs.Int.{bit_at, trailing_zeros}
 use Rattle.std.proofs.lemmas.List.{get_or-set_same, get_or-set_other, get_or_past}
 use Rattle.std.proofs.lemmas.Nat.{and_le_l}
-use Rattle.std.proofs.lemmas.Nat.Bits.{bit_at_set_same, bit_at_set_other, bit_at_and, bit_at_or, bit_at-zero, bit_at-lt, bit_at-trailing_zeros}
+use Rattle.std.proofs.lemmas.Nat.Bits.{bit_at_set_same, bit_at_set_other, bit_at_and, bit_at_or, bit_at-zero, bit_at-lt, bit_at-trailing_zeros, same_from_bits_below}
+use Rattle.pattern_match.specs.Loops.{IsRow}
 use Rattle.pattern_match.specs.States.{bit}
 use Rattle.pattern_match.specs.Tables.{any_below}
 
@@ -51,7 +52,7 @@ bit_set words start q l j = at (same_or_not (j / 64) (start + q / 64))
         rw (get_or-set_other words (start + q / 64) (j / 64) (bit_or (get_or words (start + q / 64) 0) (1 * 2 ^ (q % 64) % 18446744073709551616)) 0 e, or_false (bit words j) (j == 64 * start + q) (not_same j _ n)) refl
 
 -- no bit stands past the words
-no_word : (words : List ℕ) (k : ℕ) → 64 * length words ≤ k → bit words k ≡ false
+pub no_word : (words : List ℕ) (k : ℕ) → 64 * length words ≤ k → bit words k ≡ false
 no_word words k l = let g : get_or words (k / 64) 0 ≡ 0 = get_or_past words (k / 64) 0 (omega arith) in rw g (not_same _ 1 (let z : bit_at 0 (k % 64) ≡ 0 = bit_at-zero (k % 64) in rw z (λ e. omega arith)))
 
 pub bit_within : (words : List ℕ) (k : ℕ) → bit words k ≡ true → k < 64 * length words
@@ -108,6 +109,12 @@ no_bit words k g = rw g (not_same _ 1 (let z : bit_at 0 (k % 64) ≡ 0 = bit_at-
 pub one_bit : (n : ℕ) → n ≢ 0 → n < 2 ^ 64 → (i : ℕ) × (i < 64) × (bit_at n i ≡ 1)
 one_bit n z l = let t = bit_at-trailing_zeros w64 n (omega arith) l in (trailing_zeros w64 n, t.0, t.1)
 
+pub bit_in_word : (words : List ℕ) (i j : ℕ) → j < 64 → bit words (64 * i + j) ≡ (bit_at (get_or words i 0) j == 1)
+bit_in_word words i j l =
+    let p : (64 * i + j) / 64 ≡ i = omega arith in
+    let q : (64 * i + j) % 64 ≡ j = omega arith in
+    rw (p, q) refl
+
 pub bit_of_word : (words : List ℕ) (i t : ℕ) → t < 64 → bit_at (get_or words i 0) t ≡ 1 → bit words (64 * i + t) ≡ true
 bit_of_word words i t l e =
     let p : (64 * i + t) / 64 ≡ i = omega arith in
@@ -121,11 +128,33 @@ word_of_bit words i j l h =
     let e : (bit_at (get_or words i 0) j == 1) ≡ true = rw (p, q) at h in
     grind arith
 
+same_one : (x y : ℕ) → x < 2 → y < 2 → (x == 1) ≡ (y == 1) → x ≡ y
+same_one zero zero l m e = refl
+same_one zero (suc zero) l m e = cc
+same_one zero (suc (suc y)) l m e = absurd (omega arith)
+same_one (suc zero) zero l m e = cc
+same_one (suc zero) (suc zero) l m e = refl
+same_one (suc zero) (suc (suc y)) l m e = absurd (omega arith)
+same_one (suc (suc x)) y l m e = absurd (omega arith)
+
+-- words of a row with the bits of others are those
+pub same_word : (words table : List ℕ) (start i : ℕ) → i < length words → get_or table (start + i) 0 < 2 ^ 64 → get_or words i 0 < 2 ^ 64 → IsRow words table start → get_or table (start + i) 0 ≡ get_or words i 0
+same_word words table start i l m n h = same_from_bits_below 64 (get_or table (start + i) 0) (get_or words i 0) m n at
+  where
+    at : (j : ℕ) → j < 64 → bit_at (get_or table (start + i) 0) j ≡ bit_at (get_or words i 0) j
+    at j u =
+        let p : 64 * (start + i) + j ≡ 64 * start + (64 * i + j) = omega arith in
+        let e : bit table (64 * start + (64 * i + j)) ≡ bit words (64 * i + j) = h (64 * i + j) (omega arith) in
+        same_one (bit_at (get_or table (start + i) 0) j) (bit_at (get_or words i 0) j) (bit_at-lt _ _) (bit_at-lt _ _) (sym (bit_in_word table (start + i) j u) ∙ ap (bit table) p ∙ e ∙ bit_in_word words i j u)
+
 least_one : (x y : ℕ) → x < 2 → y < 2 → min x y ≡ 1 → (x ≡ 1) × (y ≡ 1)
 least_one x y l m e = (omega arith, omega arith)
 
 both_one : (v w j : ℕ) → bit_at (bit_and v w) j ≡ 1 → (bit_at v j ≡ 1) × (bit_at w j ≡ 1)
 both_one v w j e = least_one (bit_at v j) (bit_at w j) (bit_at-lt _ _) (bit_at-lt _ _) (sym (bit_at_and v w j) ∙ e)
+
+one_both : (v w j : ℕ) → bit_at v j ≡ 1 → bit_at w j ≡ 1 → bit_at (bit_and v w) j ≡ 1
+one_both v w j a b = bit_at_and v w j ∙ rw (a, b) refl
 
 pub any_found : (words : List ℕ) (i : ℕ) → get_or words i 0 ≢ 0 → get_or words i 0 < 2 ^ 64 → (k : ℕ) × (bit words k ≡ true)
 any_found words i z l = let b = one_bit (get_or words i 0) z l in (64 * i + b.0, bit_of_word words i b.0 b.1 b.2)
@@ -142,6 +171,15 @@ row_common_bit table words start i j l e =
     let m = both_one (get_or table (start + i) 0) (get_or words i 0) j e in
     let p : 64 * (start + i) + j ≡ 64 * start + (64 * i + j) = omega arith in
     (subst (λ k. bit table k ≡ true) p (bit_of_word table (start + i) j l m.0), bit_of_word words i j l m.1)
+
+-- and back
+pub common_at : (words others : List ℕ) (i j : ℕ) → j < 64 → bit words (64 * i + j) ≡ true → bit others (64 * i + j) ≡ true → bit_at (bit_and (get_or words i 0) (get_or others i 0)) j ≡ 1
+common_at words others i j l a b = one_both (get_or words i 0) (get_or others i 0) j (word_of_bit words i j l a) (word_of_bit others i j l b)
+
+pub row_common_at : (table words : List ℕ) (start i j : ℕ) → j < 64 → bit table (64 * start + (64 * i + j)) ≡ true → bit words (64 * i + j) ≡ true → bit_at (bit_and (get_or table (start + i) 0) (get_or words i 0)) j ≡ 1
+row_common_at table words start i j l a b =
+    let p : 64 * start + (64 * i + j) ≡ 64 * (start + i) + j = omega arith in
+    one_both (get_or table (start + i) 0) (get_or words i 0) j (word_of_bit table (start + i) j l (subst (λ k. bit table k ≡ true) p a)) (word_of_bit words i j l b)
 
 pub common_found : (words others : List ℕ) (i : ℕ) → bit_and (get_or words i 0) (get_or others i 0) ≢ 0 → get_or words i 0 < 2 ^ 64 → (k : ℕ) × (bit words k ≡ true) × (bit others k ≡ true)
 common_found words others i z l =

@@ -1,5 +1,5 @@
 -- The bytes of one position.
-use Rattle.std.specs.Prelude.{ℕ, Bool, false, not, ◌&&◌, ◌==◌, List, [], ◌∷◌, Option, Some, None, slice_get}
+use Rattle.std.specs.Prelude.{◌≡◌, ℕ, ◌<◌, Bool, true, false, not, ◌&&◌, ◌==◌, List, [], ◌∷◌, Option, Some, None, slice_get}
 use Rattle.pattern_syntax.specs.ByteSet.{has_byte, bytes_with}
 use Rattle.pattern_match.specs.declared.class.Class.{Class}
 use Rattle.pattern_match.specs.declared.class.Class.TheVariants.{Byte, Set}
@@ -19,3 +19,7 @@ has_class (Some class) b = takes class b
 
 abbrev pub takes_at : List Class → ℕ → ℕ → Bool
 takes_at classes k b = has_class (slice_get classes k) b
+
+-- every byte that texts have passes: each but 0
+abbrev pub HasEachByte : (ℕ → Bool) → Type 0
+HasEachByte test = (b : ℕ) → 0 < b → b < 256 → test b ≡ true

@@ -10,3 +10,4 @@ pub mod Tables
 pub mod Compiled
 pub mod Onwards
 pub mod Loops
+pub mod Settled

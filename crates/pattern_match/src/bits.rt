@@ -1,4 +1,5 @@
-ghost use Rattle.std.specs.Prelude.{◌≡◌, true, false, ◌+◌, ◌*◌, ◌/◌, ◌<◌, ◌≤◌, ◌==◌, ◌||◌, ◌&&◌, ℕ, IfOk, length, replicate, slice_index};
+ghost use Rattle.std.specs.Prelude.{◌≡◌, ◌↔◌, true, false, ◌+◌, ◌*◌, ◌/◌, ◌<◌, ◌≤◌, ◌==◌, ◌||◌, ◌&&◌, ℕ, IfOk, IsTrue, length, replicate, slice_index};
+ghost use Rattle.pattern_match.specs.Loops.{IsRow};
 ghost use Rattle.pattern_match.specs.States.{bit};
 ghost use Rattle.std.specs.Int.{bit_at};
 ghost use Rattle.pattern_match.specs.Tables.{any_below, any_bit};
@@ -159,8 +160,7 @@ pub fn have_any(words: &[u64]) -> bool
 /// Whether the row that starts at a word has the bits of these words.
 pub fn is_row(words: &[u64], table: &[u64], start: usize) -> bool
     requires { start + length words.now ≤ length table.now }
-    ensures { result ≡ true → (k : ℕ) → k < 64 * length words.now
-        → bit table.now (64 * start + k) ≡ bit words.now k }
+    ensures { IsTrue result ↔ IsRow words.now table.now start }
 {
     for i in 0..words.len() {
         if table[start + i] != words[i] {

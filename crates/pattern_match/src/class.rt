@@ -1,6 +1,6 @@
-ghost use Rattle.std.specs.Prelude.{◌≡◌, ◌<◌, ℕ, true, false};
+ghost use Rattle.std.specs.Prelude.{◌≡◌, ◌<◌, ◌↔◌, ℕ, IsTrue, true, false};
 ghost use Rattle.pattern_syntax.specs.ByteSet.{has_byte};
-ghost use Rattle.pattern_match.specs.Class.{class_bytes, takes};
+ghost use Rattle.pattern_match.specs.Class.{HasEachByte, class_bytes, takes};
 ghost use Rattle.pattern_match.specs.Residuals.{is_some_list};
 
 use pattern_syntax::ByteSet;
@@ -35,7 +35,7 @@ impl Class {
 
     /// Whether the class has every byte that texts have.
     pub fn has_each(&self) -> bool
-        ensures { result ≡ true → (b : ℕ) → 0 < b → b < 256 → takes self.now b ≡ true }
+        ensures { IsTrue result ↔ HasEachByte (takes self.now) }
     {
         match self {
             Class::Byte(_) => false,
@@ -57,10 +57,10 @@ fn has_text_byte(set: &ByteSet) -> bool
     false
 }
 
-// Whether the set has every byte other than 0.
+// Whether the set has every byte other than 0. Whether it has that one is left out of the first word.
 fn has_each_text_byte(set: &ByteSet) -> bool
-    ensures { result ≡ true → (b : ℕ) → 0 < b → b < 256 → has_byte set.now b ≡ true }
+    ensures { IsTrue result ↔ HasEachByte (has_byte set.now) }
 {
     let [first, second, third, fourth] = set.words;
-    first >= u64::MAX - 1 && second == u64::MAX && third == u64::MAX && fourth == u64::MAX
+    (first | 1) & second & third & fourth == u64::MAX
 }

@@ -1,5 +1,5 @@
-ghost use Rattle.std.specs.Prelude.{◌≡◌, ◌+◌, ◌*◌, ◌<◌, ◌≤◌, true, length};
-ghost use Rattle.pattern_match.specs.Loops.{HasLoop, HaveRows, IsLoop, LeadsToLoop};
+ghost use Rattle.std.specs.Prelude.{◌≡◌, ◌+◌, ◌*◌, ◌<◌, ◌≤◌, ◌↔◌, IsTrue, length};
+ghost use Rattle.pattern_match.specs.Loops.{EndsBeforeLoop, HasLoop, HaveRows, IsLoop, IsLoopIn, LeadsToLoop, SomeInWord};
 
 use crate::bits::has_bit;
 use crate::class::Class;
@@ -9,7 +9,7 @@ use crate::taking::has_each_at;
 fn is_loop(follow: &[u64], classes: &[Class], width: usize, state: usize) -> bool
     requires bound { state < 64 * width }
     requires row { state * width + width ≤ length follow.now }
-    ensures { result ≡ true → IsLoop width follow.now classes.now state }
+    ensures { IsTrue result ↔ IsLoop width follow.now classes.now state }
 {
     if !has_bit(follow, state * width, state) {
         return false;
@@ -28,7 +28,8 @@ fn leads_to_loop_in(
     requires within { i < length accept.now }
     requires row { start + length accept.now ≤ length follow.now }
     requires rows { HaveRows accept.now follow.now }
-    ensures { result ≡ true → LeadsToLoop accept.now follow.now classes.now start }
+    ensures { IsTrue result
+        ↔ SomeInWord (IsLoopIn accept.now follow.now classes.now start) i }
 {
     let mut left = follow[start + i] & accept[i];
     'states: while left != 0 {
@@ -45,7 +46,7 @@ fn leads_to_loop_in(
 fn leads_to_loop(accept: &[u64], follow: &[u64], classes: &[Class], start: usize) -> bool
     requires row { start + length accept.now ≤ length follow.now }
     requires rows { HaveRows accept.now follow.now }
-    ensures { result ≡ true → LeadsToLoop accept.now follow.now classes.now start }
+    ensures { IsTrue result ↔ LeadsToLoop accept.now follow.now classes.now start }
 {
     for i in 0..accept.len() {
         if leads_to_loop_in(accept, follow, classes, start, i) {
@@ -60,7 +61,8 @@ fn has_loop_in(marks: &[u64], accept: &[u64], follow: &[u64], classes: &[Class],
     requires within { i < length marks.now }
     requires accept { length accept.now ≡ length marks.now }
     requires rows { HaveRows accept.now follow.now }
-    ensures { result ≡ true → HasLoop marks.now accept.now follow.now classes.now }
+    ensures { IsTrue result
+        ↔ SomeInWord (EndsBeforeLoop marks.now accept.now follow.now classes.now) i }
 {
     let mut left = marks[i] & accept[i];
     'states: while left != 0 {
@@ -78,7 +80,7 @@ fn has_loop_in(marks: &[u64], accept: &[u64], follow: &[u64], classes: &[Class],
 pub fn has_loop(marks: &[u64], accept: &[u64], follow: &[u64], classes: &[Class]) -> bool
     requires accept { length accept.now ≡ length marks.now }
     requires rows { HaveRows accept.now follow.now }
-    ensures { result ≡ true → HasLoop marks.now accept.now follow.now classes.now }
+    ensures { IsTrue result ↔ HasLoop marks.now accept.now follow.now classes.now }
 {
     for i in 0..marks.len() {
         if has_loop_in(marks, accept, follow, classes, i) {

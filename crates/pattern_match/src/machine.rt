@@ -2,6 +2,7 @@ ghost use Rattle.std.specs.Prelude.{◌≡◌, ◌∷◌, ◌+◌, ◌/◌, ◌<
 ghost use Rattle.pattern_syntax.specs.Language.{In};
 ghost use Rattle.pattern_syntax.specs.Nodes.{tree_of};
 ghost use Rattle.pattern_match.specs.Onwards.{AreTextBytes};
+ghost use Rattle.pattern_match.specs.Settled.{MarksLeadOnward, MarksStay};
 ghost use Rattle.pattern_match.specs.States.{AreMarksOf, IsBehind, IsRead, is_bare};
 
 use crate::bits::{have_any, have_common};
@@ -136,10 +137,12 @@ impl Machine {
         have_common(marks.as_slice(), self.accept.as_slice())
     }
 
-    /// Whether every text of bytes other than 0 is left. It may say false where it is.
+    /// Whether a text may end in some marked state that leads to a loop, in which one may end too. Then every text of bytes
+    /// other than 0 is left.
     pub fn takes_all(&self, marks: &Marks) -> bool
         requires { AreMarksOf self.now marks.now }
-        ensures { result ≡ true → (text : List ℕ) → AreTextBytes text
+        ensures exact { IsTrue result ↔ MarksLeadOnward self.now marks.now }
+        ensures texts { result ≡ true → (text : List ℕ) → AreTextBytes text
             → IsBehind self.now marks.now text }
     {
         if self.is_bare {
@@ -153,10 +156,12 @@ impl Machine {
         )
     }
 
-    /// Whether every byte other than 0 leaves what was left before. It may say false where it does.
+    /// Whether it holds more than the empty text, and each byte other than 0 leads from each marked state to all of these
+    /// and no other. Then every such byte leaves what was left before.
     pub fn stays(&self, marks: &Marks) -> bool
         requires { AreMarksOf self.now marks.now }
-        ensures { result ≡ true → (byte : ℕ) → 0 < byte → byte < 256
+        ensures exact { IsTrue result ↔ MarksStay self.now marks.now }
+        ensures bytes { result ≡ true → (byte : ℕ) → 0 < byte → byte < 256
             → (text : List ℕ) → IsBehind self.now marks.now (byte ∷ text)
             ↔ IsBehind self.now marks.now text }
     {

@@ -8,6 +8,7 @@ ghost use Rattle.pattern_syntax.specs.declared.node.Node.TheVariants as node;
 ghost use Rattle.label_base.specs.Path.{Path};
 ghost use Rattle.pattern_match.specs.Quotients.{holds_below};
 ghost use Rattle.pattern_match.specs.Onwards.{TakesAll};
+ghost use Rattle.pattern_match.specs.Settled.{StatesLeadOnward, StatesStay};
 ghost use Rattle.pattern_match.specs.Starts.{Parts};
 ghost use Rattle.pattern_match.specs.States.{AreStatesOf, StandsFor, Below};
 
@@ -169,11 +170,13 @@ impl Matcher {
         self.machine.accepts(&states.marks)
     }
 
-    /// Whether the language holds the text that was read and each text that begins with it, of bytes other than 0. It may
-    /// say false where it does.
+    /// Whether a text may end in a state of now that leads to a loop: one that follows itself by every byte other than 0,
+    /// and in which a text may end too. Then the language holds the text that was read and each text of such bytes that
+    /// begins with it. It may hold them, and this be false, where that takes several states together.
     pub fn takes_all(&self, states: &States) -> bool
         requires { AreStatesOf self.now states.now }
-        ensures { result ≡ true → (text : List ℕ) → StandsFor self.now states.now text
+        ensures exact { IsTrue result ↔ StatesLeadOnward self.now states.now }
+        ensures texts { result ≡ true → (text : List ℕ) → StandsFor self.now states.now text
             → TakesAll self.now text }
     {
         if states.seen != self.start.len() {
@@ -182,11 +185,14 @@ impl Matcher {
         self.machine.takes_all(&states.marks)
     }
 
-    /// Whether the states stand as well for the text with one more byte, whichever it is, other than 0. It may say false
-    /// where they do.
+    /// Whether nothing is left, since a byte was met that isn't the literal start's; or the whole start was read, the
+    /// pattern isn't that one text, and each byte other than 0 leads from each state of now to all of these and no other.
+    /// Then the states stand as well for the text with one more such byte, whichever it is. They may, and this be false,
+    /// where other states leave the same.
     pub fn stays(&self, states: &States) -> bool
         requires { AreStatesOf self.now states.now }
-        ensures { result ≡ true → (byte : ℕ) → 0 < byte → byte < 256
+        ensures exact { IsTrue result ↔ StatesStay self.now states.now }
+        ensures stands { result ≡ true → (byte : ℕ) → 0 < byte → byte < 256
             → (text : List ℕ) → StandsFor self.now states.now text
             → StandsFor self.now states.now (text ++ byte ∷ []) }
     {

@@ -1,7 +1,6 @@
-ghost use Rattle.std.specs.Prelude.{◌≡◌, ◌+◌, ◌*◌, ◌<◌, ◌≤◌, ◌^◌, ◌==◌, ◌&&◌, true, ℕ, length, slice_get};
+ghost use Rattle.std.specs.Prelude.{◌≡◌, ◌+◌, ◌*◌, ◌<◌, ◌≤◌, ◌^◌, ◌==◌, ◌&&◌, ◌↔◌, IsTrue, ℕ, length, slice_get};
 ghost use Rattle.std.specs.Int.{bit_at};
-ghost use Rattle.pattern_match.specs.Class.{takes_at};
-ghost use Rattle.pattern_match.specs.Loops.{TakesEach};
+ghost use Rattle.pattern_match.specs.Class.{HasEachByte, takes_at};
 ghost use Rattle.pattern_match.specs.States.{bit};
 
 use crate::bits::with_bit_if;
@@ -19,7 +18,7 @@ fn has_at(classes: &[Class], i: usize, b: u8) -> bool
 
 /// Whether the class of an index has every byte that texts have.
 pub fn has_each_at(classes: &[Class], i: usize) -> bool
-    ensures { result ≡ true → TakesEach classes.now i }
+    ensures { IsTrue result ↔ HasEachByte (takes_at classes.now i) }
 {
     match classes.get(i) {
         Some(class) => class.has_each(),

@@ -187,6 +187,10 @@ pattern_of_spec (r ∷ rules) (suc j) spec e = pattern_of_spec rules j spec e
 pub covers_opens : (ps : List Tree) (specs : List SpecValue) (text : List ℕ) (i : ℕ) → ((j : ℕ) (spec : SpecValue) → slice_get specs j ≡ Some spec → pattern_at ps j ≡ spec.pattern) → Covers specs text i → Opens (pattern_at ps i) text
 covers_opens ps specs text i same c = subst (λ t. Opens t text) (sym (same i c.spec c.found)) ([], c.holds [] tt)
 
+-- states that stand for a front of a text stand for it by a byte more
+pub read_stands : (t : Tree) (states : Progress) (front text : List ℕ) (i : ℕ) → i < length text → StandsFor t states ((front ++ take i text) ++ get_or text i 0 ∷ []) → StandsFor t states (front ++ take (i + 1) text)
+read_stands t states front text i l s = subst (StandsFor t states) (append_assoc front (take i text) (get_or text i 0 ∷ []) ∙ ap (λ w. front ++ w) (sym (take_more text i 0 l))) s
+
 -- where no text of a language begins with a front and some bytes of the text behind it, none begins with front and text
 pub read_dead : (t : Tree) (states : Progress) (front text : List ℕ) (i b : ℕ) (v : Bool) → i < length text → b ≡ get_or text i 0 → v ≡ false → ((x : List ℕ) → StandsFor t states x → Opens t x → v ≡ true) → StandsFor t states ((front ++ take i text) ++ b ∷ []) → Opens t (front ++ text) → ⊥
 read_dead t states front text i b v l e f alive s o =

@@ -2,7 +2,7 @@
 use Rattle.std.proofs.Common.{◌≡◌, ◌≢◌, ◌∙◌, sym, refl, ap, subst, ℕ, zero, suc, ◌+◌, ◌<◌, ◌==◌, Bool, true, false, true≢false, eqb-true, eq-eqb, set, length-set, get_or-set_same, get_or-set_other, ◌⊎◌, inl, inr, List, [], ◌∷◌, ◌++◌, map, take, take-suc, length, length-append, get_or, add-one, arith}
 use Rattle.std.proofs.Math.ListN.{get_or-append}
 use Rattle.std.proofs.lemmas.Bool.{cases_lt}
-use Rattle.std.proofs.lemmas.List.{get_or_push}
+use Rattle.std.proofs.lemmas.List.{get_or_default, get_or_push, length-map}
 use Rattle.pattern_match.specs.States.{AreStatesOf, Progress}
 use Rattle.pattern_syntax.specs.Tree.{Tree, Nothing}
 use Rattle.spec_match.specs.StatesFor.{AreStatesFor, no_progress, pattern_in, patterns_of, spec_in}
@@ -75,6 +75,14 @@ pattern_here : (rules : List Rule) (i : ℕ) (d : Rule) → i < length rules →
 pattern_here [] i d l = absurd (omega (arith, l))
 pattern_here (r ∷ rules) zero d l = refl
 pattern_here (r ∷ rules) (suc i) d l = pattern_here rules i d (omega (arith, l))
+
+-- the states of one specification
+pub states_own : (rules : List Rule) (states : List Progress) (i : ℕ) (rule : Rule) (own : Progress) → i < length rules → rule ≡ get_or rules i rule → own ≡ get_or states i own → AreStatesFor (patterns_of rules) states → AreStatesOf rule.spec.pattern own
+states_own rules states i rule own l e f all =
+    let within : i < length (patterns_of rules) = omega (arith, l, length-map rules (λ (r : Rule). r.spec.pattern)) in
+    let p : get_or (patterns_of rules) i Nothing ≡ rule.spec.pattern = sym (ap (λ (r : Rule). r.spec.pattern) e ∙ pattern_here rules i rule l) in
+    let s : get_or states i no_progress ≡ own = get_or_default states i no_progress own (omega (arith, within, all.count)) ∙ sym f in
+    subst (λ t. AreStatesOf t own) p (subst (λ w. AreStatesOf (get_or (patterns_of rules) i Nothing) w) s (all.own i within))
 
 -- other states of one specification
 pub states_set : (rules : List Rule) (states : List Progress) (i : ℕ) (rule : Rule) (new : Progress) → i < length rules → rule ≡ get_or rules i rule → AreStatesOf rule.spec.pattern new → AreStatesFor (patterns_of rules) states → AreStatesFor (patterns_of rules) (set states i new)

@@ -3,10 +3,10 @@ use Rattle.std.proofs.Common.{◌≡◌, ◌∙◌, sym, ap, subst, ℕ, suc, �
 use Rattle.std.proofs.lemmas.Bool.{cases_lt}
 use Rattle.std.specs.List.{All}
 use Rattle.pattern_match.specs.Onwards.{AreTextBytes}
-use Rattle.pattern_match.specs.States.{StandsFor}
+use Rattle.pattern_match.specs.States.{AreStatesOf, StandsFor}
 use Rattle.pattern_syntax.specs.Language.{In}
 use Rattle.pattern_syntax.specs.Tree.{Tree}
-use Rattle.spec_match.specs.Alive.{Alive, AreAliveFrom, IsOwn, LeadsBy, alive_at, no_alive, pattern_at}
+use Rattle.spec_match.specs.Alive.{Alive, AreAliveFrom, IsOwn, LeadsBy, alive_at, no_alive, pattern_at, wanted}
 use Rattle.spec_match.specs.Listed.{Covers, IsListed, Stays}
 use Rattle.spec_match.specs.StatesFor.{patterns_of, spec_in}
 use Rattle.spec_match.specs.Stepping.{GoesOn, IsEnd, IsStaying}
@@ -75,6 +75,12 @@ module _ (rules : List Rule) (list : List Alive) (k i : ℕ) (rule : Rule) (with
 
   pattern : rule.spec.pattern ≡ pattern_at (patterns_of rules) (alive_at list k).index
   pattern = ap (λ (r : Rule). r.spec.pattern) there ∙ pattern_of_rule rules (alive_at list k).index rule below
+
+  pub rule_kept : AreStatesOf rule.spec.pattern (alive_at list k).states
+  rule_kept = subst (λ t. AreStatesOf t (alive_at list k).states) (sym pattern) (owns k no_alive within).made
+
+  pub rule_wants : (alive_at list k).wants ≡ wanted rule.spec.pattern (alive_at list k).states
+  rule_wants = (owns k no_alive within).wants ∙ ap (λ t. wanted t (alive_at list k).states) (sym pattern)
 
   pub rule_stepped : (tail : List ℕ) (old new : List Alive) → GoesOn rule.spec.pattern tail (alive_at list k) old new → IsStepped (patterns_of rules) tail list old k → IsStepped (patterns_of rules) tail list new (k + 1)
   rule_stepped tail old new goes s =

@@ -1,5 +1,5 @@
 -- What is remembered stays right while lists are added and entries are noted.
-use Rattle.std.proofs.Common.{◌≡◌, ◌≢◌, ◌∙◌, sym, refl, ap, subst, ℕ, zero, suc, ◌+◌, ◌-◌, ◌*◌, ◌/◌, ◌%◌, ◌<◌, ◌≤◌, ◌==◌, ◌⊎◌, inl, inr, Bool, true, false, List, [], ◌∷◌, ◌++◌, Option, length, length-append, length-set, get_or, get_or-set_same, get_or-set_other, set, slice_index, replicate, eqb-true, eq-eqb, true≢false, arith}
+use Rattle.std.proofs.Common.{◌≡◌, ◌≢◌, ◌∙◌, sym, refl, ap, subst, ℕ, zero, suc, ◌+◌, ◌-◌, ◌*◌, ◌/◌, ◌%◌, ◌<◌, ◌≤◌, ◌==◌, ◌⊎◌, inl, inr, Bool, true, false, List, [], ◌∷◌, ◌++◌, Option, append-nil, length, length-append, length-set, get_or, get_or-set_same, get_or-set_other, set, slice_index, replicate, eqb-true, eq-eqb, true≢false, arith}
 use Rattle.std.proofs.Math.ListN.{get_or-append}
 use Rattle.std.proofs.lemmas.Bool.{cases_lt}
 use Rattle.std.proofs.lemmas.List.{get_or_default, get_or_push, length-replicate}
@@ -11,7 +11,8 @@ use Rattle.pattern_syntax.specs.Tree.{Tree}
 use Rattle.spec_reader.specs.SpecValue.{SpecValue}
 use Rattle.spec_match.specs.Alive.{Alive, AreAlive, IsOwn, LeadsBy, list_of}
 use Rattle.spec_match.specs.Listed.{IsListed, Stays}
-use Rattle.spec_match.specs.Remembering.{AreStaying, Kept, HasAnswer, HasStep, IsAnswer, IsGrown, IsNoted, IsStep, IsTableOf, Remembers, asked_number, asked_of, decoded, kept, with_list}
+use Rattle.spec_match.specs.Remembering.{AreStaying, CanBeAdded, Kept, HasAnswer, HasStep, IsAnswer, IsGrown, IsNoted, IsStep, IsTableOf, Remembers, asked_number, asked_of, decoded, kept, with_list}
+use Rattle.spec_match.specs.Written.{Written}
 
 recalled : (R : ℕ → ℕ → Type 0) (row : List ℕ) (p known : ℕ) → Remembers R row → p < length row → known ≡ get_or row p known → 0 < known → R p (known - 1)
 recalled R row p known m w e h = m.entry p (known - 1) (get_or_default row p 0 known w ∙ sym e ∙ omega (arith, h))
@@ -199,3 +200,17 @@ grown_by old new i g l = ap (λ ls. list_of ls i) g.1 ∙ list_kept old g.0 i l
 
 pub grown_longer : (old new : List (List Alive)) → IsGrown old new → length old ≤ length new
 grown_longer old new g = omega (arith, ap (λ (ls : List (List Alive)). length ls) g.1, length-append old g.0)
+
+-- where there is a list, whatever members are own may become another
+pub can_be_added : (ps : List Tree) (w : Written) → All (IsOwn ps) w.draft → 0 < length w.lists → CanBeAdded ps w
+can_be_added ps w own some = record { own = own; first = λ none. absurd (omega (arith, none, some)) }
+
+-- the list that was added last
+pub added_last : (old new : List (List Alive)) (list : List Alive) (number : ℕ) → new ≡ old ++ list ∷ [] → number ≡ length old → (number < length new) × (list_of new number ≡ list)
+added_last old new list number e n =
+    (omega (arith, n, ap (λ (ls : List (List Alive)). length ls) e, length-append old (list ∷ [])), ap (λ ls. list_of ls number) e ∙ get_or_push old list [] number (sym n))
+
+-- where what is kept is as it was, so is all that is known of it
+pub kept_same : (ps : List Tree) (specs : List SpecValue) (old new : Kept) → new ≡ old → IsTableOf ps specs old → 0 < length old.lists → IsTableOf ps specs new × (0 < length new.lists) × IsGrown old.lists new.lists
+kept_same ps specs old new e t some =
+    (subst (IsTableOf ps specs) (sym e) t, subst (λ (k : Kept). 0 < length k.lists) (sym e) some, ([], ap (λ (k : Kept). k.lists) e ∙ sym (append-nil old.lists)))

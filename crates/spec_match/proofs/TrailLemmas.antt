@@ -200,3 +200,7 @@ pub stays_behind : (IsFor : List ℕ → List Alive → Type 0) (text : List ℕ
 stays_behind IsFor text at list s l b h =
     let left : take (length text - at) (drop at text) ≡ drop at text = take_all (length text - at) (drop at text) (omega (arith, l, length-drop at text)) in
     subst (λ w. IsFor w list) (take-append-drop at text) (s (take at text) (drop at text) (subst AreTextBytes left b) h)
+
+-- a list that is for as much as a whole text
+pub listed_to_end : (IsFor : List ℕ → List Alive → Type 0) (text : List ℕ) (at : ℕ) (list : List Alive) → length text ≤ at → IsFor (take at text) list → IsFor text list
+listed_to_end IsFor text at list l h = subst (λ w. IsFor w list) (take_all at text l) h

@@ -320,7 +320,9 @@ impl Table {
         requires table { IsTableFor rules.now self.old }
         requires begun { 0 < length self.old.lists.lists }
         requires trail { IsTrailFor rules.now self.old }
-        ensures kept { kept_in self.new ≡ kept_in self.old }
+        ensures table { IsTableFor rules.now self.new }
+        ensures cuts { self.new.cuts ≡ self.old.cuts }
+        ensures begun { 0 < length self.new.lists.lists }
         ensures draft { self.new.lists.draft ≡ self.old.lists.draft }
         ensures way { IsOnWayFor rules.now self.new text.now result }
     {
@@ -335,7 +337,9 @@ impl Table {
         requires table { IsTableFor rules.now self.old }
         requires begun { 0 < length self.old.lists.lists }
         requires way { IsOnWayFor rules.now self.old text.now from }
-        ensures kept { kept_in self.new ≡ kept_in self.old }
+        ensures table { IsTableFor rules.now self.new }
+        ensures cuts { self.new.cuts ≡ self.old.cuts }
+        ensures begun { 0 < length self.new.lists.lists }
         ensures draft { self.new.lists.draft ≡ self.old.lists.draft }
         ensures low { from.at ≤ result.at }
         ensures way { IsOnWayFor rules.now self.new text.now result }

@@ -1,36 +1,30 @@
 use Rattle.std.proofs.Common.{◌≡◌, ◌+◌, ◌*◌, length, arith, w64, subst}
 use Rattle.std.specs.Prelude.{◌||◌}
 use Rattle.std.specs.Int.{trailing_zeros}
-use Rattle.std.proofs.lemmas.Nat.Bits.{bit_at-trailing_zeros}
 use Rattle.pattern_match.specs.States.{bit}
-use Rattle.pattern_match.proofs.LowestBits.{row_added, rows_added, still_marked, row_number}
+use Rattle.pattern_match.proofs.LowestBits.{row_added, rows_added, still_marked}
+use Rattle.pattern_match.proofs.Sweeps.{lowest_row}
 use Rattle.pattern_match.proofs.bits.add_marked.Goals as goal
 
 pub overflow_mul-row : goal.overflow_mul-row
 overflow_mul-row c =
-    let t = bit_at-trailing_zeros w64 c.marks.left (omega arith) (omega arith) in
-    let r = c.requires.rows (trailing_zeros w64 c.marks.left) t.0 (c.marks.invariant.1 _ t.1) in
-    let n = row_number (64 * c.args.i + trailing_zeros w64 c.marks.left) (length c.args.to.now.items) (length c.args.table.now) (omega arith) r in
+    let r = lowest_row c.marks.left c.args.i (length c.args.to.now.items) (length c.args.table.now) (omega arith) (omega arith) (omega arith) (λ j l b. c.requires.rows j l (c.marks.invariant.1 j b)) in
     omega arith
 
 pub overflow_add-row : goal.overflow_add-row
 overflow_add-row c =
-    let t = bit_at-trailing_zeros w64 c.marks.left (omega arith) (omega arith) in
-    let r = c.requires.rows (trailing_zeros w64 c.marks.left) t.0 (c.marks.invariant.1 _ t.1) in
-    let n = row_number (64 * c.args.i + trailing_zeros w64 c.marks.left) (length c.args.to.now.items) (length c.args.table.now) (omega arith) r in
+    let r = lowest_row c.marks.left c.args.i (length c.args.to.now.items) (length c.args.table.now) (omega arith) (omega arith) (omega arith) (λ j l b. c.requires.rows j l (c.marks.invariant.1 j b)) in
     omega arith
 
 pub overflow_mul-row-in-marks : goal.overflow_mul-row-in-marks
 overflow_mul-row-in-marks c =
-    let t = bit_at-trailing_zeros w64 c.marks.left (omega arith) (omega arith) in
-    let r = c.requires.rows (trailing_zeros w64 c.marks.left) t.0 (c.marks.invariant.1 _ t.1) in
+    let r = lowest_row c.marks.left c.args.i (length c.args.to.now.items) (length c.args.table.now) (omega arith) (omega arith) (omega arith) (λ j l b. c.requires.rows j l (c.marks.invariant.1 j b)) in
     let e : c.len.result ≡ length c.args.to.now.items = omega arith in
     rw e (omega arith)
 
 pub add_row-requires : goal.add_row-requires
 add_row-requires c =
-    let t = bit_at-trailing_zeros w64 c.marks.left (omega arith) (omega arith) in
-    let r = c.requires.rows (trailing_zeros w64 c.marks.left) t.0 (c.marks.invariant.1 _ t.1) in
+    let r = lowest_row c.marks.left c.args.i (length c.args.to.now.items) (length c.args.table.now) (omega arith) (omega arith) (omega arith) (λ j l b. c.requires.rows j l (c.marks.invariant.1 j b)) in
     let e : c.len.result ≡ length c.args.to.now.items = omega arith in
     rw e (omega arith)
 

@@ -1,10 +1,29 @@
-use Rattle.std.proofs.Common.{◌∙◌, ap, add-one, arith, get_or, map, subst, sym, Some}
+use Rattle.std.proofs.Common.{◌<◌, ◌∙◌, ap, add-one, arith, get_or, length, map, subst, sym, Some}
 use Rattle.spec_match.specs.Alive.{list_of, no_alive}
 use Rattle.spec_match.specs.Remembering.{IsAnswer}
 use Rattle.spec_match.specs.StatesFor.{spec_in}
-use Rattle.spec_match.proofs.ScratchLemmas.{states_set}
+use Rattle.spec_match.proofs.ScratchLemmas.{states_own, states_set}
+use Rattle.spec_match.proofs.SteppingLemmas.{in_rules, rule_kept}
 use Rattle.spec_match.proofs.AnswerLemmas.{IsPassed, count_rules, dead_fits, first_found, none_listed, passed_on}
 use Rattle.spec_match.proofs.answering.first_fit.Goals as goal
+
+pub does_fit-requires : goal.does_fit-requires
+does_fit-requires c =
+    let list = list_of c.args.lists.now.lists c.args.list in
+    let i = c.index-i.result in
+    let rule = c.index-rules-i.result in
+    let within : c.alive.k < length list = omega (arith, c.alive-test.true, c.list_len-k-end.ensures) in
+    let owns = c.requires.own c.args.list c.requires.list in record {
+      list = c.requires.list;
+      within = within;
+      made = states_own c.args.rules.now c.alive.states.items i rule c.index_mut.result.now (in_rules c.args.rules.now list c.alive.k i rule within owns c.index-i.ensures c.index-rules-i.is) c.index-rules-i.is c.index_mut.ensures.value c.alive.invariant.states;
+      kept = rule_kept c.args.rules.now list c.alive.k i rule within owns c.index-i.ensures c.index-rules-i.is;
+    }
+
+pub returns-then-does_fit-clause-states : goal.returns-then-does_fit-clause-states
+returns-then-does_fit-clause-states c =
+    let own = c.requires.own c.args.list c.requires.list c.alive.k no_alive (omega arith) in
+    states_set c.args.rules.now c.alive.states.items c.index-i.result c.index-rules-i.result c.does_fit.new.states (omega (arith, own.within, count_rules c.args.rules.now, c.index-i.ensures)) c.index-rules-i.is c.does_fit.ensures.made c.alive.invariant.states
 
 pub returns-then-does_fit-clause-told : goal.returns-then-does_fit-clause-told
 returns-then-does_fit-clause-told c = λ cuts text h.

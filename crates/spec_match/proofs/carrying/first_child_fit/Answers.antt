@@ -6,8 +6,24 @@ use Rattle.spec_match.specs.Remembering.{IsAnswer}
 use Rattle.spec_match.specs.StatesFor.{spec_in}
 use Rattle.spec_match.proofs.AnswerLemmas.{IsPassed, count_rules, first_found, none_found, passed_on}
 use Rattle.spec_match.proofs.CarryLemmas.{dead_child}
-use Rattle.spec_match.proofs.ScratchLemmas.{states_set}
+use Rattle.spec_match.proofs.ScratchLemmas.{states_own, states_set}
+use Rattle.spec_match.proofs.SteppingLemmas.{in_rules, rule_kept}
 use Rattle.spec_match.proofs.carrying.first_child_fit.Goals as goal
+
+pub load-requires : goal.load-requires
+load-requires c =
+    let i = c.index-i.result in
+    let rule = c.index-rules-i.result in
+    let within : c.alive.k < length c.args.from.now = omega (arith, c.alive-test.true, c.len-k-end.ensures) in record {
+      within = within;
+      made = states_own c.args.rules.now c.alive.states.items i rule c.index_mut-own.result.now (in_rules c.args.rules.now c.args.from.now c.alive.k i rule within c.requires.own c.index-i.ensures c.index-rules-i.is) c.index-rules-i.is c.index_mut-own.ensures.value c.alive.invariant.states;
+      kept = rule_kept c.args.rules.now c.args.from.now c.alive.k i rule within c.requires.own c.index-i.ensures c.index-rules-i.is;
+    }
+
+pub returns-then-does_fit_child-clause-states : goal.returns-then-does_fit_child-clause-states
+returns-then-does_fit_child-clause-states c =
+    let own = c.requires.own c.alive.k no_alive (omega (arith, c.len-k-end.ensures)) in
+    states_set c.args.rules.now c.alive.states.items c.index-i.result c.index-rules-i.result c.does_fit_child.new.states (omega (arith, own.within, count_rules c.args.rules.now, c.index-i.ensures)) c.index-rules-i.is c.does_fit_child.ensures.made c.alive.invariant.states
 
 pub returns-then-does_fit_child-clause-told : goal.returns-then-does_fit_child-clause-told
 returns-then-does_fit_child-clause-told c = λ path at.

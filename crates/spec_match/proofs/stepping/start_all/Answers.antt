@@ -6,9 +6,17 @@ use Rattle.spec_match.specs.StatesFor.{patterns_of}
 use Rattle.spec_match.specs.Written.{Written}
 use Rattle.spec_match.specs.declared.rule.Rule.{Rule}
 use Rattle.spec_match.proofs.AliveLemmas.{all_started, started_on}
-use Rattle.spec_match.proofs.ScratchLemmas.{states_set}
+use Rattle.spec_match.proofs.ScratchLemmas.{states_own, states_set}
 use Rattle.spec_match.proofs.AnswerLemmas.{count_rules, pattern_of_rule}
 use Rattle.spec_match.proofs.stepping.start_all.Goals as goal
+
+pub restart-requires : goal.restart-requires
+restart-requires c =
+    states_own c.args.rules.now c.rules.states.items (c.rules.left - 1) c.index-rules-left.result c.index_mut.result.now (omega (arith, c.rules-test.true, c.rules.invariant.within)) c.index-rules-left.is c.index_mut.ensures.value c.rules.invariant.states
+
+pub returns-then-not-push-clause-states : goal.returns-then-not-push-clause-states
+returns-then-not-push-clause-states c =
+    states_set c.args.rules.now c.rules.states.items (c.rules.left - 1) c.index-rules-left.result c.restart.new.states (omega (arith, c.rules-test.true, c.rules.invariant.within)) c.index-rules-left.is c.restart.ensures.own c.rules.invariant.states
 
 pub rules-preserved : goal.rules-preserved
 rules-preserved c =

@@ -1,7 +1,8 @@
 use Rattle.std.proofs.Common.{◌≡◌, ◌∙◌, sym, false}
+use Rattle.std.proofs.lemmas.Bool.Decides.{Decides-like}
 use Rattle.pattern_match.specs.States.{is_bare}
-use Rattle.pattern_match.proofs.RunTables.{accept_at, ended_rows_at, loop_at}
-use Rattle.pattern_match.proofs.Ready.{ready_by, machine, some_marks, all_behind}
+use Rattle.pattern_match.proofs.RunTables.{accept_at, ended_rows_at, loops_at}
+use Rattle.pattern_match.proofs.Ready.{ready_by, machine, some_marks, bare_unmarked, all_behind}
 use Rattle.pattern_match.proofs.machine.Machine.takes_all.Goals as goal
 
 pub has_loop-requires-clause-accept : goal.has_loop-requires-clause-accept
@@ -20,10 +21,24 @@ has_loop-requires-clause-rows c =
     let m = machine c.args.self.now c.self.inside.is_bare c.self.inside.rows c.self.inside.width c.self.inside.follow.items c.self.inside.accept.items c.self.inside.classes.items r e in
     ended_rows_at c.args.self.now c.self.inside.rows c.self.inside.width c.self.inside.follow.items c.self.inside.accept.items c.self.inside.classes.items m c.as_slice-2.result.now c.as_slice-3.result.now c.as_slice-2.ensures.value c.as_slice-3.ensures.value
 
-pub returns : goal.returns
-returns c =
+pub returns-then-self-clause-exact : goal.returns-then-self-clause-exact
+returns-then-self-clause-exact c =
+    let r = ready_by c.self.inside c.args.self.now c.self.view_is c.self.invariant in
+    (λ e. cc, λ h. absurd (bare_unmarked c.args.self.now c.args.marks.now (sym r.bare_is ∙ c.if-self.true) c.requires h.place h.marked))
+
+pub returns-clause-exact : goal.returns-clause-exact
+returns-clause-exact c =
+    let r = ready_by c.self.inside c.args.self.now c.self.view_is c.self.invariant in
+    let e : c.self.inside.is_bare ≡ false = c.if-self.false in
+    let m = machine c.args.self.now c.self.inside.is_bare c.self.inside.rows c.self.inside.width c.self.inside.follow.items c.self.inside.accept.items c.self.inside.classes.items r e in
+    let l = loops_at c.args.self.now c.self.inside.rows c.self.inside.width c.self.inside.follow.items c.self.inside.accept.items c.self.inside.classes.items m c.args.marks.now c.as_slice.result.now c.as_slice-2.result.now c.as_slice-3.result.now c.as_slice-4.result.now c.as_slice.ensures c.as_slice-2.ensures.value c.as_slice-3.ensures.value c.as_slice-4.ensures.value in
+    Decides-like c.has_loop.result l.0 l.1 c.has_loop.ensures
+
+pub returns-clause-texts : goal.returns-clause-texts
+returns-clause-texts c =
     let r = ready_by c.self.inside c.args.self.now c.self.view_is c.self.invariant in
     let e : c.self.inside.is_bare ≡ false = c.if-self.false in
     let m = machine c.args.self.now c.self.inside.is_bare c.self.inside.rows c.self.inside.width c.self.inside.follow.items c.self.inside.accept.items c.self.inside.classes.items r e in
     let b : is_bare c.args.self.now ≡ false = sym r.bare_is ∙ e in
-    λ h. all_behind c.args.self.now c.args.marks.now b (loop_at c.args.self.now c.self.inside.rows c.self.inside.width c.self.inside.follow.items c.self.inside.accept.items c.self.inside.classes.items m c.args.marks.now c.as_slice.result.now c.as_slice-2.result.now c.as_slice-3.result.now c.as_slice-4.result.now c.as_slice.ensures c.as_slice-2.ensures.value c.as_slice-3.ensures.value c.as_slice-4.ensures.value (c.has_loop.ensures h))
+    let l = loops_at c.args.self.now c.self.inside.rows c.self.inside.width c.self.inside.follow.items c.self.inside.accept.items c.self.inside.classes.items m c.args.marks.now c.as_slice.result.now c.as_slice-2.result.now c.as_slice-3.result.now c.as_slice-4.result.now c.as_slice.ensures c.as_slice-2.ensures.value c.as_slice-3.ensures.value c.as_slice-4.ensures.value in
+    λ h. all_behind c.args.self.now c.args.marks.now b (l.0 (c.has_loop.ensures.0 h))

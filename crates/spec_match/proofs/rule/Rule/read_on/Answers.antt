@@ -1,6 +1,12 @@
 use Rattle.std.proofs.Common.{arith, refl}
-use Rattle.spec_match.proofs.AliveLemmas.{read_dead}
+use Rattle.spec_match.proofs.AliveLemmas.{read_dead, read_stands}
 use Rattle.spec_match.proofs.rule.Rule.read_on.Goals as goal
+
+pub text-preserved : goal.text-preserved
+text-preserved c = record {
+  made = c.step.ensures.own;
+  stands = λ front s. read_stands c.args.self.now.spec.pattern c.step.new.states front c.args.text.now c.text.byte-index c.text-test.true (c.step.ensures.stands _ (c.text.invariant.stands front s));
+}
 
 pub returns-then-not-alive-clause-dead : goal.returns-then-not-alive-clause-dead
 returns-then-not-alive-clause-dead c = λ _ front s.

@@ -1,7 +1,7 @@
 use Rattle.std.proofs.Common.{◌≡◌, ◌-◌, ◌<◌, ◌∙◌, arith, length, suc, sym}
 use Rattle.spec_match.specs.Chains.{fits_from, is_in}
 use Rattle.spec_match.proofs.ChainLemmas.{fits_from_here, head_leads, link_low, next_begun, next_ended, next_found, next_in, next_on, place_leads}
-use Rattle.spec_match.proofs.ScratchLemmas.{states_set}
+use Rattle.spec_match.proofs.ScratchLemmas.{states_own, states_set}
 use Rattle.spec_match.proofs.starts.Starts.last_in.Goals as goal
 
 pub chain-init : goal.chain-init
@@ -13,6 +13,14 @@ chain-init c =
       within = omega (arith, leads, link_low n p);
       next = next_begun n p (fits_from c.args.at c.args.asked c.args.text.now c.args.rules.now) c.index.result.now leads;
     }
+
+pub does_fit_from-requires : goal.does_fit_from-requires
+does_fit_from-requires c =
+    states_own c.args.rules.now c.chain.states.items (c.chain.next - 1) c.index-rules-i.result c.index_mut-own.result.now (omega (arith, c.chain-test.true, c.chain.invariant.within)) c.index-rules-i.is c.index_mut-own.ensures.value c.chain.invariant.states
+
+pub returns-then-does_fit_from-clause-states : goal.returns-then-does_fit_from-clause-states
+returns-then-does_fit_from-clause-states c =
+    states_set c.args.rules.now c.chain.states.items (c.chain.next - 1) c.index-rules-i.result c.does_fit_from.new.states (omega (arith, c.chain-test.true, c.chain.invariant.within)) c.index-rules-i.is c.does_fit_from.ensures.made c.chain.invariant.states
 
 pub returns-then-does_fit_from-clause-found : goal.returns-then-does_fit_from-clause-found
 returns-then-does_fit_from-clause-found c =
