@@ -8,10 +8,11 @@ use Rattle.crossbeam_queue.specs.Fifo.{Pushes, Pops, Forks, Merges, Learns}
 use Rattle.crossbeam_queue.proofs.Lists.{at_set, at_snoc}
 use Rattle.dir_queue.specs.declared.rule.Job.{Job}
 use Rattle.dir_queue.specs.declared.rule.QueueView.{QueueView}
+use Rattle.label_base.specs.Totals.{total}
+use Rattle.label_base.proofs.TotalLemmas.{total_set, total_snoc, one_of, only, two_of, someone}
 use Rattle.walk_steps.specs.Lists.{hit, times}
 use Rattle.dir_queue.specs.Passes.{not_set_up, fresh, spent, with_given, with_taken, for_one_less, for_one, joined, parent_in, MayOffer, HoldsEachOnce}
-use Rattle.dir_queue.specs.Rule.{waiting, total, all_taken, all_given, Fits, NothingLost, IsKept, IsSetUp, NothingWaits, IsOfferOf, HasRoom, IsTakeOf, Accounts}
-use Rattle.dir_queue.proofs.Totals.{total_set, total_snoc, one_of, only, two_of, someone}
+use Rattle.dir_queue.specs.Rule.{waiting, all_taken, all_given, Fits, NothingLost, IsKept, IsSetUp, NothingWaits, IsOfferOf, HasRoom, IsTakeOf, Accounts}
 use Rattle.dir_queue.proofs.Room.{room}
 
 abbrev count_if : Bool → ℕ

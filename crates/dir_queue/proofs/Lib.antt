@@ -1,4 +1,3 @@
-mod Totals
 mod Room
 mod Keeps
 mod Parents

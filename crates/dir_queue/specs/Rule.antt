@@ -2,6 +2,7 @@
 use Rattle.std.specs.Prelude.{◌≡◌, ℕ, ◌+◌, ◌<◌, ◌≤◌, ◌⊎◌, false, List, [], ◌∷◌, length}
 use mathlib.Core.Option.{some}
 use lib.ListN.{get_elem?}
+use Rattle.label_base.specs.Totals.{total}
 use Rattle.walk_steps.specs.Lists.{hit, times}
 use Rattle.dir_queue.specs.declared.rule.Job.{Job}
 use Rattle.dir_queue.specs.declared.rule.QueueView.{QueueView}
@@ -11,11 +12,6 @@ use Rattle.dir_queue.specs.Passes.{not_set_up, fresh, with_given, with_taken, pa
 abbrev pub waiting : ℕ → List Job → ℕ
 waiting job [] = 0
 waiting job (first ∷ items) = hit first.number job + waiting job items
-
--- what a number of each view adds up to
-abbrev pub total : (QueueView → ℕ) → List QueueView → ℕ
-total number [] = 0
-total number (view ∷ views) = number view + total number views
 
 -- how often the job was taken, and given, by all passes
 abbrev pub all_taken : ℕ → List QueueView → ℕ

@@ -1,25 +1,13 @@
 -- The records of a text, from its first one on.
-use Rattle.std.proofs.Common.{◌≡◌, ◌∙◌, ap, sym, refl, ℕ, ◌+◌, ◌<◌, ◌==◌, Bool, true, false, cond, List, [], ◌∷◌, ◌++◌, length, append_assoc, arith}
+use Rattle.std.proofs.Common.{◌≡◌, ◌∙◌, ap, sym, refl, ℕ, ◌+◌, ◌<◌, ◌==◌, true, false, List, [], ◌∷◌, ◌++◌, length, append_assoc, arith}
 use borrow.Author.Tests.{eqb-true}
 use Rattle.std.specs.Prelude.{Result, Ok, Err}
-use Rattle.std.specs.List.{slice_split, onto_first}
+use Rattle.std.specs.List.{slice_split}
 use Rattle.label_base.specs.Lines.{with_front}
+use Rattle.label_base.proofs.LineLemmas.{split_cons}
 use Rattle.find_records.specs.Record.{Record}
 use Rattle.find_records.specs.declared.fault.RecordsFault.{RecordsFault}
 use Rattle.find_records.specs.Grammar.{is_nul, with_ends, pieces_of, meaning, onto, all_from, records_from}
-
-onto_cons : (x : ℕ) (pieces : List (List ℕ)) → (y : List ℕ) × (ys : List (List ℕ)) × (onto_first x pieces ≡ y ∷ ys)
-onto_cons x [] = (x ∷ [], [], refl)
-onto_cons x (p ∷ ps) = (x ∷ p, ps, refl)
-
-chosen_cons : (v : Bool) (x : ℕ) (pieces : List (List ℕ)) → (y : List ℕ) × (ys : List (List ℕ)) × (cond v ([] ∷ pieces) (onto_first x pieces) ≡ y ∷ ys)
-chosen_cons true x pieces = ([], pieces, refl)
-chosen_cons false x pieces = onto_cons x pieces
-
--- there is a first piece
-split_cons : (xs : List ℕ) → (y : List ℕ) × (ys : List (List ℕ)) × (slice_split is_nul xs ≡ y ∷ ys)
-split_cons [] = ([], [], refl)
-split_cons (x ∷ xs) = chosen_cons (is_nul x) x (slice_split is_nul xs)
 
 more_pieces : (f y : List ℕ) (ys : List (List ℕ)) → with_ends (f ∷ y ∷ ys) ≡ (f, true) ∷ with_ends (y ∷ ys)
 more_pieces [] y ys = refl
@@ -27,7 +15,7 @@ more_pieces (b ∷ bs) y ys = refl
 
 pieces_more : (bytes f r : List ℕ) → slice_split is_nul bytes ≡ f ∷ slice_split is_nul r → pieces_of bytes ≡ (f, true) ∷ pieces_of r
 pieces_more bytes f r h =
-    let c = split_cons r in
+    let c = split_cons is_nul r in
     ap with_ends (h ∙ ap (λ ps. f ∷ ps) c.2) ∙ more_pieces f c.0 c.1 ∙ sym (ap (λ ps. (f, true) ∷ with_ends ps) c.2)
 
 pieces_last : (bytes : List ℕ) → 0 < length bytes → slice_split is_nul bytes ≡ bytes ∷ [] → pieces_of bytes ≡ (bytes, false) ∷ []

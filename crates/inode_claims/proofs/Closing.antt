@@ -5,6 +5,7 @@ use mathlib.Core.Logic.{dite}
 use native.Mathlib.Decide.{dec_le, ℕ_discrete}
 use lib.ListN.{get_elem?}
 use Rattle.atomic_table.specs.Table.{State, Seen, Final}
+use Rattle.label_base.proofs.TotalLemmas.{one_of, only, two_of}
 use Rattle.walk_steps.specs.declared.machine.TheConstants.{NONE_WORD}
 use Rattle.inode_claims.specs.declared.rule.Call.{Call}
 use Rattle.inode_claims.specs.declared.rule.ClaimView.{ClaimView}
@@ -13,7 +14,6 @@ use Rattle.inode_claims.specs.declared.winners.Winners.{Winners}
 use Rattle.inode_claims.specs.Claiming.{count, is_at, is_told, least_claimed}
 use Rattle.inode_claims.specs.Rule.{LeastIsKept, count_all}
 use Rattle.inode_claims.specs.Answers.{Wins, TellsAll}
-use Rattle.inode_claims.proofs.Totals.{one_of, only, two_of}
 
 abbrev ExactWords : ℕ → List ℕ → List Call → Type 0
 ExactWords groups words calls = ((g : ℕ) → g < groups → (get_or words (suc g) 0 ≡ NONE_WORD) ⊎ (0 < count (is_at g (get_or words (suc g) 0)) calls))

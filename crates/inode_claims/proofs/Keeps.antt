@@ -8,13 +8,18 @@ use native.Mathlib.Decide.{dec_le, ℕ_discrete}
 use lib.ListN.{get_elem?}
 use Rattle.atomic_table.specs.Table.{State, Me, keeps, step, Allows, Splits, Joins}
 use Rattle.atomic_table.proofs.Lists.{at_set, at_snoc}
+use Rattle.label_base.specs.Totals.{total}
+use Rattle.label_base.proofs.TotalLemmas.{total_set, total_snoc, one_of}
 use Rattle.inode_claims.specs.declared.rule.Call.{Call}
 use Rattle.inode_claims.specs.declared.rule.ClaimView.{ClaimView}
 use Rattle.inode_claims.specs.declared.rule.Plan.{Plan}
 use Rattle.walk_steps.specs.declared.machine.TheConstants.{NONE_WORD}
 use Rattle.inode_claims.specs.Claiming.{call_of, fresh, with_call, for_one_less, joined, count, is_at, is_told}
-use Rattle.inode_claims.specs.Rule.{LeastIsKept, SpentIsEmpty, total, count_all, IsClaimOf}
-use Rattle.inode_claims.proofs.Totals.{count_append, total_set, total_snoc, one_of}
+use Rattle.inode_claims.specs.Rule.{LeastIsKept, SpentIsEmpty, count_all, IsClaimOf}
+
+count_append : (q : Call → Bool) (xs ys : List Call) → count q (xs ++ ys) ≡ count q xs + count q ys
+count_append q [] ys = omega arith
+count_append q (x ∷ xs) ys = let r = count_append q xs ys in omega (arith, r)
 
 -- the views may change as they like, while their calls and what they stand for stay the same in sum
 moved : (plan : Plan) (words : List ℕ) (views after : List ClaimView) → LeastIsKept plan words views → total (λ v. v.stands_for) after ≡ total (λ v. v.stands_for) views

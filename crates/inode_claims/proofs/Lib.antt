@@ -1,3 +1,2 @@
-mod Totals
 mod Keeps
 mod Closing

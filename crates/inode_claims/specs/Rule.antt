@@ -1,18 +1,14 @@
 -- The rule of the words, which holds between any two steps of any threads.
-use Rattle.std.specs.Prelude.{◌≡◌, ℕ, suc, ◌+◌, ◌-◌, ◌<◌, ◌≤◌, ◌==◌, ◌⊎◌, Bool, cond, List, [], ◌∷◌, length, slice_index}
+use Rattle.std.specs.Prelude.{◌≡◌, ℕ, suc, ◌-◌, ◌<◌, ◌≤◌, ◌==◌, ◌⊎◌, Bool, cond, List, [], length, slice_index}
 use mathlib.Core.Option.{some}
 use lib.ListN.{get_elem?}
 use Rattle.atomic_table.specs.Table.{Step, Me}
+use Rattle.label_base.specs.Totals.{total}
 use Rattle.walk_steps.specs.declared.machine.TheConstants.{NONE_WORD}
 use Rattle.inode_claims.specs.declared.rule.Call.{Call}
 use Rattle.inode_claims.specs.declared.rule.ClaimView.{ClaimView}
 use Rattle.inode_claims.specs.declared.rule.Plan.{Plan}
 use Rattle.inode_claims.specs.Claiming.{with_call, count, is_at, is_told, IsClaimed}
-
--- what a number of each view adds up to
-abbrev pub total : (ClaimView → ℕ) → List ClaimView → ℕ
-total number [] = 0
-total number (view ∷ views) = number view + total number views
 
 -- how many calls of all views pass the test
 abbrev pub count_all : (Call → Bool) → List ClaimView → ℕ

@@ -11,19 +11,19 @@ implies_at true b h e = h
 implies_at false b h e = cc
 
 -- a number below suc n is below n, or n
-at_or_below : (n k : ℕ) → k < suc n → (k < n) ⊎ (n ≡ k)
-at_or_below n k l = elim (cases_lt k n) [ inl lt ↦ inl lt | inr ge ↦ inr (omega arith) ]
+pub below_or_last : (n k : ℕ) → k < suc n → (k < n) ⊎ (n ≡ k)
+below_or_last n k l = elim (cases_lt k n) [ inl lt ↦ inl lt | inr ge ↦ inr (omega arith) ]
 
 pub all_at : (n : ℕ) (p : ℕ → Bool) (k : ℕ) → all_below n p ≡ true → k < n → p k ≡ true
 all_at zero p k h l = absurd (omega arith)
 all_at (suc n) p k h l =
     let both = and_parts (all_below n p) (p n) h in
-    elim (at_or_below n k l) [ inl lt ↦ all_at n p k both.0 lt | inr e ↦ subst (λ i. p i ≡ true) e both.1 ]
+    elim (below_or_last n k l) [ inl lt ↦ all_at n p k both.0 lt | inr e ↦ subst (λ i. p i ≡ true) e both.1 ]
 
 pub any_at : (n : ℕ) (p : ℕ → Bool) (k : ℕ) → k < n → p k ≡ true → any_below n p ≡ true
 any_at zero p k l h = absurd (omega arith)
 any_at (suc n) p k l h =
-    elim (at_or_below n k l) [
+    elim (below_or_last n k l) [
       | inl lt ↦ or_left (any_below n p) (p n) (any_at n p k lt h)
       | inr e ↦ or_right (any_below n p) (p n) (subst (λ i. p i ≡ true) (sym e) h)
     ]
@@ -41,7 +41,7 @@ pub none_at : (n : ℕ) (p : ℕ → Bool) (k : ℕ) → any_below n p ≡ false
 none_at zero p k h l = absurd (omega arith)
 none_at (suc n) p k h l =
     let both = or_parts (any_below n p) (p n) h in
-    elim (at_or_below n k l) [ inl lt ↦ none_at n p k both.0 lt | inr e ↦ subst (λ i. p i ≡ false) e both.1 ]
+    elim (below_or_last n k l) [ inl lt ↦ none_at n p k both.0 lt | inr e ↦ subst (λ i. p i ≡ false) e both.1 ]
 
 pub none_from : (n : ℕ) (p : ℕ → Bool) → ((k : ℕ) → k < n → p k ≡ false) → any_below n p ≡ false
 none_from zero p h = refl
@@ -86,7 +86,7 @@ IsLeast n p (Some k) = (k < n) × (p k ≡ true) × ((j : ℕ) → j < k → p j
 one_more_least : (n : ℕ) (p : ℕ → Bool) (found : Option ℕ) (b : Bool) → p n ≡ b → IsLeast n p found → IsLeast (suc n) p (found_or found n b)
 one_more_least n p (Some i) b e r = (omega (arith, r.0), r.1, r.2)
 one_more_least n p None true e r = (omega arith, e, r)
-one_more_least n p None false e r = λ j l. elim (at_or_below n j l) [ inl lt ↦ r j lt | inr same ↦ subst (λ i. p i ≡ false) same e ]
+one_more_least n p None false e r = λ j l. elim (below_or_last n j l) [ inl lt ↦ r j lt | inr same ↦ subst (λ i. p i ≡ false) same e ]
 
 pub least_told : (n : ℕ) (p : ℕ → Bool) → IsLeast n p (least_below n p)
 least_told zero p = λ j l. absurd (omega arith)
@@ -96,10 +96,14 @@ least_told (suc n) p = one_more_least n p (least_below n p) (p n) refl (least_to
 pub least_is : (n : ℕ) (p : ℕ → Bool) (k : ℕ) → k < n → p k ≡ true → ((j : ℕ) → j < k → p j ≡ false) → least_below n p ≡ Some k
 least_is zero p k l h f = absurd (omega arith)
 least_is (suc n) p k l h f =
-    elim (at_or_below n k l) [
+    elim (below_or_last n k l) [
       | inl lt ↦ ap (λ o. found_or o n (p n)) (least_is n p k lt h f)
       | inr same ↦ ap₂ (λ o b. found_or o n b) (least_none n p (λ j i. f j (omega (arith, same)))) (subst (λ i. p i ≡ true) (sym same) h) ∙ ap Some same
     ]
+
+pub cond_last : (n : ℕ) (found : Option ℕ) (b : Bool) → cond b (Some n) found ≡ last_or_found found n b
+cond_last n found true = refl
+cond_last n found false = refl
 
 -- a number that passes, behind which none does, is the greatest
 pub greatest_none : (n : ℕ) (p : ℕ → Bool) → ((k : ℕ) → k < n → p k ≡ false) → greatest_below n p ≡ None
@@ -109,7 +113,7 @@ greatest_none (suc n) p h = ap₂ (λ o b. last_or_found o n b) (greatest_none n
 pub greatest_is : (n : ℕ) (p : ℕ → Bool) (k : ℕ) → k < n → p k ≡ true → ((j : ℕ) → k < j → j < n → p j ≡ false) → greatest_below n p ≡ Some k
 greatest_is zero p k l h f = absurd (omega arith)
 greatest_is (suc n) p k l h f =
-    elim (at_or_below n k l) [
+    elim (below_or_last n k l) [
       | inl lt ↦ ap₂ (λ o b. last_or_found o n b) (greatest_is n p k lt h (λ j a b. f j a (omega arith))) (f n lt (omega arith))
       | inr same ↦ ap (λ b. last_or_found (greatest_below n p) n b) (subst (λ i. p i ≡ true) (sym same) h) ∙ ap Some same
     ]
@@ -124,9 +128,9 @@ one_more_greatest n p found true e r = (omega arith, e, λ j a b. absurd (omega 
 one_more_greatest n p (Some i) false e r = (
   omega (arith, r.0),
   r.1,
-  λ j a b. elim (at_or_below n j b) [ inl lt ↦ r.2 j a lt | inr same ↦ subst (λ i. p i ≡ false) same e ],
+  λ j a b. elim (below_or_last n j b) [ inl lt ↦ r.2 j a lt | inr same ↦ subst (λ i. p i ≡ false) same e ],
 )
-one_more_greatest n p None false e r = λ j l. elim (at_or_below n j l) [ inl lt ↦ r j lt | inr same ↦ subst (λ i. p i ≡ false) same e ]
+one_more_greatest n p None false e r = λ j l. elim (below_or_last n j l) [ inl lt ↦ r j lt | inr same ↦ subst (λ i. p i ≡ false) same e ]
 
 pub greatest_told : (n : ℕ) (p : ℕ → Bool) → IsGreatest n p (greatest_below n p)
 greatest_told zero p = λ j l. absurd (omega arith)

@@ -16,3 +16,5 @@ pub mod PathFronts
 pub mod LineLengths
 pub mod LineLimits
 pub mod PathLengths
+pub mod UnderLemmas
+pub mod TotalLemmas

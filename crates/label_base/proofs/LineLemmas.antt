@@ -15,9 +15,9 @@ chosen_cons true x pieces = ([], pieces, refl)
 chosen_cons false x pieces = onto_cons x pieces
 
 -- there is a first piece
-split_cons : (xs : List ℕ) → (y : List ℕ) × (ys : List (List ℕ)) × (slice_split (λ b. b == 10) xs ≡ y ∷ ys)
-split_cons [] = ([], [], refl)
-split_cons (x ∷ xs) = chosen_cons (x == 10) x (slice_split (λ b. b == 10) xs)
+pub split_cons : (p : ℕ → Bool) (xs : List ℕ) → (y : List ℕ) × (ys : List (List ℕ)) × (slice_split p xs ≡ y ∷ ys)
+split_cons p [] = ([], [], refl)
+split_cons p (x ∷ xs) = chosen_cons (p x) x (slice_split p xs)
 
 more_lines : (f y : List ℕ) (ys : List (List ℕ)) → without_empty_last (f ∷ y ∷ ys) ≡ f ∷ without_empty_last (y ∷ ys)
 more_lines [] y ys = refl
@@ -25,7 +25,7 @@ more_lines (b ∷ bs) y ys = refl
 
 pub lines_found : (text f r : List ℕ) → slice_split (λ b. b == 10) text ≡ f ∷ slice_split (λ b. b == 10) r → lines_of text ≡ f ∷ lines_of r
 lines_found text f r h =
-    let c = split_cons r in
+    let c = split_cons (λ b. b == 10) r in
     ap without_empty_last (h ∙ ap (λ ps. f ∷ ps) c.2) ∙ more_lines f c.0 c.1 ∙ sym (ap (λ ps. f ∷ without_empty_last ps) c.2)
 
 pub lines_last : (text : List ℕ) → (length text == 0) ≡ false → slice_split (λ b. b == 10) text ≡ text ∷ [] → lines_of text ≡ text ∷ []

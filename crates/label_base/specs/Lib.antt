@@ -6,6 +6,7 @@ pub mod Kind
 pub mod LineGrammar
 pub mod Lines
 pub mod Number
+pub mod NumberUnder
 pub mod Path
 pub mod PathFront
 pub mod PathRef
@@ -15,3 +16,4 @@ pub mod Reading
 pub mod Sink
 pub mod Source
 pub mod Store
+pub mod Totals

@@ -1,24 +1,22 @@
 -- The last line that covers a path, by the texts of the path's fronts.
-use Rattle.std.proofs.Common.{◌≡◌, ◌∙◌, ap, ap₂, sym, refl, subst, ℕ, zero, suc, ◌+◌, ◌<◌, ◌≤◌, Bool, true, false, cond, List, [], ◌∷◌, ◌++◌, length, take, drop, get_or, arith, add-one, length-append, ◌⊎◌, inl, inr}
-use Rattle.std.specs.Prelude.{Option, Some, None, IfSome, ◌&&◌, ◌||◌, nat_le, nat_lt, filter, slice_get, min}
-use Rattle.std.specs.List.{last_or, flat_map}
+use Rattle.std.proofs.Common.{◌≡◌, ◌∙◌, ap, ap₂, sym, refl, subst, ℕ, zero, suc, ◌+◌, ◌<◌, ◌≤◌, Bool, true, false, cond, List, [], ◌∷◌, ◌++◌, length, take, drop, arith, add-one, length-append, inl, inr}
+use Rattle.std.specs.Prelude.{Option, Some, None, IfSome, ◌&&◌, ◌||◌, nat_le, filter, slice_get, min}
+use Rattle.std.specs.List.{last_or}
 use Rattle.std.specs.Option.{option_map}
 use Rattle.std.specs.Cmp.Lexicographic.{nat_list_eq_equiv, pointwise}
-use Rattle.std.proofs.lemmas.Bool.{cases_lt, true≢false}
 use Rattle.std.proofs.lemmas.Bool.Decides.{nat_tests}
-use Rattle.std.proofs.lemmas.Slice.Eq.{bytes_eq-Decides}
-use Rattle.indexmap.specs.IndexMap.{insert_entry}
 use Rattle.std.proofs.lemmas.List.Concat.{flat_map-append}
 use Rattle.std.proofs.lemmas.List.{take_more, take-append-drop, take_all}
 use Rattle.std.proofs.lemmas.Option.{get_or_from_slice_get, slice_get-get_or, slice_get_within}
 use Rattle.std.proofs.Math.Seq.{take-append_seam}
 use Rattle.std.specs.declared.vec.Vec.{Vec}
 use Rattle.label_base.specs.Bounded.{greater, greatest_below, last_or_found}
+use Rattle.label_base.specs.NumberUnder.{number_under}
 use Rattle.label_base.specs.Path.{Path, are_names, at_or_below, is_name, path_text, same_bytes, with_slashes}
-use Rattle.label_base.proofs.BoundedLemmas.{greater_below, greatest_agree, greatest_bound, greatest_none, greatest_passes}
+use Rattle.label_base.proofs.BoundedLemmas.{below_or_last, cond_last, greater_below, greatest_agree, greatest_bound, greatest_none, greatest_passes}
 use Rattle.label_base.proofs.PathTexts.{same_texts}
 use Rattle.label_base.proofs.PathLemmas.{text_pushed}
-use Rattle.path_subs.specs.Listed.{IsListed, covers_to, has_text, last_covering, last_with, number_under, sub_at, no_sub}
+use Rattle.path_subs.specs.Listed.{IsListed, covers_to, has_text, last_covering, last_with, sub_at, no_sub}
 use Rattle.path_subs.specs.Subs.{SubValue, covering, covers, is_root}
 use Rattle.path_subs.proofs.Covering.{last_found, last_passed}
 
@@ -158,13 +156,6 @@ front_is path d k end text l t e =
 
 -- ---- a line more
 
-last_case : (n i : ℕ) → i < suc n → (i < n) ⊎ (i ≡ n)
-last_case n i l = elim (cases_lt i n) [ inl lt ↦ inl lt | inr ge ↦ inr (omega (arith, ge, l)) ]
-
-under_case : (n : ℕ) (found : Option ℕ) (b : Bool) → cond b (Some n) found ≡ last_or_found found n b
-under_case n found true = refl
-under_case n found false = refl
-
 pub listed_more : {A : Type 0} (subs : List SubValue) (n deepest deeper : ℕ) (sub : SubValue) (entries new : List (Vec ℕ A × ℕ)) → slice_get subs n ≡ Some sub
     → ((text : List ℕ) → number_under text new ≡ cond (has_text text sub) (Some n) (number_under text entries))
     → 0 < length sub.source → are_names sub.source ≡ true → length sub.source ≤ deeper → deepest ≤ deeper
@@ -172,43 +163,11 @@ pub listed_more : {A : Type 0} (subs : List SubValue) (n deepest deeper : ℕ) (
 listed_more subs n deepest deeper sub entries new h under some named low high listed =
     let own : sub_at subs n ≡ sub = get_or_from_slice_get subs n sub no_sub h in
     rw add-one (record {
-      last = λ text. under text ∙ ap₂ (λ s o. cond (has_text text s) (Some n) o) (sym own) (listed.last text) ∙ under_case n (last_with subs n text) (has_text text (sub_at subs n));
-      some = λ i l. elim (last_case n i l) [ inl lt ↦ listed.some i lt | inr same ↦ subst (λ s. 0 < length s.source) (sym (ap (sub_at subs) same ∙ own)) some ];
-      named = λ i l. elim (last_case n i l) [ inl lt ↦ listed.named i lt | inr same ↦ ap (λ s. are_names s.source) (ap (sub_at subs) same ∙ own) ∙ named ];
-      shallow = λ i l. elim (last_case n i l) [ inl lt ↦ (let s = listed.shallow i lt in omega (arith, s, high)) | inr same ↦ subst (λ s. length s.source ≤ deeper) (sym (ap (sub_at subs) same ∙ own)) low ];
+      last = λ text. under text ∙ ap₂ (λ s o. cond (has_text text s) (Some n) o) (sym own) (listed.last text) ∙ cond_last n (last_with subs n text) (has_text text (sub_at subs n));
+      some = λ i l. elim (below_or_last n i l) [ inl lt ↦ listed.some i lt | inr same ↦ subst (λ s. 0 < length s.source) (sym own ∙ ap (sub_at subs) same) some ];
+      named = λ i l. elim (below_or_last n i l) [ inl lt ↦ listed.named i lt | inr same ↦ ap (λ s. are_names s.source) (ap (sub_at subs) (sym same) ∙ own) ∙ named ];
+      shallow = λ i l. elim (below_or_last n i l) [ inl lt ↦ (let s = listed.shallow i lt in omega (arith, s, high)) | inr same ↦ subst (λ s. length s.source ≤ deeper) (sym own ∙ ap (sub_at subs) same) low ];
     })
-
--- a text under which a number is put
-under_here : (X : Option ℕ) (n m : ℕ) (b c : Bool) → b ≡ c → cond c (Some n) X ≡ cond b (Some n) (cond c (Some m) X)
-under_here X n m true true h = refl
-under_here X n m false false h = refl
-under_here X n m true false h = cc
-under_here X n m false true h = cc
-
-under_there : (X : Option ℕ) (n m : ℕ) (b c : Bool) → (b ≡ true → c ≡ true → ⊥) → cond c (Some m) (cond b (Some n) X) ≡ cond b (Some n) (cond c (Some m) X)
-under_there X n m true true h = absurd (h refl refl)
-under_there X n m false true h = refl
-under_there X n m true false h = refl
-under_there X n m false false h = refl
-
-same_text : (a b : List ℕ) → same_bytes a b ≡ true → a ≡ b
-same_text a b h = (bytes_eq-Decides a b).0 h
-
-under_by : {A : Type 0} (key : Vec ℕ A) (n : ℕ) (e : Vec ℕ A × ℕ) (es : List (Vec ℕ A × ℕ)) (text : List ℕ) (a : Bool) → same_bytes key.items e.0.items ≡ a
-    → number_under text (insert_entry (λ a b. same_bytes a.items b.items) es key n) ≡ cond (same_bytes text key.items) (Some n) (number_under text es)
-    → number_under text (cond a ((e.0, n) ∷ es) (e ∷ insert_entry (λ a b. same_bytes a.items b.items) es key n))
-    ≡ cond (same_bytes text key.items) (Some n) (cond (same_bytes text e.0.items) (Some e.1) (number_under text es))
-under_by key n e es text true h rest =
-    under_here (number_under text es) n e.1 (same_bytes text key.items) (same_bytes text e.0.items) (ap (same_bytes text) (same_text key.items e.0.items h))
-under_by key n e es text false h rest =
-    ap (λ o. cond (same_bytes text e.0.items) (Some e.1) o) rest
-    ∙ under_there (number_under text es) n e.1 (same_bytes text key.items) (same_bytes text e.0.items)
-    (λ b c. true≢false (sym ((bytes_eq-Decides key.items e.0.items).1 (sym (same_text text key.items b) ∙ same_text text e.0.items c)) ∙ h))
-
-pub under_more : {A : Type 0} (key : Vec ℕ A) (n : ℕ) (entries : List (Vec ℕ A × ℕ)) (text : List ℕ)
-    → number_under text (insert_entry (λ a b. same_bytes a.items b.items) entries key n) ≡ cond (same_bytes text key.items) (Some n) (number_under text entries)
-under_more key n [] text = refl
-under_more key n (e ∷ es) text = under_by key n e es text (same_bytes key.items e.0.items) refl (under_more key n es text)
 
 -- ---- the line with the index
 

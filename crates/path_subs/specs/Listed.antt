@@ -1,8 +1,8 @@
 -- What finds the last line that covers a path.
 use Rattle.std.specs.Prelude.{◌≡◌, ℕ, ◌<◌, ◌≤◌, Bool, true, ◌&&◌, nat_le, List, [], length, get_or, Option}
-use Rattle.std.specs.Map.{lookup}
 use Rattle.std.specs.declared.vec.Vec.{Vec}
 use Rattle.label_base.specs.Bounded.{greatest_below}
+use Rattle.label_base.specs.NumberUnder.{number_under}
 use Rattle.label_base.specs.Path.{Path, are_names, same_bytes, with_slashes}
 use Rattle.path_subs.specs.Subs.{SubValue, covers}
 
@@ -12,10 +12,6 @@ no_sub = record { source = []; target = [] }
 
 abbrev pub sub_at : List SubValue → ℕ → SubValue
 sub_at subs i = get_or subs i no_sub
-
--- the number under the text
-abbrev pub number_under : {A : Type 0} → List ℕ → List (Vec ℕ A × ℕ) → Option ℕ
-number_under text entries = lookup (λ key. same_bytes text key.items) entries
 
 -- the line's source has this text
 abbrev pub has_text : List ℕ → SubValue → Bool

@@ -1,8 +1,9 @@
 ghost use Rattle.std.specs.Prelude.{◌≡◌, ◌≤◌, ◌<◌, ℕ, if◌then◌else◌, List, true, length, min, slice_get, Some, IfOk, IfSome, OnOk};
 ghost use Rattle.std.specs.Option.{option_copied};
+ghost use Rattle.label_base.specs.NumberUnder.{number_under};
 ghost use Rattle.label_base.specs.Path.{are_names};
 ghost use Rattle.label_base.specs.PathRef.{path_of};
-ghost use Rattle.path_subs.specs.Listed.{IsListed, has_text, last_covering, number_under};
+ghost use Rattle.path_subs.specs.Listed.{IsListed, has_text, last_covering};
 ghost use Rattle.path_subs.specs.Subs.{SubValue, covering, covers};
 
 use crate::sub::Sub;

@@ -1,17 +1,18 @@
 -- Candidates by the greatest of those that are left.
-use Rattle.std.proofs.Common.{◌≡◌, ◌∙◌, ap, ap₂, sym, refl, subst, ℕ, zero, suc, ◌+◌, ◌<◌, ◌≤◌, ◌^◌, ◌-◌, Bool, true, false, cond, ◌==◌, List, [], ◌∷◌, ◌++◌, length, get_or, arith, length-append, ◌⊎◌, inl, inr}
-use Rattle.std.specs.Prelude.{Option, Some, None, IfSome, ◌&&◌, ◌||◌, not, nat_lt}
+use Rattle.std.proofs.Common.{◌≡◌, ◌∙◌, ap, ap₂, sym, refl, subst, ℕ, zero, suc, ◌<◌, ◌≤◌, ◌^◌, ◌-◌, Bool, true, false, cond, ◌==◌, List, [], ◌∷◌, ◌++◌, length, get_or, arith, length-append, ◌⊎◌, inl, inr}
+use Rattle.std.specs.Prelude.{Option, Some, None, IfSome, ◌&&◌, ◌||◌, not}
 use Rattle.std.proofs.lemmas.Bool.{cases_lt, eqb-true, true≢false}
-use Rattle.std.proofs.lemmas.Bool.Decides.{nat_tests}
 use Rattle.std.proofs.lemmas.List.{get_or_append_left}
 use Rattle.std.proofs.Math.Seq.{get_or-append_seam}
 use Rattle.std.proofs.lemmas.Slice.Eq.{bytes_eq-Decides}
 use Rattle.std.specs.declared.vec.Vec.{Vec}
 use Rattle.indexmap.specs.IndexMap.{insert_entry}
 use Rattle.label_base.specs.Bounded.{greater, greatest_below, last_or_found}
+use Rattle.label_base.specs.NumberUnder.{number_under}
 use Rattle.label_base.specs.Path.{same_bytes}
-use Rattle.label_base.proofs.BoundedLemmas.{greater_below, greatest_above, greatest_agree, greatest_bound, greatest_none, greatest_passes, greatest_shrinks}
-use Rattle.stem_index.specs.Kept.{AreHeads, IsKept, last_with, number_under}
+use Rattle.label_base.proofs.BoundedLemmas.{below_or_last, cond_last, greater_below, greatest_above, greatest_agree, greatest_bound, greatest_none, greatest_passes, greatest_shrinks}
+use Rattle.label_base.proofs.UnderLemmas.{under_more}
+use Rattle.stem_index.specs.Kept.{AreHeads, IsKept, last_with}
 use Rattle.stem_index.specs.Stems.{candidates_below, fits, is_none, is_stem, stem_at}
 
 -- ---- candidates
@@ -102,45 +103,6 @@ module _ (stems : List (List ℕ)) (name : List ℕ) (bound : ℕ) (free own : O
 
 -- ---- a text more
 
-last_case : (n i : ℕ) → i < suc n → (i < n) ⊎ (i ≡ n)
-last_case n i l = elim (cases_lt i n) [ inl lt ↦ inl lt | inr ge ↦ inr (omega (arith, ge, l)) ]
-
-under_case : (n : ℕ) (found : Option ℕ) (b : Bool) → cond b (Some n) found ≡ last_or_found found n b
-under_case n found true = refl
-under_case n found false = refl
-
--- a text under which a number is put
-under_here : (X : Option ℕ) (n m : ℕ) (b c : Bool) → b ≡ c → cond c (Some n) X ≡ cond b (Some n) (cond c (Some m) X)
-under_here X n m true true h = refl
-under_here X n m false false h = refl
-under_here X n m true false h = cc
-under_here X n m false true h = cc
-
-under_there : (X : Option ℕ) (n m : ℕ) (b c : Bool) → (b ≡ true → c ≡ true → ⊥) → cond c (Some m) (cond b (Some n) X) ≡ cond b (Some n) (cond c (Some m) X)
-under_there X n m true true h = absurd (h refl refl)
-under_there X n m false true h = refl
-under_there X n m true false h = refl
-under_there X n m false false h = refl
-
-same_text : (a b : List ℕ) → same_bytes a b ≡ true → a ≡ b
-same_text a b h = (bytes_eq-Decides a b).0 h
-
-under_by : {A : Type 0} (key : Vec ℕ A) (n : ℕ) (e : Vec ℕ A × ℕ) (es : List (Vec ℕ A × ℕ)) (text : List ℕ) (a : Bool) → same_bytes key.items e.0.items ≡ a
-    → number_under text (insert_entry (λ a b. same_bytes a.items b.items) es key n) ≡ cond (same_bytes text key.items) (Some n) (number_under text es)
-    → number_under text (cond a ((e.0, n) ∷ es) (e ∷ insert_entry (λ a b. same_bytes a.items b.items) es key n))
-    ≡ cond (same_bytes text key.items) (Some n) (cond (same_bytes text e.0.items) (Some e.1) (number_under text es))
-under_by key n e es text true h rest =
-    under_here (number_under text es) n e.1 (same_bytes text key.items) (same_bytes text e.0.items) (ap (same_bytes text) (same_text key.items e.0.items h))
-under_by key n e es text false h rest =
-    ap (λ o. cond (same_bytes text e.0.items) (Some e.1) o) rest
-    ∙ under_there (number_under text es) n e.1 (same_bytes text key.items) (same_bytes text e.0.items)
-    (λ b c. true≢false (sym ((bytes_eq-Decides key.items e.0.items).1 (sym (same_text text key.items b) ∙ same_text text e.0.items c)) ∙ h))
-
-pub under_more : {A : Type 0} (key : Vec ℕ A) (n : ℕ) (entries : List (Vec ℕ A × ℕ)) (text : List ℕ)
-    → number_under text (insert_entry (λ a b. same_bytes a.items b.items) entries key n) ≡ cond (same_bytes text key.items) (Some n) (number_under text entries)
-under_more key n [] text = refl
-under_more key n (e ∷ es) text = under_by key n e es text (same_bytes key.items e.0.items) refl (under_more key n es text)
-
 module _ (stems : List (List ℕ)) (stem : List ℕ) where
   abbrev more : List (List ℕ)
   more = stems ++ stem ∷ []
@@ -155,12 +117,12 @@ module _ (stems : List (List ℕ)) (stem : List ℕ) where
   last_before i s l = greatest_agree i (λ k. same_bytes s (stem_at more k)) (λ k. same_bytes s (stem_at stems k)) (λ k m. ap (same_bytes s) (at_before k (omega (arith, l, m))))
 
   links_by : (before : List (Option ℕ)) (earlier : Option ℕ) (i : ℕ) → length before ≡ length stems → ((i : ℕ) → i < length stems → get_or before i None ≡ last_with stems i (stem_at stems i))
-      → earlier ≡ last_with stems (length stems) stem → (i < length stems) ⊎ (i ≡ length stems) → get_or (before ++ earlier ∷ []) i None ≡ last_with more i (stem_at more i)
+      → earlier ≡ last_with stems (length stems) stem → (i < length stems) ⊎ (length stems ≡ i) → get_or (before ++ earlier ∷ []) i None ≡ last_with more i (stem_at more i)
   links_by before earlier i n links e (inl lt) =
       get_or_append_left before (earlier ∷ []) None i (omega (arith, n, lt)) ∙ links i lt ∙ ap (last_with stems i) (sym (at_before i lt)) ∙ sym (last_before i (stem_at more i) (omega (arith, lt)))
   links_by before earlier i n links e (inr same) =
       (let own : length before ≡ i = omega (arith, n, same) in subst (λ k. get_or (before ++ earlier ∷ []) k None ≡ earlier) own (get_or-append_seam before earlier [] None))
-      ∙ e ∙ sym (last_before (length stems) stem (omega arith)) ∙ ap (last_with more (length stems)) (sym at_end) ∙ ap (λ k. last_with more k (stem_at more k)) (sym same)
+      ∙ e ∙ sym (last_before (length stems) stem (omega arith)) ∙ ap (last_with more (length stems)) (sym at_end) ∙ ap (λ k. last_with more k (stem_at more k)) same
 
   pub kept_more : {A : Type 0} (key : Vec ℕ A) (entries new : List (Vec ℕ A × ℕ)) (before : List (Option ℕ)) (earlier : Option ℕ) → key.items ≡ stem
       → new ≡ insert_entry (λ a b. same_bytes a.items b.items) entries key (length stems) → earlier ≡ number_under stem entries → length stems < 2 ^ 32 - 1
@@ -169,13 +131,14 @@ module _ (stems : List (List ℕ)) (stem : List ℕ) where
       let count : length more ≡ suc (length stems) = omega (arith, length-append stems (stem ∷ [])) in
       record {
         last = λ s.
-            ap (number_under s) e ∙ under_more key (length stems) entries s
+            ap (number_under s) e
+            ∙ under_more key (length stems) (λ es. insert_entry (λ a b. same_bytes a.items b.items) es key (length stems)) refl (λ first rest. refl) entries s
             ∙ ap₂ (λ t o. cond (same_bytes s t) (Some (length stems)) o) k (kept.last s ∙ sym (last_before (length stems) s (omega arith)))
-            ∙ under_case (length stems) (last_with more (length stems) s) (same_bytes s stem)
+            ∙ cond_last (length stems) (last_with more (length stems) s) (same_bytes s stem)
             ∙ ap (λ t. last_or_found (last_with more (length stems) s) (length stems) (same_bytes s t)) (sym at_end)
             ∙ ap (λ n. last_with more n s) (sym count);
         sized = omega (arith, length-append before (earlier ∷ []), kept.sized, count);
-        links = λ i l. links_by before earlier i kept.sized kept.links (r ∙ kept.last stem) (last_case (length stems) i (omega (arith, l, count)));
+        links = λ i l. links_by before earlier i kept.sized kept.links (r ∙ kept.last stem) (below_or_last (length stems) i (omega (arith, l, count)));
         few = omega (arith, count, few);
       }
 

@@ -1,14 +1,10 @@
 -- What finds the texts of a stem.
 use Rattle.std.specs.Prelude.{◌≡◌, ℕ, ◌<◌, ◌≤◌, ◌^◌, List, length, get_or, Option, None}
-use Rattle.std.specs.Map.{lookup}
 use Rattle.std.specs.declared.vec.Vec.{Vec}
 use Rattle.label_base.specs.Bounded.{greatest_below}
+use Rattle.label_base.specs.NumberUnder.{number_under}
 use Rattle.label_base.specs.Path.{same_bytes}
 use Rattle.stem_index.specs.Stems.{is_none, is_stem, stem_at}
-
--- the number under the text
-abbrev pub number_under : {A : Type 0} → List ℕ → List (Vec ℕ A × ℕ) → Option ℕ
-number_under text entries = lookup (λ key. same_bytes text key.items) entries
 
 -- the last of the first n texts with this stem
 abbrev pub last_with : List (List ℕ) → ℕ → List ℕ → Option ℕ

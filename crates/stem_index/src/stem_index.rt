@@ -1,6 +1,7 @@
 ghost use Rattle.std.specs.Prelude.{◌≡◌, ◌++◌, ◌∷◌, ◌<◌, ◌-◌, ◌^◌, [], length, OnErr, OnOk, vec_len, vec_capacity};
+ghost use Rattle.label_base.specs.NumberUnder.{number_under};
 ghost use Rattle.label_base.specs.PathRef.{path_of};
-ghost use Rattle.stem_index.specs.Kept.{IsKept, last_with, number_under};
+ghost use Rattle.stem_index.specs.Kept.{IsKept, last_with};
 ghost use Rattle.stem_index.specs.Stems.{candidates_below, first_name, is_none, stem_at, stem_of};
 
 use crate::candidates::Candidates;

@@ -1,5 +1,4 @@
-use Rattle.std.proofs.Common.{◌≡◌, ◌∙◌, sym, true, false}
-use Rattle.stem_index.specs.Stems.{is_none}
+use Rattle.std.proofs.Common.{sym, true, false}
 use Rattle.stem_index.proofs.StemLemmas.{empty_none, heads_named, heads_root}
 use Rattle.stem_index.proofs.candidates.last_own.Goals as goal
 

@@ -1,8 +1,6 @@
 use Rattle.std.proofs.Common.{◌∙◌, ap, length, ◌++◌, ◌∷◌, [], arith}
-use Rattle.indexmap.specs.IndexMap.{insert_entry}
-use Rattle.label_base.specs.Path.{same_bytes}
-use Rattle.stem_index.specs.Kept.{IsKept, number_under}
-use Rattle.stem_index.proofs.StemLemmas.{kept_at, kept_more}
+use Rattle.label_base.specs.NumberUnder.{number_under}
+use Rattle.stem_index.proofs.StemLemmas.{kept_at}
 use Rattle.stem_index.proofs.stem_index.add_stem.Goals as goal
 
 pub returns-clause-kept : goal.returns-clause-kept

@@ -1,4 +1,4 @@
-use Rattle.std.proofs.Common.{◌≡◌, ◌∙◌, ◌<◌, ap, sym, length, ◌∷◌, [], arith}
+use Rattle.std.proofs.Common.{◌≡◌, ◌∙◌, ap, sym, length, ◌∷◌, [], arith}
 use Rattle.std.specs.Prelude.{Some, None}
 use Rattle.label_base.specs.Bounded.{greater}
 use Rattle.stem_index.specs.Stems.{candidates_below}
