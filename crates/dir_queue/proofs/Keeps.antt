@@ -1,5 +1,5 @@
 -- Each step keeps the rule of the queue.
-use Rattle.std.proofs.Common.{◌≡◌, ◌≢◌, ℕ, zero, suc, ◌+◌, ◌<◌, ◌≤◌, Bool, false, true≢false, cond, eq-eqb, ne_eqb, List, [], ◌∷◌, ◌++◌, set, length, refl, sym, ap, subst, ◌∙◌, inl, inr, ⊎_elim, arith}
+use Rattle.std.proofs.Common.{◌≡◌, ◌≢◌, ℕ, zero, suc, ◌+◌, ◌<◌, ◌≤◌, Bool, false, true≢false, cond, eq-eqb, ne_eqb, List, [], ◌∷◌, ◌++◌, set, length, refl, sym, ap, subst, ◌∙◌, inl, inr, ⊎_elim, arith, sum_by}
 use mathlib.Core.Option.{some, some-injective, some-ne-none}
 use mathlib.Core.Logic.{dite}
 use native.Mathlib.Decide.{dec_le, ℕ_discrete}
@@ -8,8 +8,8 @@ use Rattle.crossbeam_queue.specs.Fifo.{Pushes, Pops, Forks, Merges, Learns}
 use Rattle.crossbeam_queue.proofs.Lists.{at_set, at_snoc}
 use Rattle.dir_queue.specs.declared.rule.Job.{Job}
 use Rattle.dir_queue.specs.declared.rule.QueueView.{QueueView}
-use Rattle.label_base.specs.Totals.{total}
-use Rattle.label_base.proofs.TotalLemmas.{total_set, total_snoc, one_of, only, two_of, someone}
+use Rattle.label_base.proofs.SumLemmas.{sum_set, one_of, only, two_of, someone}
+use Rattle.std.proofs.lemmas.List.Sums.{sum_by_push}
 use Rattle.walk_steps.specs.Lists.{hit, times}
 use Rattle.dir_queue.specs.Passes.{not_set_up, fresh, spent, with_given, with_taken, for_one_less, for_one, joined, parent_in, MayOffer, HoldsEachOnce}
 use Rattle.dir_queue.specs.Rule.{waiting, all_taken, all_given, Fits, NothingLost, IsKept, IsSetUp, NothingWaits, IsOfferOf, HasRoom, IsTakeOf, Accounts}
@@ -93,7 +93,7 @@ start_empty seat items views (inl t) at = t.0
 start_empty seat items views (inr t) at = absurd (true≢false ((t.2.fits seat not_set_up at).begun))
 
 -- the views may change as they like, while their lists stay the same in sum
-moved : (parents : List ℕ) (passes : ℕ) (items : List Job) (views after : List QueueView) → NothingLost parents passes items views → total (λ v. v.stands_for) after ≡ total (λ v. v.stands_for) views → AllFit parents passes after
+moved : (parents : List ℕ) (passes : ℕ) (items : List Job) (views after : List QueueView) → NothingLost parents passes items views → sum_by (λ v. v.stands_for) after ≡ sum_by (λ v. v.stands_for) views → AllFit parents passes after
     → ((j : ℕ) → all_taken j after ≡ all_taken j views) → ((j : ℕ) → all_given j after ≡ all_given j views) → NothingLost parents passes items after
 moved parents passes items views after r stands fit taken given = record {
   whole = stands ∙ r.whole;
@@ -109,11 +109,11 @@ forks seat v begun many items views h at = let r = runs items views seat v h at 
       v.parents,
       v.passes,
       moved v.parents v.passes items views (vs ++ for_one v ∷ []) r
-          (let a = total_set (λ u. u.stands_for) views seat v (for_one_less v) at in let b = total_snoc (λ u. u.stands_for) vs (for_one v) in omega (arith, a, b))
+          (let a = sum_set (λ u. u.stands_for) views seat v (for_one_less v) at in let b = sum_by_push (λ u. u.stands_for) vs (for_one v) in omega (arith, a, b))
           (fit_snoc v.parents v.passes vs (for_one v) (fit_of v.parents v.passes (for_one v) refl (λ z. absurd (omega arith)) (λ _. (refl, refl)) (λ j e. absurd (omega arith)))
           (fit_set v.parents v.passes views seat (for_one_less v) (fit_of v.parents v.passes (for_one_less v) begun (λ z. absurd (omega arith)) (λ _. (refl, refl)) f.under) r.fits))
-          (λ j. let a = total_set (λ u. times j u.taken) views seat v (for_one_less v) at in let b = total_snoc (λ u. times j u.taken) vs (for_one v) in omega (arith, a, b))
-          (λ j. let a = total_set (λ u. times j u.given) views seat v (for_one_less v) at in let b = total_snoc (λ u. times j u.given) vs (for_one v) in omega (arith, a, b)),
+          (λ j. let a = sum_set (λ u. times j u.taken) views seat v (for_one_less v) at in let b = sum_by_push (λ u. times j u.taken) vs (for_one v) in omega (arith, a, b))
+          (λ j. let a = sum_set (λ u. times j u.given) views seat v (for_one_less v) at in let b = sum_by_push (λ u. times j u.given) vs (for_one v) in omega (arith, a, b)),
     )
 
 pub merges : (seat : ℕ) (v : QueueView) (other : ℕ) (u : QueueView) → v.is_new ≡ false → 0 < v.stands_for → Merges IsKept seat v other u (joined v u) spent
@@ -125,11 +125,11 @@ merges seat v other u begun live items views h at apart there = let r = runs ite
       v.parents,
       v.passes,
       moved v.parents v.passes items views (set vs other spent) r
-          (let a = total_set (λ x. x.stands_for) views seat v w at in let b = total_set (λ x. x.stands_for) vs other u spent there in omega (arith, a, b))
+          (let a = sum_set (λ x. x.stands_for) views seat v w at in let b = sum_set (λ x. x.stands_for) vs other u spent there in omega (arith, a, b))
           (fit_set v.parents v.passes vs other spent (fit_of v.parents v.passes spent refl (λ _. (refl, refl)) (λ z. absurd (omega arith)) (λ j e. absurd (omega arith)))
           (fit_set v.parents v.passes views seat w (fit_of v.parents v.passes w begun (λ z. absurd (omega arith)) (λ _. (refl, refl)) under) r.fits))
-          (λ j. let a = total_set (λ x. times j x.taken) views seat v w at in let b = total_set (λ x. times j x.taken) vs other u spent there in let c = times_append j v.taken u.taken in omega (arith, a, b, c))
-          (λ j. let a = total_set (λ x. times j x.given) views seat v w at in let b = total_set (λ x. times j x.given) vs other u spent there in let c = times_append j v.given u.given in omega (arith, a, b, c)),
+          (λ j. let a = sum_set (λ x. times j x.taken) views seat v w at in let b = sum_set (λ x. times j x.taken) vs other u spent there in let c = times_append j v.taken u.taken in omega (arith, a, b, c))
+          (λ j. let a = sum_set (λ x. times j x.given) views seat v w at in let b = sum_set (λ x. times j x.given) vs other u spent there in let c = times_append j v.given u.given in omega (arith, a, b, c)),
     )
 
 -- a job that this pass may give was given by none
@@ -154,14 +154,14 @@ offers n seat v x begun live may items views room_here h at = (w, inr (v.parents
     nobody = ungiven items views seat v x.number r at may
 
     given : (j : ℕ) → all_given j (set views seat w) ≡ all_given j views + hit x.number j
-    given j = let a = total_set (λ u. times j u.given) views seat v w at in let b = times_append j v.given (x.number ∷ []) in omega (arith, a, b)
+    given j = let a = sum_set (λ u. times j u.given) views seat v w at in let b = times_append j v.given (x.number ∷ []) in omega (arith, a, b)
 
     taken : (j : ℕ) → all_taken j (set views seat w) ≡ all_taken j views
-    taken j = let a = total_set (λ u. times j u.taken) views seat v w at in omega (arith, a)
+    taken j = let a = sum_set (λ u. times j u.taken) views seat v w at in omega (arith, a)
 
     run : NothingLost v.parents v.passes (items ++ x ∷ []) (set views seat w)
     run = record {
-      whole = (let a = total_set (λ u. u.stands_for) views seat v w at in let b = r.whole in omega (arith, a, b));
+      whole = (let a = sum_set (λ u. u.stands_for) views seat v w at in let b = r.whole in omega (arith, a, b));
       fits = fit_set v.parents v.passes views seat w (fit_of v.parents v.passes w begun (λ z. absurd (omega arith)) (λ _. (refl, refl)) (λ j e. dite (ℕ_discrete x.number j)
           (λ (same : x.number ≡ j). subst (λ (k : ℕ). 0 < times (parent_in v.parents k) v.taken) same may.parent)
           (λ (ne : x.number ≢ j). (r.fits seat v at).under j (let a = times_append j v.given (x.number ∷ []) in let b = is_zero x.number j ne in omega (arith, a, b, e))))) r.fits;
@@ -184,7 +184,7 @@ rooms seat v begun live items views h at j may = let r = runs items views seat v
 
 -- where one pass stands for all, its lists are all lists
 alone : (f : QueueView → ℕ) (items : List Job) (views : List QueueView) (seat : ℕ) (v : QueueView) → NothingLost v.parents v.passes items views → get_elem? views seat ≡ some v → v.stands_for ≡ v.passes
-    → ((u : QueueView) → (u.taken ≡ []) × (u.given ≡ []) → f u ≡ 0) → total f views ≡ f v
+    → ((u : QueueView) → (u.taken ≡ []) × (u.given ≡ []) → f u ≡ 0) → sum_by f views ≡ f v
 alone f items views seat v r at whole none_of = only f views seat v at
     (λ j u ne e. let two = two_of (λ x. x.stands_for) views seat j v u (λ i. ne (sym i)) at e in let w = r.whole in none_of u ((r.fits j u e).empty (omega (arith, two, w, whole))))
 
@@ -216,14 +216,14 @@ takes seat v begun live x items views h at = (w, inr (v.parents, v.passes, run),
     here = is_one x.number x.number refl
 
     taken : (j : ℕ) → all_taken j (set views seat w) ≡ all_taken j views + hit x.number j
-    taken j = let a = total_set (λ u. times j u.taken) views seat v w at in let b = times_append j v.taken (x.number ∷ []) in omega (arith, a, b)
+    taken j = let a = sum_set (λ u. times j u.taken) views seat v w at in let b = times_append j v.taken (x.number ∷ []) in omega (arith, a, b)
 
     given : (j : ℕ) → all_given j (set views seat w) ≡ all_given j views
-    given j = let a = total_set (λ u. times j u.given) views seat v w at in omega (arith, a)
+    given j = let a = sum_set (λ u. times j u.given) views seat v w at in omega (arith, a)
 
     run : NothingLost v.parents v.passes items (set views seat w)
     run = record {
-      whole = (let a = total_set (λ u. u.stands_for) views seat v w at in let b = r.whole in omega (arith, a, b));
+      whole = (let a = sum_set (λ u. u.stands_for) views seat v w at in let b = r.whole in omega (arith, a, b));
       fits = fit_set v.parents v.passes views seat w (fit_of v.parents v.passes w begun (λ z. absurd (omega arith)) (λ _. (refl, refl)) (λ j e. let k = (r.fits seat v at).under j e in let b = times_append (parent_in v.parents j) v.taken (x.number ∷ []) in omega (arith, k, b))) r.fits;
       placed = λ j. let a = taken j in let b = given j in let c = r.placed j in omega (arith, a, b, c);
       once = λ j. let b = given j in let c = r.once j in omega (arith, b, c);

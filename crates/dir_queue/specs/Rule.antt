@@ -1,8 +1,7 @@
 -- The rule of the queue, which holds between any two steps of any threads.
-use Rattle.std.specs.Prelude.{◌≡◌, ℕ, ◌+◌, ◌<◌, ◌≤◌, ◌⊎◌, false, List, [], ◌∷◌, length}
+use Rattle.std.specs.Prelude.{◌≡◌, ℕ, ◌+◌, ◌<◌, ◌≤◌, ◌⊎◌, false, List, [], ◌∷◌, length, sum_by}
 use mathlib.Core.Option.{some}
 use lib.ListN.{get_elem?}
-use Rattle.label_base.specs.Totals.{total}
 use Rattle.walk_steps.specs.Lists.{hit, times}
 use Rattle.dir_queue.specs.declared.rule.Job.{Job}
 use Rattle.dir_queue.specs.declared.rule.QueueView.{QueueView}
@@ -15,10 +14,10 @@ waiting job (first ∷ items) = hit first.number job + waiting job items
 
 -- how often the job was taken, and given, by all passes
 abbrev pub all_taken : ℕ → List QueueView → ℕ
-all_taken job views = total (λ view. times job view.taken) views
+all_taken job views = sum_by (λ view. times job view.taken) views
 
 abbrev pub all_given : ℕ → List QueueView → ℕ
-all_given job views = total (λ view. times job view.given) views
+all_given job views = sum_by (λ view. times job view.given) views
 
 -- of one view: a pass that stands for none has nothing, any other knows the plan, and each took the parents of the jobs that it gave
 pub record Fits (parents : List ℕ) (passes : ℕ) (view : QueueView) : Type 0 where
@@ -30,7 +29,7 @@ pub record Fits (parents : List ℕ) (passes : ℕ) (view : QueueView) : Type 0 
 -- the queue and the taken lists hold job 0 and every given job, each once, and nothing else
 pub record NothingLost (parents : List ℕ) (passes : ℕ) (items : List Job) (views : List QueueView) :
     Type 0 where
-  pub whole : total (λ view. view.stands_for) views ≡ passes
+  pub whole : sum_by (λ view. view.stands_for) views ≡ passes
   pub fits : (seat : ℕ) (view : QueueView) → get_elem? views seat ≡ some view
       → Fits parents passes view
   pub placed : (job : ℕ) → waiting job items + all_taken job views ≡ hit 0 job + all_given job views

@@ -1,5 +1,5 @@
 -- Each step keeps the rule of the words.
-use Rattle.std.proofs.Common.{◌≡◌, ◌≢◌, ℕ, suc, ◌+◌, ◌-◌, ◌<◌, ◌≤◌, ◌==◌, ◌&&◌, ◌⊎◌, min, Bool, true, false, cond, eq-eqb, ne_eqb, List, [], ◌∷◌, ◌++◌, set, get_or, length, refl, sym, ap, subst, ◌∙◌, inl, inr, ⊎_elim, arith, get_or-set_other, get_or-set_same, length-set}
+use Rattle.std.proofs.Common.{◌≡◌, ◌≢◌, ℕ, suc, ◌+◌, ◌-◌, ◌<◌, ◌≤◌, ◌==◌, ◌&&◌, ◌⊎◌, min, Bool, true, false, cond, eq-eqb, ne_eqb, List, [], ◌∷◌, ◌++◌, set, get_or, length, refl, sym, ap, subst, ◌∙◌, inl, inr, ⊎_elim, arith, get_or-set_other, get_or-set_same, length-set, sum_by}
 use Rattle.std.proofs.Common.{replicate}
 use Rattle.std.proofs.lemmas.List.{length-replicate, get_or-replicate}
 use mathlib.Core.Option.{none, some, some-ne-none}
@@ -8,8 +8,8 @@ use native.Mathlib.Decide.{dec_le, ℕ_discrete}
 use lib.ListN.{get_elem?}
 use Rattle.atomic_table.specs.Table.{State, Me, keeps, step, Allows, Splits, Joins}
 use Rattle.atomic_table.proofs.Lists.{at_set, at_snoc}
-use Rattle.label_base.specs.Totals.{total}
-use Rattle.label_base.proofs.TotalLemmas.{total_set, total_snoc, one_of}
+use Rattle.label_base.proofs.SumLemmas.{sum_set, one_of}
+use Rattle.std.proofs.lemmas.List.Sums.{sum_by_push}
 use Rattle.inode_claims.specs.declared.rule.Call.{Call}
 use Rattle.inode_claims.specs.declared.rule.ClaimView.{ClaimView}
 use Rattle.inode_claims.specs.declared.rule.Plan.{Plan}
@@ -22,7 +22,7 @@ count_append q [] ys = omega arith
 count_append q (x ∷ xs) ys = let r = count_append q xs ys in omega (arith, r)
 
 -- the views may change as they like, while their calls and what they stand for stay the same in sum
-moved : (plan : Plan) (words : List ℕ) (views after : List ClaimView) → LeastIsKept plan words views → total (λ v. v.stands_for) after ≡ total (λ v. v.stands_for) views
+moved : (plan : Plan) (words : List ℕ) (views after : List ClaimView) → LeastIsKept plan words views → sum_by (λ v. v.stands_for) after ≡ sum_by (λ v. v.stands_for) views
     → SpentIsEmpty after → ((q : Call → Bool) → count_all q after ≡ count_all q views) → LeastIsKept plan words after
 moved plan words views after k stands idle same = record {
   sized = k.sized;
@@ -54,17 +54,17 @@ begins plan words positive sized full = record {
 
 pub splits : (plan : Plan) (seat : ℕ) (v : ClaimView) → 1 < v.stands_for → Splits (λ (s : State ℕ ClaimView). LeastIsKept plan s.words s.views) seat v (for_one_less v) (fresh 1)
 splits plan seat v many s k at = let w = for_one_less v in let vs = set s.views seat w in
-    let stands : total (λ u. u.stands_for) (vs ++ fresh 1 ∷ []) ≡ total (λ u. u.stands_for) s.views = (let a = total_set (λ u. u.stands_for) s.views seat v w at in let b = total_snoc (λ u. u.stands_for) vs (fresh 1) in omega (arith, a, b)) in
+    let stands : sum_by (λ u. u.stands_for) (vs ++ fresh 1 ∷ []) ≡ sum_by (λ u. u.stands_for) s.views = (let a = sum_set (λ u. u.stands_for) s.views seat v w at in let b = sum_by_push (λ u. u.stands_for) vs (fresh 1) in omega (arith, a, b)) in
     moved plan s.words s.views (vs ++ fresh 1 ∷ []) k stands
     (idle_snoc vs (fresh 1) (λ z. absurd (omega arith)) (idle_set s.views seat w (λ z. absurd (omega arith)) k.spent))
-    (λ q. let a = total_set (λ u. count q u.calls) s.views seat v w at in let b = total_snoc (λ u. count q u.calls) vs (fresh 1) in omega (arith, a, b))
+    (λ q. let a = sum_set (λ u. count q u.calls) s.views seat v w at in let b = sum_by_push (λ u. count q u.calls) vs (fresh 1) in omega (arith, a, b))
 
 pub joins : (plan : Plan) (seat : ℕ) (v : ClaimView) (other : ℕ) (u : ClaimView) → 0 < v.stands_for → Joins (λ (s : State ℕ ClaimView). LeastIsKept plan s.words s.views) seat v other u (joined v u) (fresh 0)
 joins plan seat v other u positive s k at apart there = let w = joined v u in let vs = set s.views seat w in
-    let stands : total (λ x. x.stands_for) (set vs other (fresh 0)) ≡ total (λ x. x.stands_for) s.views = (let a = total_set (λ x. x.stands_for) s.views seat v w at in let b = total_set (λ x. x.stands_for) vs other u (fresh 0) there in omega (arith, a, b)) in
+    let stands : sum_by (λ x. x.stands_for) (set vs other (fresh 0)) ≡ sum_by (λ x. x.stands_for) s.views = (let a = sum_set (λ x. x.stands_for) s.views seat v w at in let b = sum_set (λ x. x.stands_for) vs other u (fresh 0) there in omega (arith, a, b)) in
     moved plan s.words s.views (set vs other (fresh 0)) k stands
     (idle_set vs other (fresh 0) (λ z. refl) (idle_set s.views seat w (λ z. absurd (omega arith)) k.spent))
-    (λ q. let a = total_set (λ x. count q x.calls) s.views seat v w at in let b = total_set (λ x. count q x.calls) vs other u (fresh 0) there in let c = count_append q v.calls u.calls in omega (arith, a, b, c))
+    (λ q. let a = sum_set (λ x. count q x.calls) s.views seat v w at in let b = sum_set (λ x. count q x.calls) vs other u (fresh 0) there in let c = count_append q v.calls u.calls in omega (arith, a, b, c))
 
 -- a test of one group's calls says nothing of another group's
 elsewhere : (g h x y : ℕ) → g ≢ h → ((g == h) && (x == y)) ≡ false
@@ -85,7 +85,7 @@ module _ (plan : Plan) (words : List ℕ) (views : List ClaimView) (seat : ℕ) 
   after = set views seat (with_call v g p n)
 
   grows : (q : Call → Bool) → count_all q after ≡ count_all q views + cond (q (call_of g p n)) 1 0
-  grows q = let a = total_set (λ u. count q u.calls) views seat v (with_call v g p n) at in let b = count_append q v.calls (call_of g p n ∷ []) in omega (arith, a, b)
+  grows q = let a = sum_set (λ u. count q u.calls) views seat v (with_call v g p n) at in let b = count_append q v.calls (call_of g p n ∷ []) in omega (arith, a, b)
 
   grows_here : (q : Call → Bool) → q (call_of g p n) ≡ true → count_all q after ≡ count_all q views + 1
   grows_here q e = grows q ∙ ap (λ b. count_all q views + cond b 1 0) e
@@ -147,7 +147,7 @@ module _ (plan : Plan) (words : List ℕ) (views : List ClaimView) (seat : ℕ) 
   kept_after : 0 < v.stands_for → LeastIsKept plan words_after after
   kept_after positive = record {
     sized = (length-set words (suc g) (min n p)) ∙ k.sized;
-    whole = (let a = total_set (λ u. u.stands_for) views seat v (with_call v g p n) at in let w = k.whole in omega (arith, a, w));
+    whole = (let a = sum_set (λ u. u.stands_for) views seat v (with_call v g p n) at in let w = k.whole in omega (arith, a, w));
     spent = (idle_set views seat (with_call v g p n) (λ e. absurd (omega arith)) k.spent);
     low = low_after;
     met = met_after;

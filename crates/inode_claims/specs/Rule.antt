@@ -1,9 +1,8 @@
 -- The rule of the words, which holds between any two steps of any threads.
-use Rattle.std.specs.Prelude.{◌≡◌, ℕ, suc, ◌-◌, ◌<◌, ◌≤◌, ◌==◌, ◌⊎◌, Bool, cond, List, [], length, slice_index}
+use Rattle.std.specs.Prelude.{◌≡◌, ℕ, suc, ◌-◌, ◌<◌, ◌≤◌, ◌==◌, ◌⊎◌, Bool, cond, List, [], length, slice_index, sum_by}
 use mathlib.Core.Option.{some}
 use lib.ListN.{get_elem?}
 use Rattle.atomic_table.specs.Table.{Step, Me}
-use Rattle.label_base.specs.Totals.{total}
 use Rattle.walk_steps.specs.declared.machine.TheConstants.{NONE_WORD}
 use Rattle.inode_claims.specs.declared.rule.Call.{Call}
 use Rattle.inode_claims.specs.declared.rule.ClaimView.{ClaimView}
@@ -12,7 +11,7 @@ use Rattle.inode_claims.specs.Claiming.{with_call, count, is_at, is_told, IsClai
 
 -- how many calls of all views pass the test
 abbrev pub count_all : (Call → Bool) → List ClaimView → ℕ
-count_all test views = total (λ view. count test view.calls) views
+count_all test views = sum_by (λ view. count test view.calls) views
 
 -- the word of a group, behind the one that belongs to none
 abbrev pub word_of : ℕ → List ℕ → ℕ
@@ -26,7 +25,7 @@ SpentIsEmpty views =
 
 pub record LeastIsKept (plan : Plan) (words : List ℕ) (views : List ClaimView) : Type 0 where
   pub sized : length words ≡ suc plan.groups
-  pub whole : total (λ view. view.stands_for) views ≡ plan.passes
+  pub whole : sum_by (λ view. view.stands_for) views ≡ plan.passes
   pub spent : SpentIsEmpty views
   -- each word is at most every position that was claimed for its group
   pub low : (group position : ℕ) → 0 < count_all (is_at group position) views

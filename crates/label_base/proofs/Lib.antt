@@ -17,4 +17,4 @@ pub mod LineLengths
 pub mod LineLimits
 pub mod PathLengths
 pub mod UnderLemmas
-pub mod TotalLemmas
+pub mod SumLemmas

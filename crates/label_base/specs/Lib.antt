@@ -16,4 +16,3 @@ pub mod Reading
 pub mod Sink
 pub mod Source
 pub mod Store
-pub mod Totals
