@@ -1,5 +1,6 @@
 -- Counts of the entries that are names of groups whose labels change.
 use Rattle.std.proofs.Common.{◌≡◌, ◌∙◌, sym, refl, ap, ap₂, ℕ, zero, suc, ◌+◌, ◌<◌, ◌≤◌, Bool, true, false, ◌&&◌, List, [], ◌∷◌, ◌++◌, length, inl, inr, arith, add-one, length-append}
+use mir.Val.{bool_byte}
 use Rattle.std.specs.Prelude.{nat_le, nat_lt}
 use Rattle.std.proofs.lemmas.Bool.{and_parts, cases_Bool, cases_lt, le-leb, leb-true, lt-ltb, ltb-true}
 use Rattle.std.proofs.lemmas.List.{get_or_append_left}
@@ -10,6 +11,14 @@ use Rattle.tree_model.specs.Extents.{in_extent}
 use Rattle.relabel_core.specs.Counts.{AreCounted, changed_below, count_at}
 use Rattle.relabel_core.specs.Walk.{Walk, count, has_changed_name, is_changed_name, one_if}
 use Rattle.relabel_core.proofs.NotedLemmas.{filtered_more}
+
+pub byte_is_one : (b : Bool) → bool_byte b ≡ one_if b
+byte_is_one true = refl
+byte_is_one false = refl
+
+pub at_most_one : (b : Bool) → one_if b ≤ 1
+at_most_one true = omega arith
+at_most_one false = omega arith
 
 pub more_changed : (w : Walk) (n : ℕ) → changed_below w (n + 1) ≡ changed_below w n + one_if (is_changed_name w n)
 more_changed w n = ap (λ m. changed_below w m) (add-one n) ∙ filtered_more (is_changed_name w) (all_numbers n) n

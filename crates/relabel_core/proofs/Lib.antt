@@ -1,4 +1,3 @@
-pub mod Settled
 pub mod PassLemmas
 pub mod NotedLemmas
 pub mod ReportLemmas
@@ -9,4 +8,3 @@ pub mod PassedLemmas
 pub mod CountsLemmas
 pub mod ChangeLemmas
 pub mod DumpLemmas
-pub mod FoundLemmas

@@ -9,7 +9,8 @@ use Rattle.label_base.specs.Bounded.{all_numbers, found_or}
 use Rattle.label_base.proofs.BoundedLemmas.{least_case}
 use Rattle.tree_model.specs.Groups.{group_of, groups_in}
 use Rattle.relabel_core.specs.Numbers.{as_found, entered_at, entered_if, found_in, number_of}
-use Rattle.relabel_core.specs.Walk.{Walk, can_win, count, deciding, given_at, one_if, walked, walked_below, wanted, winner}
+use Rattle.relabel_core.specs.Walk.{Walk, can_win, count, deciding, one_if, walked, walked_below, wanted, winner}
+use Rattle.label_rules.specs.LookUp.{given_at}
 use Rattle.relabel_core.specs.Walked.{AreNoted}
 use Rattle.relabel_core.specs.declared.numbers.TheConstants.{NONE}
 

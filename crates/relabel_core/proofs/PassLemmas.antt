@@ -9,7 +9,8 @@ use Rattle.label_base.specs.Bounded.{all_numbers, found_or, least_below}
 use Rattle.label_base.proofs.BoundedLemmas.{least_case}
 use Rattle.context_syntax.specs.Context.{ContextValue}
 use Rattle.tree_model.specs.Groups.{group_of, label_in}
-use Rattle.relabel_core.specs.Walk.{Walk, can_win, conflict_line, conflict_with, count, deciding, decided_line, entry_lines, group_winner, is_at, label_after, label_with, labels, line, line_where, line_with, new_label_with, wanted, winner, winner_line, path_at}
+use Rattle.relabel_core.specs.Walk.{Walk, can_win, conflict_with, count, deciding, decided_line, entry_lines, group_winner, is_at, label_after, label_with, labels, line, line_where, line_with, new_label_with, wanted, winner, winner_line, path_at}
+use Rattle.label_rules.specs.Lines.{conflict_line}
 use Rattle.relabel_core.specs.OnePass.{Table, first_of, one_pass, pass, put}
 
 chosen : (b : Bool) (o : Option ℕ) (e : ℕ) → (if b then first_of o e else o) ≡ found_or o e (b && true)

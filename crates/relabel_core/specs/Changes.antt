@@ -12,7 +12,7 @@ use Rattle.setfattr_dump.specs.declared.dump.Attr.{Attr}
 use Rattle.setfattr_dump.specs.declared.dump.Section.{Section}
 use Rattle.setfattr_dump.specs.declared.marks.TheConstants.{DIGEST_KEY, LABEL_KEY}
 use Rattle.tree_model.specs.Groups.{group_of, label_in}
-use Rattle.relabel_core.specs.Decide.{VerdictValue, Keep, Customized, Change}
+use Rattle.label_rules.specs.Decide.{given_in}
 use Rattle.relabel_core.specs.Walk.{Walk, count, digest_after, group_winner, is_at, is_outdated, label_after, path_at, verdict_with}
 
 -- ---- labels and digests that change
@@ -84,12 +84,6 @@ digest_change w d = if digest_changes w d then digest_after w d else None
 -- the digest, unless it is the stored one
 abbrev pub unless_stored : List ℕ → Option (List ℕ) → Option (List ℕ)
 unless_stored digest stored = if same_option (Some digest) stored then None else Some digest
-
--- the context that a verdict gives
-abbrev pub given_in : VerdictValue → Option ContextValue
-given_in Keep = None
-given_in Customized = None
-given_in (Change context) = Some context
 
 -- the context that the label of a group changes to, by its winner
 abbrev pub group_change : Walk → ℕ → Option ℕ → Option ContextValue

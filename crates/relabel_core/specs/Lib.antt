@@ -1,10 +1,7 @@
 pub mod Numbers
-pub mod Decide
-pub mod Verdicts
 pub mod Walk
 pub mod Terms
 pub mod OnePass
-pub mod LabelAfter
 pub mod Stored
 pub mod Passed
 pub mod Walked
@@ -14,5 +11,3 @@ pub mod Counts
 pub mod DigestAfter
 pub mod Digests
 pub mod Changes
-pub mod Found
-pub mod Verified

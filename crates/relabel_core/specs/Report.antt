@@ -7,7 +7,7 @@ use Rattle.report_text.specs.Message.{MessageValue, Absent}
 use Rattle.report_text.specs.Texts.{line_of, report_of}
 use Rattle.relabel_core.specs.Walk.{Walk, deciding, is_at, line_of_spec}
 use Rattle.relabel_core.specs.Walked.{operands_at}
-use Rattle.relabel_core.specs.declared.rules.Rules.{Rules}
+use Rattle.label_rules.specs.declared.rules.Rules.{Rules}
 
 -- the line of a message, where there is one
 abbrev pub optional_text : Option MessageValue → List ℕ

@@ -2,7 +2,7 @@
 use Rattle.context_syntax.specs.TypeNames.{in_order}
 use Rattle.dir_digest.specs.Terms.{Terms}
 use Rattle.tree_model.specs.declared.options.Options.{Options}
-use Rattle.relabel_core.specs.declared.rules.Rules.{Rules}
+use Rattle.label_rules.specs.declared.rules.Rules.{Rules}
 
 abbrev pub terms_by : Rules → Options → Terms
 terms_by rules options = record {

@@ -3,30 +3,25 @@
 use Rattle.std.specs.Prelude.{ℕ, ◌+◌, Bool, false, not, ◌&&◌, ◌||◌, ◌==◌, List, [], ◌++◌, length, filter, map, get_or, slice_get, Option, Some, None, is_some, option_and_then, if◌then◌else◌}
 use Rattle.std.specs.List.{filter_map}
 use Rattle.label_base.specs.Bounded.{all_numbers, any_below, least_below}
-use Rattle.label_base.specs.Path.{Path, path_text, same_bytes}
-use Rattle.label_base.specs.declared.kind.Asked.{Asked}
-use Rattle.label_base.specs.declared.kind.Asked.TheVariants.{Of}
-use Rattle.context_syntax.specs.Context.{ContextValue, same_context}
+use Rattle.label_base.specs.Path.{Path, same_bytes}
+use Rattle.context_syntax.specs.Context.{ContextValue}
 use Rattle.context_syntax.specs.Label.{same_label}
 use Rattle.context_syntax.specs.TypeNames.{in_order}
 use Rattle.context_syntax.specs.declared.label.Label.{Label}
-use Rattle.context_syntax.specs.declared.label.Label.TheVariants as label_kinds
 use Rattle.spec_reader.specs.SpecValue.{SpecValue}
-use Rattle.spec_reader.specs.declared.spec.Decision.{Decision}
-use Rattle.spec_reader.specs.declared.spec.Decision.TheVariants.{Leave, Give}
-use Rattle.spec_match.specs.LastMatch.{last_index}
-use Rattle.path_subs.specs.Subs.{substituted}
 use Rattle.dir_digest.specs.Digest.{digest_at}
 use Rattle.find_records.specs.Record.{Record}
 use Rattle.tree_model.specs.Extents.{entry_at, in_extent, is_directory}
 use Rattle.tree_model.specs.Groups.{group_of, label_in}
 use Rattle.tree_model.specs.Selection.{whole_at}
 use Rattle.tree_model.specs.declared.options.Options.{Options}
-use Rattle.report_text.specs.Message.{MessageValue, Relabel, Customized, Conflict, NoDefault, Skipped, Absent, NoMatches}
-use Rattle.relabel_core.specs.Decide as verdicts
-use Rattle.relabel_core.specs.Decide.{VerdictValue, label_by, verdict_for}
+use Rattle.report_text.specs.Message.{MessageValue, NoDefault, Skipped, Absent, NoMatches}
+use Rattle.label_rules.specs.LookUp.{given_at, given_by, index_for}
+use Rattle.label_rules.specs.Lines.{conflict_line, verdict_line}
+use Rattle.label_rules.specs.Decide as verdicts
+use Rattle.label_rules.specs.Decide.{VerdictValue, label_by, verdict_for}
 use Rattle.relabel_core.specs.declared.digests.TheConstants.{VOID_DIGEST}
-use Rattle.relabel_core.specs.declared.rules.Rules.{Rules}
+use Rattle.label_rules.specs.declared.rules.Rules.{Rules}
 
 -- the digest that is stored for each directory that has one
 abbrev pub StoredDigests : Type 0
@@ -103,32 +98,9 @@ walked_below w n = length (filter (walked w) (all_numbers n))
 
 -- ---- what is decided
 
--- the index of the last specification that applies to what is asked and whose language holds the
--- substituted path (selabel_file(5))
-unfoldable pub index_asked : Rules → Path → Asked → Option ℕ
-index_asked rules path asked =
-    last_index asked
-    (path_text (substituted rules.subs.first rules.subs.second path)) rules.rules
-
--- the same of an entry's path, where its kind is asked for
-abbrev pub index_for : Rules → Record → Option ℕ
-index_for rules entry = index_asked rules entry.path (Of entry.kind)
-
 -- the index of the specification that decides an entry
 unfoldable pub deciding : Walk → ℕ → Option ℕ
 deciding w e = if walked w e then index_for w.rules (entry_at w.entries e) else None
-
--- the context that a decision gives
-abbrev pub context_in : Decision → Option ContextValue
-context_in Leave = None
-context_in (Give context) = Some context
-
--- the context that a specification gives
-abbrev pub given_by : SpecValue → Option ContextValue
-given_by spec = context_in spec.decision
-
-abbrev pub given_at : List SpecValue → Option ℕ → Option ContextValue
-given_at specs found = option_and_then given_by (option_and_then (slice_get specs) found)
 
 -- the context that is decided for an entry; none where nothing decides it, nor where its
 -- specification says <<none>>
@@ -174,18 +146,6 @@ label_with w e found =
     then new_label_with w (group_of w.entries e) found
     else label_in w.entries (group_of w.entries e)
 
--- a label that is kept as customized is a context
-abbrev pub customized_line : Path → Label → Option MessageValue
-customized_line path label_kinds.Absent = None
-customized_line path (label_kinds.Odd bytes) = None
-customized_line path (label_kinds.Is context) = Some (Customized path context)
-
--- the line of a verdict on a label, told at this path
-abbrev pub verdict_line : Path → Label → (dry : Bool) → VerdictValue → Option MessageValue
-verdict_line path label dry verdicts.Keep = None
-verdict_line path label dry verdicts.Customized = customized_line path label
-verdict_line path label dry (verdicts.Change context) = Some (Relabel path label context dry)
-
 -- the line of a group's winner
 abbrev pub winner_line : Walk → ℕ → Option ℕ → Option MessageValue
 winner_line w e found =
@@ -193,15 +153,6 @@ winner_line w e found =
     then verdict_line (path_at w e) (label_in w.entries (group_of w.entries e)) w.options.dry
     (verdict_with w (group_of w.entries e) found)
     else None
-
--- the line of a name that is decided to the one context, where its group's winner is decided to the
--- other
-abbrev pub conflict_line : (first second : Path) (context used : Option ContextValue)
-    → Option MessageValue
-conflict_line first second None used = None
-conflict_line first second (Some context) None = None
-conflict_line first second (Some context) (Some used) =
-    if same_context context used then None else Some (Conflict first second used)
 
 -- the conflict of an entry with the winner of its group
 abbrev pub conflict_with : Walk → ℕ → Option ℕ → Option MessageValue

@@ -12,7 +12,7 @@ use Rattle.relabel_core.specs.Numbers.{found_in}
 use Rattle.relabel_core.specs.Stored.{digests_of}
 use Rattle.relabel_core.specs.Walk.{StoredDigests, Walk, can_win, deciding}
 use Rattle.relabel_core.specs.declared.input.WalkInput.{WalkInput}
-use Rattle.relabel_core.specs.declared.rules.Rules.{Rules}
+use Rattle.label_rules.specs.declared.rules.Rules.{Rules}
 
 -- the operands with these indices
 abbrev pub operands_at : List Path → List ℕ → List Path

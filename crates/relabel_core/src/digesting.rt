@@ -7,9 +7,9 @@ ghost use Rattle.relabel_core.specs.Walk.{count, digest_now};
 ghost use Rattle.relabel_core.specs.Walked.{walk_of};
 
 use crate::input::WalkInput;
-use crate::rules::Rules;
 use dir_digest::{Listings, Mode};
 use label_base::{Bytes, OutOfMemory};
+use label_rules::Rules;
 use spec_match::Scratch;
 use std::alloc::Global;
 use tree_model::Options;

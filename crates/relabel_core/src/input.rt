@@ -3,9 +3,9 @@ ghost use Rattle.tree_model.specs.Selection.{selected_by};
 ghost use Rattle.relabel_core.specs.Stored.{digests_of};
 ghost use Rattle.relabel_core.specs.Walked.{IsFit, walk_for, walk_of};
 
-use crate::rules::Rules;
 use crate::stored::Stored;
 use label_base::{NormPath, Row};
+use label_rules::Rules;
 use tree_model::{Choice, Options, Selected, Tree};
 
 /// What a walk goes over, and by what.

@@ -2,13 +2,13 @@ ghost use Rattle.std.specs.Prelude.{◌≡◌, IfOk, map};
 ghost use Rattle.label_base.specs.Bounded.{all_numbers};
 ghost use Rattle.tree_model.specs.Groups.{groups_in};
 ghost use Rattle.relabel_core.specs.Answer.{walk_in};
-ghost use Rattle.relabel_core.specs.LabelAfter.{label_told};
+ghost use Rattle.label_rules.specs.LabelAfter.{label_told};
 ghost use Rattle.relabel_core.specs.Walk.{new_label};
 
-use crate::label_after::LabelAfter;
 use crate::walked::Walked;
 use context_syntax::Label;
 use label_base::{OutOfMemory, Row};
+use label_rules::LabelAfter;
 use std::alloc::Global;
 
 // A label of its own, in place of one that is lent.

@@ -7,11 +7,10 @@ ghost use Rattle.relabel_core.specs.Report.{AreRaised, absent_text, optional_tex
 ghost use Rattle.relabel_core.specs.Walk.{absent_lines, entry_lines, line_of_spec, messages, unmatched_lines};
 ghost use Rattle.relabel_core.specs.Walked.{walk_of};
 
-use crate::given::{given_by, spec_at};
 use crate::input::WalkInput;
-use crate::rules::Rules;
 use crate::walked::Walked;
 use label_base::{Bytes, NormPath, OutOfMemory, PathRef};
+use label_rules::{Rules, given_by, spec_at};
 use report_text::{Message, add_line};
 use std::alloc::Global;
 

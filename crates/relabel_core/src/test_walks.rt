@@ -1,14 +1,12 @@
 // The walks of the tests. Each helper has one value with a buffer and one `?`, since what has several takes long to prove.
-ghost use Rattle.std.specs.Prelude.{◌≡◌, ◌<◌, ◌^◌, length};
+ghost use Rattle.std.specs.Prelude.{◌≡◌, ◌<◌};
 ghost use Rattle.relabel_core.specs.Walked.{IsFit};
 
-use crate::{
-    DigestAfter, LabelAfter, Options, Rules, Stored, WalkInput, Walked, next_labels, walk,
-    walk_input,
-};
+use crate::{DigestAfter, Stored, WalkInput, Walked, next_labels, walk, walk_input};
 use context_syntax::read_customizable;
 use find_records::{RecordLimits, read_records};
 use label_base::{Bytes, MemSource, NormPath, OutOfMemory, Part, Row, Steps};
+use label_rules::{LabelAfter, Rules};
 use path_subs::{SubList, Subs, read_subs};
 use setfattr_dump::Dump;
 use spec_match::RuleSet;
@@ -17,7 +15,7 @@ use std::alloc::Global;
 use std::marker::Brand;
 use std::sync::ledger::{Blank, Ledger};
 use std::test::Fail;
-use tree_model::{Choice, Tree};
+use tree_model::{Choice, Options, Tree};
 
 // What a test walks over, and by what.
 #[derive(Clone, Copy)]
@@ -99,13 +97,10 @@ pub fn tree_of(alloc: Global, records: &[u8]) -> Result<Tree, Fail> {
     Ok(Tree::new(alloc, read_records(alloc, &mut source, limits)?)?)
 }
 
-fn subs_of(alloc: Global, first: &[u8], second: &[u8]) -> Result<Subs, Fail>
-    requires first { length first.now < 2 ^ 32 }
-    requires second { length second.now < 2 ^ 32 }
-{
+fn subs_of(alloc: Global) -> Result<Subs, Fail> {
     Ok(Subs {
-        first: SubList::new(alloc, read_subs(alloc, first)?)?,
-        second: SubList::new(alloc, read_subs(alloc, second)?)?,
+        first: SubList::new(alloc, read_subs(alloc, b"/data /srv\n")?)?,
+        second: SubList::new(alloc, Row::new(alloc))?,
     })
 }
 
@@ -116,19 +111,12 @@ fn rule_set_of(alloc: Global, specs: &[u8]) -> Result<RuleSet, Fail> {
     Ok(RuleSet::new(alloc, read_specs(alloc, specs, Part::Base, 9)?)?)
 }
 
-pub fn rules_with(alloc: Global, specs: &[u8], first: &[u8], second: &[u8]) -> Result<Rules, Fail>
-    requires first { length first.now < 2 ^ 32 }
-    requires second { length second.now < 2 ^ 32 }
-{
+fn rules_of(alloc: Global, specs: &[u8]) -> Result<Rules, Fail> {
     Ok(Rules {
         rules: rule_set_of(alloc, specs)?,
-        subs: subs_of(alloc, first, second)?,
+        subs: subs_of(alloc)?,
         types: read_customizable(alloc, TYPES)?,
     })
-}
-
-pub fn rules_of(alloc: Global, specs: &[u8]) -> Result<Rules, Fail> {
-    rules_with(alloc, specs, b"/data /srv\n", b"")
 }
 
 fn row_of(alloc: Global, path: Option<&[u8]>) -> Result<Row<NormPath>, Fail> {

@@ -1,10 +1,9 @@
-use crate::test_walks::{Digest, Given, NOTHING, PLAIN, Told, answer, rules_of, tree_of};
-use crate::{Options, Verdict, decide, look_up, one_pass_is_walk};
-use context_syntax::{Context, Label};
+use crate::one_pass_is_walk;
+use crate::test_walks::{Digest, Given, NOTHING, PLAIN, Told, answer};
 use label_base::Bytes;
-use spec_match::Scratch;
 use std::alloc::Global;
 use std::test::Fail;
+use tree_model::Options;
 
 // `-n -v -F`.
 const FORCED: Options = Options {
@@ -191,40 +190,5 @@ fn entries_are_told_one_by_one(rt: HostRuntime) -> Result<(), Fail> {
         },
     )?;
     assert!(rt; told == (Some(of_entry), Some((Digest::Stays, false)), 3, 1));
-    Ok(())
-}
-
-#[test]
-fn labels_are_decided(rt: HostRuntime) -> Result<(), Fail> {
-    let alloc = rt.alloc();
-    let rules = rules_of(alloc, b"/srv u:r:srv_t:s0\n")?;
-    let wanted = Context::read(alloc, b"u:r:srv_t:s0")?;
-    let odd = Label::read(alloc, b"odd")?;
-    assert!(rt; is_change(&decide(&odd, &wanted, false, &rules.types)));
-    let label = Label::read(alloc, b"w:r:srv_t:s0")?;
-    assert!(rt; !is_change(&decide(&label, &wanted, false, &rules.types)));
-    assert!(rt; is_change(&decide(&label, &wanted, true, &rules.types)));
-    Ok(())
-}
-
-fn is_change(verdict: &Verdict<'_>) -> bool {
-    match verdict {
-        Verdict::Keep | Verdict::Customized => false,
-        Verdict::Change(_) => true,
-    }
-}
-
-#[test]
-fn an_entry_is_looked_up(rt: HostRuntime) -> Result<(), Fail> {
-    let alloc = rt.alloc();
-    let tree = tree_of(alloc, b"d 1 2 ? /data\0")?;
-    let rules = rules_of(alloc, b"/opt u:r:o_t:s0\n/srv -d u:r:srv_t:s0\n")?;
-    let mut scratch = Scratch::new(alloc, &rules.rules)?;
-    if 0 < tree.len() {
-        assert_eq!(rt;
-            look_up(alloc, &rules, &tree.entry(0), &mut scratch)?,
-            Some(1)
-        );
-    }
     Ok(())
 }

@@ -4,15 +4,14 @@ ghost use Rattle.relabel_core.specs.Passed.{ArePassed};
 ghost use Rattle.relabel_core.specs.Walk.{is_at};
 ghost use Rattle.relabel_core.specs.Walked.{AreNoted, IsFit, walk_of};
 
-use crate::given::given_at;
 use crate::input::WalkInput;
-use crate::label_after::LabelAfter;
-use crate::lines::{conflict_line, given_in, label_by, verdict_line};
 use crate::numbers::found_in;
 use crate::passed::{Passed, is_skipped_first, is_walked};
-use crate::verdict::{Verdict, decide};
 use context_syntax::{Context, ContextRef, Label};
 use label_base::PathRef;
+use label_rules::{
+    LabelAfter, Verdict, conflict_line, decide, given_at, given_in, label_by, verdict_line,
+};
 use report_text::Message;
 
 /// What a walk over a tree answers. It lends the tree and the rules, and keeps two numbers of its own: for each entry the
@@ -47,8 +46,8 @@ impl<'a> Walked<'a> {
     ghost use Rattle.context_syntax.specs.ContextRef.{context_lent};
     ghost use Rattle.relabel_core.specs.Answer.{walk_in};
     ghost use Rattle.relabel_core.specs.Changes.{change_at, change_with, group_change};
-    ghost use Rattle.relabel_core.specs.LabelAfter.{label_told};
-    ghost use Rattle.relabel_core.specs.Verdicts.{verdict_of};
+    ghost use Rattle.label_rules.specs.LabelAfter.{label_told};
+    ghost use Rattle.label_rules.specs.Verdicts.{verdict_of};
     ghost use Rattle.relabel_core.specs.Walk.{conflict_with, count, deciding, decided_line, group_winner, has_conflict, is_changed_name, label_after, label_with, line, line_where, new_label, new_label_with, path_at, undecided_line, verdict_where, verdict_with, wanted, winner, winner_line};
 
     /// The answer of a walk of which this is noted: what was found of the directories, for each entry a word with the index of the specification that decides

@@ -7,13 +7,12 @@ ghost use Rattle.relabel_core.specs.Answer.{walk_in};
 
 use crate::digesting::buffers_for;
 use crate::directories::pass_directories;
-use crate::given::does_give;
 use crate::input::WalkInput;
-use crate::looking_up::{look_up, look_up_counted};
 use crate::numbers::{enter_if, no_numbers, number_of};
 use crate::passed::{Passed, is_walked};
 use crate::walked::Walked;
 use label_base::{OutOfMemory, Steps};
+use label_rules::{does_give, look_up, look_up_counted};
 use spec_match::Scratch;
 use std::alloc::Global;
 use std::sync::ledger::Ledger;

@@ -1,8 +1,6 @@
 pub mod Completeness
-pub mod FilesLemmas
 pub mod MemoryRuns
 pub mod PartLemmas
-pub mod PolicyLemmas
 pub mod RefusedRuns
 pub mod SampleLemmas
 pub mod WordRuns

@@ -5,14 +5,15 @@ use Rattle.label_base.specs.Store.{Files}
 use Rattle.tool_words.specs.declared.command.Command.{Command}
 use Rattle.run_faults.specs.Asked.{input_for, output_of, takes_records}
 use Rattle.run_faults.specs.Faults.{fault_line}
-use Rattle.relabel_program.specs.Files.{policy}
+use Rattle.policy_files.specs.Files.{policy}
 use Rattle.run_faults.specs.Names.{names_for}
 use Rattle.relabel_program.specs.Run.{FilesDecide, LineOrFront, OthersStay, Run}
 use Rattle.relabel_program.specs.Stages.{FilesRead}
 use Rattle.run_faults.specs.declared.cause.Cause.{Cause}
 use Rattle.run_faults.specs.declared.cause.Cause.TheVariants.{OutOfMemory}
-use Rattle.relabel_program.specs.declared.policy.Policy.{Policy}
-use Rattle.relabel_program.proofs.PartLemmas.{all_some, files_accepted, files_memory, if_some, same_told, stay_same}
+use Rattle.policy_files.specs.declared.policy.Policy.{Policy}
+use Rattle.policy_files.proofs.FilesLemmas.{all_some}
+use Rattle.relabel_program.proofs.PartLemmas.{files_accepted, files_memory, if_some, same_told, stay_same}
 
 -- the files were accepted, and then memory was wanting
 pub accepted_memory : {S : Type 0} (files : S → Option Files) (read_faults write_faults : S → ℕ) (command : Command) (store mid : S) (found : Policy) (untouched : Type 0)

@@ -16,14 +16,15 @@ use Rattle.tool_words.specs.declared.command.RelabelWords.{RelabelWords}
 use Rattle.relabel_program.specs.Answer.{answer_for, cause_of, saved_as, told_by, told_by_lookup, told_by_walk}
 use Rattle.run_faults.specs.Asked.{output_of}
 use Rattle.run_faults.specs.Causes.{and_then, CauseCounts, Explained, IsFileCause, IsInputCause, IsReadingCause, IsWritten}
-use Rattle.relabel_program.specs.Files.{policy}
+use Rattle.policy_files.specs.Files.{policy}
 use Rattle.run_faults.specs.Input.{entries_for}
 use Rattle.relabel_program.specs.Sample.{told_by_sample}
+use Rattle.policy_files.proofs.FilesLemmas.{explained_next}
 use Rattle.relabel_program.specs.Run.{Ends, FilesDecide, OthersStay, Reports, Saves, files_with}
 use Rattle.run_faults.specs.declared.cause.Cause.{Cause}
 use Rattle.run_faults.specs.declared.cause.Cause.TheVariants.{Done, RecordRefused, Unended, Doubled, Limit, WalkErrors, Differs, ReadFault, WriteFault, OutOfMemory}
 use Rattle.run_faults.specs.declared.cause.LimitKind.TheVariants.{File, Specs, Records, RecordBytes}
-use Rattle.relabel_program.specs.declared.policy.Policy.{Policy}
+use Rattle.policy_files.specs.declared.policy.Policy.{Policy}
 use Rattle.relabel_program.specs.declared.told.End.{End}
 use Rattle.relabel_program.specs.declared.told.End.TheVariants as ends
 use Rattle.relabel_program.specs.declared.told.Saved.{Saved}
@@ -34,10 +35,6 @@ use Rattle.relabel_program.specs.declared.told.Told.{Told}
 pub if_some : {A : Type 0} {P Q : A → Type 0} (found : Option A) → ((x : A) → P x → Q x) → IfSome found P → IfSome found Q
 if_some None next held = held
 if_some (Some x) next held = next x held
-
-pub all_some : {A : Type 0} {Q : A → Type 0} (found : Option A) → ((x : A) → Q x) → IfSome found Q
-all_some None each = tt
-all_some (Some x) each = each x
 
 pub if_both : {A : Type 0} {P Q R : A → Type 0} (found : Option A) → ((x : A) → P x → Q x → R x) → IfSome found P → IfSome found Q → IfSome found R
 if_both None next first second = first
@@ -95,12 +92,6 @@ unwritten_input WriteFault kind written = kind
 unwritten_input cause kind written = written
 
 -- ---- what is meant
-
--- an explained cause goes through what follows
-pub explained_next : {A B : Type 0} (meant : Result A Cause) (next : A → Result B Cause) (cause : Cause) → Explained meant cause → Explained (and_then meant next) cause
-explained_next meant next ReadFault told = tt
-explained_next meant next OutOfMemory told = tt
-explained_next meant next cause told = ap (λ r. and_then r next) told
 
 pub ends_explained : {S O : Type 0} (files : S → Option Files) (written : O → Option (List ℕ)) (store : S) (out out_now : O) (told : Files) (meant : Result Told Cause) (cause : Cause)
     → (IsWritten cause → ⊥) → Explained meant cause → Ends files written store out out_now told meant cause

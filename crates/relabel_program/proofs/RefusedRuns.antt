@@ -7,15 +7,16 @@ use Rattle.relabel_program.specs.Answer.{answer_for}
 use Rattle.run_faults.specs.Asked.{input_for, output_of}
 use Rattle.run_faults.specs.Causes.{CauseCounts, IsFileCause, IsInputCause}
 use Rattle.run_faults.specs.Faults.{fault_line}
-use Rattle.relabel_program.specs.Files.{policy}
+use Rattle.policy_files.specs.Files.{policy}
 use Rattle.run_faults.specs.Names.{names_for}
 use Rattle.relabel_program.specs.Run.{LineOrFront, Run}
 use Rattle.relabel_program.specs.Stages.{FilesRead, InputRead}
 use Rattle.run_faults.specs.declared.cause.Cause.{Cause}
 use Rattle.run_faults.specs.declared.cause.Cause.TheVariants.{OutOfMemory}
 use Rattle.run_faults.specs.declared.names.FileNames.{FileNames}
-use Rattle.relabel_program.specs.declared.policy.Policy.{Policy}
-use Rattle.relabel_program.proofs.PartLemmas.{all_some, counts_calm, counts_later, ends_explained, file_explains, files_accepted, files_memory, files_refused, if_some, input_explains, input_later, same_told, stay_same, unwritten_file, unwritten_input}
+use Rattle.policy_files.specs.declared.policy.Policy.{Policy}
+use Rattle.policy_files.proofs.FilesLemmas.{all_some}
+use Rattle.relabel_program.proofs.PartLemmas.{counts_calm, counts_later, ends_explained, file_explains, files_accepted, files_memory, files_refused, if_some, input_explains, input_later, same_told, stay_same, unwritten_file, unwritten_input}
 use Rattle.relabel_program.proofs.MemoryRuns.{accepted_memory, gave_up}
 
 module _ {S I O : Type 0} (files : S → Option Files) (read_faults write_faults : S → ℕ)

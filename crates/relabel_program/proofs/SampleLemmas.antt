@@ -19,7 +19,7 @@ use Rattle.relabel_core.specs.Walk.{Walk, count, digest_after, digest_now, diges
 use Rattle.relabel_core.specs.declared.digest_after.DigestAfter.{DigestAfter}
 use Rattle.relabel_core.specs.declared.digests.TheConstants.{VOID_DIGEST}
 use Rattle.relabel_program.specs.Sample.{has_line_of, labels_after, lines_below, sample_walk, walk_after}
-use Rattle.relabel_program.specs.declared.policy.Policy.{Policy}
+use Rattle.policy_files.specs.declared.policy.Policy.{Policy}
 use Rattle.relabel_program.specs.declared.sample.LineKind.{LineKind}
 
 -- one entry more

@@ -17,7 +17,8 @@ use Rattle.run_faults.specs.declared.cause.Cause.{Cause}
 use Rattle.run_faults.specs.declared.cause.Cause.TheVariants as causes
 use Rattle.run_faults.specs.declared.cause.Cause.TheVariants.{ReadFault, OutOfMemory}
 use Rattle.relabel_program.specs.declared.told.Told.{Told}
-use Rattle.relabel_program.proofs.PartLemmas.{all_some, ends_explained}
+use Rattle.policy_files.proofs.FilesLemmas.{all_some}
+use Rattle.relabel_program.proofs.PartLemmas.{ends_explained}
 use Rattle.relabel_program.proofs.MemoryRuns.{told_early}
 
 same_usage : (a b : Usage) → a.index ≡ b.index → a.why ≡ b.why → a ≡ b

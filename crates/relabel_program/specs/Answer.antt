@@ -5,9 +5,9 @@ use Rattle.find_records.specs.Record.{Record}
 use Rattle.setfattr_dump.specs.Texts.{dump_text}
 use Rattle.report_text.specs.Texts.{report_of}
 use Rattle.relabel_core.specs.Changes.{changes}
-use Rattle.relabel_core.specs.Found.{found_messages}
+use Rattle.path_lookups.specs.Found.{found_messages}
 use Rattle.relabel_core.specs.Stored.{digests_by}
-use Rattle.relabel_core.specs.Verified.{count_unverified, verified_messages}
+use Rattle.path_lookups.specs.Verified.{count_unverified, verified_messages}
 use Rattle.relabel_core.specs.Walk.{Walk, errors, messages}
 use Rattle.relabel_core.specs.Walked.{walk_for}
 use Rattle.tool_words.specs.declared.command.Command.{Command}
@@ -16,12 +16,12 @@ use Rattle.tool_words.specs.declared.command.LookupWords.{LookupWords}
 use Rattle.tool_words.specs.declared.command.RelabelWords.{RelabelWords}
 use Rattle.tool_words.specs.declared.usage.Usage.{Usage}
 use Rattle.run_faults.specs.Causes.{and_then}
-use Rattle.relabel_program.specs.Files.{policy}
+use Rattle.policy_files.specs.Files.{policy}
 use Rattle.run_faults.specs.Input.{entries_for}
 use Rattle.relabel_program.specs.Sample.{told_by_sample}
 use Rattle.run_faults.specs.declared.cause.Cause.{Cause}
 use Rattle.run_faults.specs.declared.cause.Cause.TheVariants as causes
-use Rattle.relabel_program.specs.declared.policy.Policy.{Policy}
+use Rattle.policy_files.specs.declared.policy.Policy.{Policy}
 use Rattle.relabel_program.specs.declared.told.End.{End}
 use Rattle.relabel_program.specs.declared.told.End.TheVariants.{Done, WalkErrors, Differs}
 use Rattle.relabel_program.specs.declared.told.Saved.{Saved}

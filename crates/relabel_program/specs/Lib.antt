@@ -1,5 +1,4 @@
 pub mod Sample
-pub mod Files
 pub mod Answer
 pub mod Run
 pub mod Stages

@@ -12,12 +12,12 @@ use Rattle.relabel_program.specs.Answer.{answer, cause_of}
 use Rattle.run_faults.specs.Asked.{input_in, output_in, takes_records}
 use Rattle.run_faults.specs.Causes.{Explained, IsFileCause, IsReadingCause, IsWritten}
 use Rattle.run_faults.specs.Faults.{fault_line}
-use Rattle.relabel_program.specs.Files.{policy}
+use Rattle.policy_files.specs.Files.{policy}
 use Rattle.run_faults.specs.Names.{names_in}
 use Rattle.run_faults.specs.declared.cause.Cause.{Cause}
 use Rattle.run_faults.specs.declared.cause.Cause.TheVariants as causes
 use Rattle.run_faults.specs.declared.cause.Cause.TheVariants.{Done, WalkErrors, Differs, ReadFault, WriteFault, OutOfMemory}
-use Rattle.relabel_program.specs.declared.policy.Policy.{Policy}
+use Rattle.policy_files.specs.declared.policy.Policy.{Policy}
 use Rattle.relabel_program.specs.declared.told.Saved.{Saved}
 use Rattle.relabel_program.specs.declared.told.Told.{Told}
 

@@ -1,59 +1,23 @@
 -- A sample of a tree, walked twice.
-use Rattle.std.specs.Prelude.{ℕ, zero, suc, ◌+◌, Bool, true, false, List, [], ◌∷◌, ◌++◌, map, Option, Some, None}
-use Rattle.std.specs.FinMap as map_of
+use Rattle.std.specs.Prelude.{ℕ, zero, suc, ◌+◌, Bool, true, false, List, ◌++◌, map, Option, Some, None}
 use Rattle.std.specs.Fmt.{decimal}
 use Rattle.label_base.specs.Bounded.{all_numbers}
-use Rattle.label_base.specs.Store.{Files}
 use Rattle.context_syntax.specs.declared.label.Label.{Label}
 use Rattle.find_records.specs.Record.{Record}
 use Rattle.tree_model.specs.Groups.{groups_in}
 use Rattle.tree_model.specs.Labelled.{labelled}
-use Rattle.tree_model.specs.declared.options.Options.{Options}
-use Rattle.tree_model.specs.declared.selection.Choice.{Choice}
 use Rattle.report_text.specs.Message.{MessageValue, Relabel, Conflict, Skipped}
 use Rattle.relabel_core.specs.Stored.{digests_listed, no_digests}
 use Rattle.relabel_core.specs.Walk.{StoredDigests, Walk, count, digests, errors, line, new_label, one_if}
 use Rattle.relabel_core.specs.Walked.{walk_for}
-use Rattle.sample_tree.specs.declared.records.TheConstants.{SPECS}
-use Rattle.tool_words.specs.declared.command.RelabelWords.{RelabelWords}
-use Rattle.relabel_program.specs.declared.policy.Policy.{Policy}
+use Rattle.policy_files.specs.SampleWords.{sample_choice, sample_options}
+use Rattle.policy_files.specs.declared.policy.Policy.{Policy}
 use Rattle.relabel_program.specs.declared.sample.LineKind.{LineKind}
 use Rattle.relabel_program.specs.declared.sample.LineKind.TheVariants as kinds
 use Rattle.relabel_program.specs.declared.sample.Summary.{Summary}
-use Rattle.relabel_program.specs.declared.sample.TheConstants.{CONFLICTS, ENTRIES, ERRORS, LINE_END, RELABELLED, RELABELLED_AGAIN, SAMPLE_FILE, SKIPPED_AGAIN}
+use Rattle.relabel_program.specs.declared.sample.TheConstants.{CONFLICTS, ENTRIES, ERRORS, LINE_END, RELABELLED, RELABELLED_AGAIN, SKIPPED_AGAIN}
 use Rattle.relabel_program.specs.declared.told.End.TheVariants.{Done}
 use Rattle.relabel_program.specs.declared.told.Told.{Told}
-
--- what the walks are asked for: setfiles -F -v -D over the root
-abbrev pub sample_choice : Choice
-sample_choice = record { operands = [] ∷ []; excluded = []; recurse = true; one_device = false }
-
-abbrev pub sample_options : Options
-sample_options = record {
-  force = true;
-  dry = false;
-  digests = true;
-  ignore_digests = false;
-  verbose = true;
-  warn_unmatched = false;
-  strict_links = false;
-  ignore_absent = false;
-}
-
-abbrev pub sample_words : RelabelWords
-sample_words = record {
-  base = SAMPLE_FILE.now;
-  choice = sample_choice;
-  options = sample_options;
-  workers = 1;
-  soft_errors = false;
-  kept = None;
-  output = None;
-}
-
--- the base file is the only file
-abbrev pub sample_files : Files
-sample_files = map_of.insert map_of.empty SAMPLE_FILE.now SPECS.now
 
 -- a walk over entries that have these digests
 abbrev pub sample_walk : Policy → List Record → StoredDigests → Walk

@@ -8,13 +8,13 @@ use Rattle.relabel_program.specs.Answer.{told_by}
 use Rattle.run_faults.specs.Asked.{input_for, takes_records}
 use Rattle.run_faults.specs.Causes.{Counts, Gives}
 use Rattle.run_faults.specs.Faults.{fault_line}
-use Rattle.relabel_program.specs.Files.{policy}
+use Rattle.policy_files.specs.Files.{policy}
 use Rattle.run_faults.specs.Input.{entries_for}
 use Rattle.run_faults.specs.Names.{names_for}
 use Rattle.relabel_program.specs.Run.{LineOrFront, Saves, WritesReport}
 use Rattle.run_faults.specs.declared.cause.Cause.{Cause}
 use Rattle.run_faults.specs.declared.cause.Cause.TheVariants.{OutOfMemory, WriteFault}
-use Rattle.relabel_program.specs.declared.policy.Policy.{Policy}
+use Rattle.policy_files.specs.declared.policy.Policy.{Policy}
 use Rattle.relabel_program.specs.declared.told.Told.{Told}
 
 -- what reading the files leaves

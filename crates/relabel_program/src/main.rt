@@ -5,8 +5,6 @@
 ghost use Rattle.std.specs.Prelude.{◌<◌, ◌^◌, IfOk, length};
 
 mod ending;
-mod files;
-mod policy;
 mod runs;
 mod sample;
 mod saving;

@@ -9,10 +9,10 @@ ghost use Rattle.relabel_program.specs.Stages.{FilesRead, Tells};
 ghost use Rattle.run_faults.specs.declared.cause.Cause.TheVariants as causes;
 
 use crate::ending::{finish, give_up, lose_dump, refuse};
-use crate::policy::{Policy, read_policy};
 use crate::saving::save;
 use crate::told::tell_command;
 use label_base::{Fault, SaveFault, Sink, Source, Store};
+use policy_files::{Policy, read_policy};
 use run_faults::{Cause, FileNames, Outcome, is_soft, read_entries, status};
 use std::alloc::Global;
 use tool_words::{Command, Usage, read_words};

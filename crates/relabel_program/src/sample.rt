@@ -10,23 +10,20 @@ ghost use Rattle.relabel_core.specs.Walk.{count, digests, line, one_if};
 ghost use Rattle.relabel_core.specs.Walked.{IsFit, walk_of};
 ghost use Rattle.relabel_core.specs.Stored as stored_digests;
 ghost use Rattle.tree_model.specs.Labelled.{DifferInLabels, labelled};
+ghost use Rattle.policy_files.specs.SampleWords.{sample_choice, sample_options};
 ghost use Rattle.relabel_program.specs.declared.sample.LineKind.TheVariants as kinds;
-ghost use Rattle.relabel_program.specs.Sample.{first_walk, has_line_of, is_of, labels_after, lines_of, number_line, sample_choice, sample_options, sample_summary, sample_walk, sample_words, summary_of, summary_text, told_by_sample, walk_after};
+ghost use Rattle.relabel_program.specs.Sample.{first_walk, has_line_of, is_of, labels_after, lines_of, number_line, sample_summary, sample_walk, summary_of, summary_text, told_by_sample, walk_after};
 
-use crate::policy::Policy;
 use crate::told::{End, Told};
-use label_base::{Bytes, Name, NormPath, OutOfMemory, Row};
+use label_base::{Bytes, OutOfMemory, Row};
+use policy_files::{Policy, sample_choice, sample_options};
 use relabel_core::{
-    DigestAfter, Digests, Options, Stored, VOID_DIGEST, WalkInput, Walked, next_labels, walk_input,
+    DigestAfter, Digests, Stored, VOID_DIGEST, WalkInput, Walked, next_labels, walk_input,
     walk_uncounted,
 };
 use report_text::Message;
 use std::alloc::Global;
-use tool_words::RelabelWords;
 use tree_model::{Choice, Tree};
-
-/// The name of the base file of a sample, which stands in memory alone.
-pub const SAMPLE_FILE: &str = "file_contexts";
 
 // What stands before the numbers of the summary.
 const ENTRIES: &str = "entries ";
@@ -63,49 +60,6 @@ pub struct Summary {
     pub errors: u32,
     pub skipped_again: u32,
     pub relabelled_again: u32,
-}
-
-fn sample_choice(alloc: Global) -> Result<Choice, OutOfMemory>
-    ensures { IfOk result (λ choice. choice ≡ sample_choice) }
-{
-    let mut operands = Row::new(alloc);
-    operands.push(NormPath::root(alloc))?;
-    Ok(Choice {
-        operands,
-        excluded: Row::new(alloc),
-        recurse: true,
-        one_device: false,
-    })
-}
-
-fn sample_options() -> Options
-    ensures { result ≡ sample_options }
-{
-    Options {
-        force: true,
-        dry: false,
-        digests: true,
-        ignore_digests: false,
-        verbose: true,
-        warn_unmatched: false,
-        strict_links: false,
-        ignore_absent: false,
-    }
-}
-
-/// The words of a walk over a sample.
-pub fn sample_words(alloc: Global) -> Result<RelabelWords, OutOfMemory>
-    ensures { IfOk result (λ words. words ≡ sample_words) }
-{
-    Ok(RelabelWords {
-        base: Name::copy_of(alloc, SAMPLE_FILE)?,
-        choice: sample_choice(alloc)?,
-        options: sample_options(),
-        workers: 1,
-        soft_errors: false,
-        kept: None,
-        output: None,
-    })
 }
 
 fn is_of(kind: LineKind, message: &Message<'_>) -> bool

@@ -7,12 +7,11 @@ ghost use Rattle.relabel_core.specs.Walked.{IsFit, walk_for, walk_of};
 ghost use Rattle.tool_words.specs.Words.{named_paths};
 ghost use Rattle.relabel_program.specs.Answer.{lookup_end, saved_as, told_by, told_by_looking_up, told_by_lookup, told_by_verifying, told_by_walk, told_of, walk_end};
 
-use crate::policy::Policy;
 use crate::sample::tell_sample;
 use label_base::{Bytes, Name, OutOfMemory};
-use relabel_core::{
-    Stored, WalkInput, Walked, add_found_report, add_verified_report, walk_input, walk_uncounted,
-};
+use path_lookups::{add_found_report, add_verified_report};
+use policy_files::Policy;
+use relabel_core::{Stored, WalkInput, Walked, walk_input, walk_uncounted};
 use std::alloc::Global;
 use tool_words::{Command, LookupWords, RelabelWords};
 use tree_model::Tree;

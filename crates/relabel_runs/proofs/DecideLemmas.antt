@@ -11,7 +11,7 @@ use Rattle.context_syntax.specs.Equal.{context_decides}
 use Rattle.context_syntax.specs.TypeNames.{NameSet, has_name, in_order}
 use Rattle.context_syntax.specs.declared.label.Label.{Label}
 use Rattle.context_syntax.specs.declared.label.Label.TheVariants.{Absent, Odd, Is}
-use Rattle.relabel_core.specs.Decide.{Change, Customized, Keep, VerdictValue, label_by, verdict_for}
+use Rattle.label_rules.specs.Decide.{Change, Customized, Keep, VerdictValue, label_by, verdict_for}
 
 -- the label that a verdict gives, if it gives one
 abbrev pub given : VerdictValue → Option Label

@@ -20,7 +20,8 @@ use Rattle.skip_runs.specs.Skipping as skipping
 use Rattle.skip_runs.specs.Skipping.{IsLike}
 use Rattle.skip_runs.proofs.Runs.{like_after, one_more_keeps, skipping_keeps}
 use Rattle.relabel_core.specs.Answer.{walk_in}
-use Rattle.relabel_core.specs.Walk.{StoredDigests, Walk, context_in, skippable}
+use Rattle.relabel_core.specs.Walk.{StoredDigests, Walk, skippable}
+use Rattle.label_rules.specs.LookUp.{context_in}
 use Rattle.relabel_core.specs.Walked.{walk_for}
 use Rattle.relabel_core.specs.declared.walked.Walked.{Walked}
 use Rattle.relabel_runs.specs.Laws.{KeepsLabels, NoneSkipped, OneMoreRunKeepsLabels, SkippingKeepsLabels}

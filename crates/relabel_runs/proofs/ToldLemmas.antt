@@ -13,8 +13,8 @@ use Rattle.spec_match.specs.LastMatch.{fits, last_index, last_match}
 use Rattle.dir_digest.specs.Alike.{decided_at, decision_of}
 use Rattle.tree_model.specs.declared.options.Options.{Options}
 use Rattle.relabel_core.specs.Terms.{terms_by}
-use Rattle.relabel_core.specs.Walk.{context_in, given_by, index_asked}
-use Rattle.relabel_core.specs.declared.rules.Rules.{Rules}
+use Rattle.label_rules.specs.LookUp.{context_in, given_by, index_asked}
+use Rattle.label_rules.specs.declared.rules.Rules.{Rules}
 use Rattle.relabel_runs.proofs.WalkLemmas.{context_for}
 
 seam : (done : List SpecValue) (s : SpecValue) (rest : List SpecValue) → slice_get (done ++ s ∷ rest) (length done) ≡ Some s

@@ -20,11 +20,12 @@ use Rattle.tree_model.specs.Selection.{whole_at}
 use Rattle.tree_model.specs.declared.options.Options.{Options}
 use Rattle.skip_runs.specs.Relabel as runs
 use Rattle.skip_runs.specs.Relabel.{Decision, Nothing, Give, Kinds, Tree}
-use Rattle.relabel_core.specs.Decide.{label_by, verdict_for}
+use Rattle.label_rules.specs.Decide.{label_by, verdict_for}
 use Rattle.relabel_core.specs.Terms.{terms_by}
-use Rattle.relabel_core.specs.Walk.{Walk, can_win, count, deciding, digest_after, digest_now, given_at, has_changed_name, index_asked, index_for, is_changed, is_current, is_outdated, is_renewed, is_skipped, new_label, skippable, verdict_where, walked, wanted, winner}
+use Rattle.relabel_core.specs.Walk.{Walk, can_win, count, deciding, digest_after, digest_now, has_changed_name, is_changed, is_current, is_outdated, is_renewed, is_skipped, new_label, skippable, verdict_where, walked, wanted, winner}
+use Rattle.label_rules.specs.LookUp.{given_at, index_asked, index_for}
 use Rattle.relabel_core.specs.declared.digests.TheConstants.{VOID_DIGEST}
-use Rattle.relabel_core.specs.declared.rules.Rules.{Rules}
+use Rattle.label_rules.specs.declared.rules.Rules.{Rules}
 use Rattle.relabel_runs.proofs.DecideLemmas.{given, label_given}
 use Rattle.relabel_runs.proofs.LabelledLemmas.{kind_in, path_in}
 

@@ -7,7 +7,7 @@ use Rattle.tree_model.specs.declared.options.Options.{Options}
 use Rattle.tree_model.specs.declared.selection.Choice.{Choice}
 use Rattle.relabel_core.specs.Walk.{StoredDigests, Walk, digest_after, new_label}
 use Rattle.relabel_core.specs.Walked.{walk_for}
-use Rattle.relabel_core.specs.declared.rules.Rules.{Rules}
+use Rattle.label_rules.specs.declared.rules.Rules.{Rules}
 
 -- a run: what decides labels, what it is asked for, and how it goes
 pub record Run : Type 0 where

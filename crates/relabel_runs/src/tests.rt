@@ -2,13 +2,14 @@ use crate::{next_walk, none_is_skipped, one_more_run_keeps_labels, skipping_keep
 use context_syntax::TypeNames;
 use find_records::{RecordLimits, read_records};
 use label_base::{Bytes, MemSource, NormPath, OutOfMemory, Part, Row};
+use label_rules::Rules;
 use path_subs::{SubList, Subs};
-use relabel_core::{Options, Rules, Stored, Walked};
+use relabel_core::{Stored, Walked};
 use spec_match::RuleSet;
 use spec_reader::read_specs;
 use std::alloc::Global;
 use std::test::Fail;
-use tree_model::{Choice, Tree};
+use tree_model::{Choice, Options, Tree};
 
 // `-D`.
 const DIGESTING: Options = Options {

@@ -2,8 +2,7 @@ use Rattle.std.proofs.Common.{◌≡◌, ◌∙◌, ap, ◌+◌, arith}
 use Rattle.relabel_core.specs.Answer.{walk_in}
 use Rattle.relabel_core.specs.Counts.{changed_below}
 use Rattle.relabel_core.specs.Walk.{is_changed_name, one_if}
-use Rattle.relabel_core.proofs.CountsLemmas.{more_changed, more_counted}
-use Rattle.relabel_core.proofs.FoundLemmas.{at_most_one, byte_is_one}
+use Rattle.relabel_core.proofs.CountsLemmas.{at_most_one, byte_is_one, more_changed, more_counted}
 use Rattle.relabel_core.proofs.counts.count_changed.Goals as goal
 
 pub entries-preserved : goal.entries-preserved

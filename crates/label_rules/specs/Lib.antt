@@ -1,0 +1,5 @@
+pub mod LookUp
+pub mod Decide
+pub mod Verdicts
+pub mod LabelAfter
+pub mod Lines

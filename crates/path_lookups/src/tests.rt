@@ -1,0 +1,288 @@
+ghost use Rattle.std.specs.Prelude.{◌<◌, ◌^◌, length};
+ghost use Rattle.spec_match.specs.Scratches.{IsScratchOf};
+
+use crate::{add_found_report, add_verified_report, find_context, is_unverified, verify};
+use context_syntax::TypeNames;
+use find_records::{RecordLimits, read_records};
+use label_base::{Asked, Bytes, EntryKind, MemSource, NormPath, OutOfMemory, Part, PathRef, Row};
+use label_rules::{Rules, look_up_path};
+use path_subs::{SubList, Subs, read_subs};
+use spec_match::{RuleSet, Scratch};
+use spec_reader::read_specs;
+use std::alloc::Global;
+use std::test::Fail;
+use tree_model::Tree;
+
+fn tree_of(alloc: Global, records: &[u8]) -> Result<Tree, Fail> {
+    let mut input = MemSource::new(Bytes::copy_of(alloc, records)?, 9999, Row::new(alloc));
+    let most = RecordLimits {
+        bytes: 9999,
+        records: 9,
+    };
+    Ok(Tree::new(alloc, read_records(alloc, &mut input, most)?)?)
+}
+
+fn list_of(alloc: Global, lines: &[u8]) -> Result<SubList, Fail>
+    requires { length lines.now < 2 ^ 32 }
+{
+    Ok(SubList::new(alloc, read_subs(alloc, lines)?)?)
+}
+
+fn both_of(alloc: Global, first: &[u8], second: &[u8]) -> Result<Subs, Fail>
+    requires first { length first.now < 2 ^ 32 }
+    requires second { length second.now < 2 ^ 32 }
+{
+    let first = list_of(alloc, first)?;
+    Ok(Subs {
+        first,
+        second: list_of(alloc, second)?,
+    })
+}
+
+fn rules_with(alloc: Global, specs: &[u8], first: &[u8], second: &[u8]) -> Result<Rules, Fail>
+    requires specs { length specs.now < 2 ^ 32 }
+    requires first { length first.now < 2 ^ 32 }
+    requires second { length second.now < 2 ^ 32 }
+{
+    let subs = both_of(alloc, first, second)?;
+    Ok(Rules {
+        subs,
+        types: TypeNames::new(alloc),
+        rules: RuleSet::new(alloc, read_specs(alloc, specs, Part::Base, 9)?)?,
+    })
+}
+
+fn paths_of(alloc: Global, texts: &[&[u8]]) -> Result<Row<NormPath>, Fail> {
+    let mut paths = Row::new(alloc);
+    for text in texts {
+        paths.push(NormPath::read(alloc, text)?)?;
+    }
+    Ok(paths)
+}
+
+fn found(
+    alloc: Global,
+    rules: &Rules,
+    paths: &Row<NormPath>,
+    kind: Option<EntryKind>,
+) -> Result<Bytes, OutOfMemory> {
+    let mut report = Bytes::new(alloc);
+    let bare = kind.is_none();
+    add_found_report(alloc, rules, paths.as_slice(), kind, bare, &mut report)?;
+    Ok(report)
+}
+
+fn found_by(
+    alloc: Global,
+    rules: &Rules,
+    texts: &[&[u8]],
+    kind: Option<EntryKind>,
+) -> Result<Bytes, Fail> {
+    let paths = paths_of(alloc, texts)?;
+    Ok(found(alloc, rules, &paths, kind)?)
+}
+
+// What is found for paths, told without these where no kind is.
+fn found_of(
+    alloc: Global,
+    specs: &[u8],
+    texts: &[&[u8]],
+    kind: Option<EntryKind>,
+) -> Result<Bytes, Fail>
+    requires { length specs.now < 2 ^ 32 }
+{
+    let rules = rules_with(alloc, specs, b"/myweb /run/web\n", b"/run /var/run\n")?;
+    found_by(alloc, &rules, texts, kind)
+}
+
+#[test]
+fn the_last_specification_is_found(rt: HostRuntime) -> Result<(), Fail> {
+    let report = found_of(
+        rt.alloc(),
+        b"/usr/.* u:r:usr_t:s0\n/usr/bin/.* u:r:bin_t:s0\n/usr/bin/ls -- u:r:ls_exec_t:s0\n",
+        [
+            b"/usr/bin/ls".as_slice(),
+            b"/usr/bin/cat".as_slice(),
+            b"/usr/lib".as_slice(),
+            b"/usr".as_slice(),
+        ]
+        .as_slice(),
+        Some(EntryKind::Regular),
+    )?;
+    assert_eq!(rt;
+        report.as_slice(),
+        b"/usr/bin/ls\tu:r:ls_exec_t:s0\n/usr/bin/cat\tu:r:bin_t:s0\n/usr/lib\tu:r:usr_t:s0\n/usr\t<<none>>\n".as_slice()
+    );
+    Ok(())
+}
+
+#[test]
+fn a_backslash_escapes_a_dot(rt: HostRuntime) -> Result<(), Fail> {
+    let report = found_of(
+        rt.alloc(),
+        b"/etc/.* u:r:etc_t:s0\n/etc/foo\\.conf u:r:foo_conf_t:s0\n",
+        [b"/etc/foo.conf".as_slice(), b"/etc/fooxconf".as_slice()].as_slice(),
+        None,
+    )?;
+    assert_eq!(rt;
+        report.as_slice(),
+        b"u:r:foo_conf_t:s0\nu:r:etc_t:s0\n".as_slice()
+    );
+    Ok(())
+}
+
+#[test]
+fn a_path_is_substituted_twice(rt: HostRuntime) -> Result<(), Fail> {
+    let report = found_of(
+        rt.alloc(),
+        b"/var/run(/.*)? u:r:var_run_t:s0\n",
+        [
+            b"/run/x".as_slice(),
+            b"/run".as_slice(),
+            b"/runner".as_slice(),
+            b"/myweb/a".as_slice(),
+        ]
+        .as_slice(),
+        None,
+    )?;
+    assert_eq!(rt;
+        report.as_slice(),
+        b"u:r:var_run_t:s0\nu:r:var_run_t:s0\n<<none>>\nu:r:var_run_t:s0\n".as_slice()
+    );
+    Ok(())
+}
+
+const TYPED: &[u8] = b"/x/.* -l u:r:link_t:s0\n/x/.* -d u:r:dir_t:s0\n";
+
+#[test]
+fn the_kind_that_is_told_counts(rt: HostRuntime) -> Result<(), Fail> {
+    let paths = [b"/x/a".as_slice()];
+    let link = found_of(rt.alloc(), TYPED, paths.as_slice(), Some(EntryKind::Link))?;
+    assert_eq!(rt; link.as_slice(), b"/x/a\tu:r:link_t:s0\n".as_slice());
+    Ok(())
+}
+
+#[test]
+fn without_a_kind_all_specifications_apply(rt: HostRuntime) -> Result<(), Fail> {
+    let any = found_of(rt.alloc(), TYPED, [b"/x/a".as_slice()].as_slice(), None)?;
+    assert_eq!(rt; any.as_slice(), b"u:r:dir_t:s0\n".as_slice());
+    Ok(())
+}
+
+// The lines, and how many of the paths are not verified.
+fn verified(
+    alloc: Global,
+    rules: &Rules,
+    tree: &Tree,
+    paths: &Row<NormPath>,
+    report: &mut Bytes,
+) -> Result<u32, OutOfMemory> {
+    if paths.len() > 9 {
+        return Ok(99);
+    }
+    add_verified_report(alloc, rules, tree, paths.as_slice(), None, report)
+}
+
+fn verified_by(
+    alloc: Global,
+    rules: &Rules,
+    tree: &Tree,
+    texts: &[&[u8]],
+    report: &mut Bytes,
+) -> Result<u32, Fail> {
+    let paths = paths_of(alloc, texts)?;
+    Ok(verified(alloc, rules, tree, &paths, report)?)
+}
+
+fn verified_over(
+    alloc: Global,
+    specs: &[u8],
+    tree: &Tree,
+    texts: &[&[u8]],
+    report: &mut Bytes,
+) -> Result<u32, Fail>
+    requires { length specs.now < 2 ^ 32 }
+{
+    let rules = rules_with(alloc, specs, b"", b"")?;
+    verified_by(alloc, &rules, tree, texts, report)
+}
+
+fn verified_of(
+    alloc: Global,
+    specs: &[u8],
+    records: &[u8],
+    texts: &[&[u8]],
+    report: &mut Bytes,
+) -> Result<u32, Fail>
+    requires { length specs.now < 2 ^ 32 }
+{
+    let tree = tree_of(alloc, records)?;
+    verified_over(alloc, specs, &tree, texts, report)
+}
+
+#[test]
+fn paths_are_verified(rt: HostRuntime) -> Result<(), Fail> {
+    let mut report = Bytes::new(rt.alloc());
+    let unverified = verified_of(
+        rt.alloc(),
+        b"/srv/.* u:r:var_t:s0\n/srv/n <<none>>\n",
+        b"f 1 60 w:r:var_t:s0 /srv/a\0f 1 61 u:r:tmp_t:s0 /srv/b\0f 1 62  /srv/n\0",
+        [
+            b"/srv/a".as_slice(),
+            b"/srv/b".as_slice(),
+            b"/srv/c".as_slice(),
+            b"/srv/n".as_slice(),
+        ]
+        .as_slice(),
+        &mut report,
+    )?;
+    assert_eq!(rt; unverified, 2);
+    assert_eq!(rt;
+        report.as_slice(),
+        b"/srv/a verified.\n/srv/b has context u:r:tmp_t:s0, should be u:r:var_t:s0\n/srv/c has no record\n/srv/n verified.\n".as_slice()
+    );
+    Ok(())
+}
+
+// What a look-up of one path tells: its index, whether a context is found, and whether it is not verified.
+fn told_of(
+    alloc: Global,
+    rules: &Rules,
+    tree: &Tree,
+    path: &PathRef<'_>,
+    scratch: &mut Scratch,
+) -> Result<(Option<u32>, bool, bool), OutOfMemory>
+    requires { IsScratchOf rules.now.rules scratch.old }
+{
+    let index = look_up_path(alloc, rules, path, Asked::Any, scratch)?;
+    let is_found = find_context(alloc, rules, path, Asked::Any, scratch)?.is_some();
+    let message = verify(alloc, rules, tree, None, path, scratch)?;
+    Ok((index, is_found, is_unverified(&message)))
+}
+
+fn told_by(
+    alloc: Global,
+    rules: &Rules,
+    tree: &Tree,
+    path: &PathRef<'_>,
+) -> Result<(Option<u32>, bool, bool), OutOfMemory> {
+    let mut scratch = Scratch::new(alloc, &rules.rules)?;
+    told_of(alloc, rules, tree, path, &mut scratch)
+}
+
+fn told_over(alloc: Global, rules: &Rules, tree: &Tree) -> Result<(Option<u32>, bool, bool), Fail> {
+    let path = NormPath::read(alloc, b"/a")?;
+    Ok(told_by(alloc, rules, tree, &path.path())?)
+}
+
+fn told_with(alloc: Global, tree: &Tree) -> Result<(Option<u32>, bool, bool), Fail> {
+    let rules = rules_with(alloc, b"/a u:r:a_t:s0\n", b"", b"")?;
+    told_over(alloc, &rules, tree)
+}
+
+#[test]
+fn one_path_is_looked_up(rt: HostRuntime) -> Result<(), Fail> {
+    let tree = tree_of(rt.alloc(), b"f 1 2 ? /a\0")?;
+    assert!(rt; told_with(rt.alloc(), &tree)? == (Some(0), true, true));
+    Ok(())
+}

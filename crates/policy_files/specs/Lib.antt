@@ -1,0 +1,2 @@
+pub mod SampleWords
+pub mod Files
