@@ -30,42 +30,71 @@ fn no_contexts(rt: HostRuntime) -> Result<(), Fail> {
     Ok(())
 }
 
+fn takes_kind(alloc: Global, context: &Context, wanted: &Context) -> Result<bool, OutOfMemory> {
+    let made = context.with_kind_of(alloc, wanted)?;
+    Ok(made.same_but_user(wanted))
+}
+
+fn differs_till_it_takes_kind(
+    alloc: Global,
+    context: &Context,
+    wanted: &[u8],
+) -> Result<bool, Fail> {
+    let wanted = Context::read(alloc, wanted)?;
+    Ok(!context.same_but_user(&wanted) && takes_kind(alloc, context, &wanted)?)
+}
+
 #[test]
 fn the_type_of_another_context(rt: HostRuntime) -> Result<(), Fail> {
     let found = Context::read(rt.alloc(), b"staff_u:object_r:tmp_t:s0")?;
-    let wanted = Context::read(rt.alloc(), b"system_u:object_r:etc_t:s0")?;
-    let made = found.with_kind_of(rt.alloc(), &wanted)?;
-    assert!(rt; made.same_but_user(&wanted));
-    assert!(rt; !found.same_but_user(&wanted));
+    assert!(rt; differs_till_it_takes_kind(rt.alloc(), &found, b"system_u:object_r:etc_t:s0")?);
+    Ok(())
+}
+
+fn is_written(alloc: Global, context: &ContextRef<'_>, bytes: &[u8]) -> Result<bool, OutOfMemory> {
+    let mut text = Bytes::new(alloc);
+    context.write(alloc, &mut text)?;
+    Ok(text.as_slice() == bytes)
+}
+
+fn is_lent(alloc: Global, rest: &Context, kind: &[u8], bytes: &[u8]) -> Result<bool, Fail> {
+    let kind = Context::read(alloc, kind)?;
+    let retyped = ContextRef { rest, kind: &kind };
+    Ok(is_written(alloc, &retyped, bytes)?)
+}
+
+#[test]
+fn a_lent_type(rt: HostRuntime) -> Result<(), Fail> {
+    let found = Context::read(rt.alloc(), b"staff_u:object_r:tmp_t:s0")?;
+    let written = b"staff_u:object_r:etc_t:s0";
+    assert!(rt; is_lent(rt.alloc(), &found, b"system_u:object_r:etc_t", written)?);
     Ok(())
 }
 
 #[test]
 fn a_lent_context(rt: HostRuntime) -> Result<(), Fail> {
-    let found = Context::read(rt.alloc(), b"staff_u:object_r:tmp_t:s0")?;
-    let wanted = Context::read(rt.alloc(), b"system_u:object_r:etc_t")?;
+    let context = Context::read(rt.alloc(), b"u:r:t")?;
     let mut text = Bytes::new(rt.alloc());
-    let retyped = ContextRef {
-        rest: &found,
-        kind: &wanted,
-    };
-    retyped.write(rt.alloc(), &mut text)?;
-    ContextRef::whole(&wanted).add(&mut text)?;
-    assert_eq!(rt;
-        text.as_slice(),
-        b"staff_u:object_r:etc_t:s0system_u:object_r:etc_t".as_slice()
-    );
+    ContextRef::whole(&context).add(&mut text)?;
+    assert_eq!(rt; text.as_slice(), b"u:r:t".as_slice());
     Ok(())
+}
+
+fn is_copied(alloc: Global, label: &Label) -> Result<bool, OutOfMemory> {
+    Ok(label.copy(alloc)? == *label)
 }
 
 #[test]
 fn labels(rt: HostRuntime) -> Result<(), Fail> {
     Label::follows_grammar(b"?");
-    let absent = Label::read(rt.alloc(), b"?")?;
-    assert!(rt; absent == Label::Absent);
     let label = Label::read(rt.alloc(), b"unlabeled")?;
-    assert!(rt; label.copy(rt.alloc())? == label);
-    assert!(rt; matches!(&label, Label::Odd(_)));
+    assert!(rt; matches!(&label, Label::Odd(_)) && is_copied(rt.alloc(), &label)?);
+    Ok(())
+}
+
+#[test]
+fn an_absent_label(rt: HostRuntime) -> Result<(), Fail> {
+    assert!(rt; Label::read(rt.alloc(), b"?")? == Label::Absent);
     Ok(())
 }
 
@@ -89,11 +118,23 @@ fn a_line_of_two_fields(rt: HostRuntime) {
     assert_eq!(rt; refused, Some(Fault::Why(third)));
 }
 
+fn equals_its_copy(alloc: Global, context: &Context) -> Result<bool, OutOfMemory> {
+    Ok(context.copy(alloc)? == *context)
+}
+
+fn equals(alloc: Global, context: &Context, bytes: &[u8]) -> Result<bool, Fail> {
+    Ok(*context == Context::read(alloc, bytes)?)
+}
+
 #[test]
-fn a_copy_and_no_types(rt: HostRuntime) -> Result<(), Fail> {
+fn a_copy(rt: HostRuntime) -> Result<(), Fail> {
     let context = Context::read(rt.alloc(), b"u:r:t:s0")?;
-    assert!(rt; context.copy(rt.alloc())? == context);
-    assert!(rt; context != Context::read(rt.alloc(), b"u:r:t:s1")?);
-    assert!(rt; !TypeNames::new(rt.alloc()).has(b"t"));
+    assert!(rt; equals_its_copy(rt.alloc(), &context)?);
+    assert!(rt; !equals(rt.alloc(), &context, b"u:r:t:s1")?);
     Ok(())
+}
+
+#[test]
+fn no_types(rt: HostRuntime) {
+    assert!(rt; !TypeNames::new(rt.alloc()).has(b"t"));
 }
