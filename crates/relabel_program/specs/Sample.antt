@@ -58,21 +58,27 @@ lines_below kind w (suc n) = lines_below kind w n + one_if (has_line_of kind (li
 unfoldable pub lines_of : LineKind → Walk → ℕ
 lines_of kind w = lines_below kind w (count w)
 
+-- the walk over what the first one leaves
+abbrev pub second_walk : Policy → List Record → Walk
+second_walk policy entries = walk_after policy (first_walk policy entries)
+
 -- of the first walk the entries, the lines of labels that change, those of conflicts, and the errors;
 -- of the second the lines of directories that are skipped, and of labels that change
-abbrev pub summary_of : Walk → Walk → Summary
-summary_of first second = record {
+unfoldable pub summary_of : Walk → ℕ → ℕ → Summary
+summary_of first skipped_again relabelled_again = record {
   entries = count first;
   relabelled = lines_of kinds.Relabelled first;
   conflicts = lines_of kinds.Conflicting first;
   errors = errors first;
-  skipped_again = lines_of kinds.Skipping second;
-  relabelled_again = lines_of kinds.Relabelled second;
+  skipped_again = skipped_again;
+  relabelled_again = relabelled_again;
 }
 
 abbrev pub sample_summary : Policy → List Record → Summary
 sample_summary policy entries =
-    summary_of (first_walk policy entries) (walk_after policy (first_walk policy entries))
+    summary_of (first_walk policy entries)
+    (lines_of kinds.Skipping (second_walk policy entries))
+    (lines_of kinds.Relabelled (second_walk policy entries))
 
 unfoldable pub number_line : List ℕ → ℕ → List ℕ
 number_line name number = name ++ decimal number ++ LINE_END.now

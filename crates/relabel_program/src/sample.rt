@@ -1,10 +1,7 @@
-ghost use Rattle.std.specs.Prelude.{◌≡◌, ℕ, ◌<◌, ◌≤◌, ◌++◌, ◌∷◌, ◌^◌, [], None, IfOk, OnOk, length, map};
-ghost use Rattle.std.specs.Fmt.{decimal};
-ghost use Rattle.label_base.specs.Bounded.{all_numbers};
+ghost use Rattle.std.specs.Prelude.{◌≡◌, ◌<◌, ◌≤◌, ◌++◌, ◌∷◌, ◌^◌, [], None, IfOk, OnOk, length};
 ghost use Rattle.report_text.specs.Message.{message_of};
 ghost use Rattle.relabel_core.specs.Answer.{walk_in};
 ghost use Rattle.relabel_core.specs.DigestAfter.{digest_told};
-ghost use Rattle.relabel_core.specs.Digests.{walk_before};
 ghost use Rattle.relabel_core.specs.Stored.{digests_listed, no_digests};
 ghost use Rattle.relabel_core.specs.Walk.{count, digests, line, one_if};
 ghost use Rattle.relabel_core.specs.Walked.{IsFit, walk_of};
@@ -18,8 +15,7 @@ use crate::told::{End, Told};
 use label_base::{Bytes, OutOfMemory, Row};
 use policy_files::{Policy, sample_choice, sample_options};
 use relabel_core::{
-    DigestAfter, Digests, Stored, VOID_DIGEST, WalkInput, Walked, next_labels, walk_input,
-    walk_uncounted,
+    DigestAfter, Stored, VOID_DIGEST, WalkInput, Walked, next_labels, walk_input, walk_uncounted,
 };
 use report_text::Message;
 use std::alloc::Global;
@@ -234,6 +230,21 @@ fn walk_after(
     walk_next(alloc, choice, policy, &next, first)
 }
 
+// What is told of the first walk, and of the second one by how many lines of two kinds it has.
+#[tactic(auto, unfolding(crate::specs::Sample::summary_of))]
+fn summary_of(first: &Walked<'_>, skipped_again: u32, relabelled_again: u32) -> Summary
+    ensures { result ≡ summary_of (walk_in first.now) skipped_again relabelled_again }
+{
+    Summary {
+        entries: first.len(),
+        relabelled: lines_of(LineKind::Relabelled, first),
+        conflicts: lines_of(LineKind::Conflicting, first),
+        errors: first.errors(),
+        skipped_again,
+        relabelled_again,
+    }
+}
+
 // Summarizes the walk over this input, and the second one.
 #[tactic(auto, unfolding(crate::specs::Sample::first_walk))]
 fn summarize_walks(
@@ -251,14 +262,7 @@ fn summarize_walks(
 {
     let first = walk_uncounted(alloc, input)?;
     let (skipped_again, relabelled_again) = walk_after(alloc, choice, policy, tree, &first)?;
-    Ok(Summary {
-        entries: first.len(),
-        relabelled: lines_of(LineKind::Relabelled, &first),
-        conflicts: lines_of(LineKind::Conflicting, &first),
-        errors: first.errors(),
-        skipped_again,
-        relabelled_again,
-    })
+    Ok(summary_of(&first, skipped_again, relabelled_again))
 }
 
 // Summarizes two walks over a tree, of what a choice means there.
