@@ -1,8 +1,7 @@
 ghost use Rattle.std.specs.Prelude.{◌≡◌, ◌++◌, ◌∷◌, [], OnOk, decimal};
 ghost use Rattle.context_syntax.specs.Context.{IsContext, context_text};
 ghost use Rattle.context_syntax.specs.TypeNames.{in_order};
-ghost use Rattle.path_subs.specs.Subs.{SubValue};
-ghost use Rattle.dir_digest.specs.ListingBytes.{AreCounted, IsDecision, IsSub, counted, decision_field, field_bytes, kind_field, line_fields, mode_fields, name_field, shared_fields, sub_fields};
+ghost use Rattle.dir_digest.specs.ListingBytes.{AreCounted, IsDecision, IsSub, counted, decision_field, field_bytes, kind_field, mode_fields, name_field, shared_fields, sub_fields};
 ghost use Rattle.dir_digest.specs.Spelled.{spec_bytes};
 ghost use Rattle.dir_digest.specs.Terms.{IsRead, is_whole};
 

@@ -5,8 +5,8 @@ ghost use Rattle.context_syntax.specs.TypeNames.{in_order};
 ghost use Rattle.path_subs.specs.Subs.{substituted};
 ghost use Rattle.spec_match.specs.Scratches.{IsScratchOf};
 ghost use Rattle.dir_digest.specs.Digest.{digest_at};
-ghost use Rattle.dir_digest.specs.Listing.{line_of, listing_of, relevant};
-ghost use Rattle.dir_digest.specs.ListingBytes.{AreCounted, IsSub, counted, field_bytes, line_fields, listing_bytes, shared_fields};
+ghost use Rattle.dir_digest.specs.Listing.{listing_of, relevant};
+ghost use Rattle.dir_digest.specs.ListingBytes.{AreCounted, IsSub, field_bytes, listing_bytes, shared_fields};
 ghost use Rattle.dir_digest.specs.Spelled.{AreSpelled, ended, itself, spec_bytes, specs_bytes, texts_at};
 ghost use Rattle.dir_digest.specs.Terms.{AreRead, IsRead, is_whole, terms_of};
 

@@ -4,7 +4,7 @@ use crate::{
     Mode, accepted_files_give_listings, digest, equal_listings_decide_alike, listing, listings_tell,
 };
 use context_syntax::{TypeNames, read_customizable};
-use label_base::{Bytes, NormPath, OutOfMemory, Part};
+use label_base::{Bytes, NormPath, Part};
 use path_subs::{SubList, Subs, read_subs};
 use sha1::Sha1;
 use spec_match::RuleSet;

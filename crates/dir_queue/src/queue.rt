@@ -1,4 +1,4 @@
-ghost use Rattle.std.specs.Prelude.{◌≡◌, ◌+◌, ◌-◌, ◌<◌, ◌≤◌, false, length, All, IfOk, IfNone};
+ghost use Rattle.std.specs.Prelude.{◌≡◌, ◌+◌, ◌-◌, ◌<◌, false, length, All, IfOk, IfNone};
 ghost use Rattle.crossbeam_queue.specs.Passes.{view, IsPassOf, ruled_capacity};
 ghost use Rattle.dir_queue.specs.Passes.{not_set_up, fresh, with_given, joined, for_one_less, MayOffer, ParentsAreTaken, HoldsEachOnce};
 ghost use Rattle.walk_steps.specs.Sound.{Sound};

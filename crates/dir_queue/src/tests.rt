@@ -1,4 +1,4 @@
-ghost use Rattle.std.specs.Prelude.{◌≡◌, ◌≢◌, ℕ, ◌+◌, ◌<◌, ◌≤◌, length, IfOk};
+ghost use Rattle.std.specs.Prelude.{◌≡◌, ◌≢◌, ℕ, ◌+◌, ◌<◌};
 ghost use Rattle.walk_steps.specs.Lists.{times};
 ghost use Rattle.dir_queue.specs.Passes.{parent_in};
 ghost use Rattle.dir_queue.specs.Answers.{IsQueuePassOf, queue_view, shape_of, passes_of};

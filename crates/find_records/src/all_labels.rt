@@ -1,4 +1,4 @@
-ghost use Rattle.std.specs.Prelude.{◌≡◌, ◌<◌, ◌≤◌, ◌+◌, ◌++◌, ◌^◌, [], get_or, length, slice_get, Some, IfOk, OnErr};
+ghost use Rattle.std.specs.Prelude.{◌≡◌, ◌<◌, ◌+◌, ◌++◌, ◌^◌, [], get_or, length, slice_get, Some, IfOk, OnErr};
 ghost use Rattle.context_syntax.specs.Label.{label_of, same_label};
 ghost use Rattle.context_syntax.specs.declared.label.Label.TheVariants.{Absent};
 ghost use Rattle.find_records.specs.Labels.{Extends};

@@ -2,7 +2,6 @@ ghost use Rattle.std.specs.Prelude.{◌≡◌, ◌<◌, ℕ, List, length, IfOk}
 ghost use Rattle.std.specs.List.{AllByRecursion};
 ghost use Rattle.context_syntax.specs.declared.label.Label.{Label};
 ghost use Rattle.find_records.specs.Labelled.{ArePaired};
-ghost use Rattle.find_records.specs.Marks.{Mark};
 ghost use Rattle.find_records.specs.Places.{ArePlaces};
 ghost use Rattle.find_records.specs.Rows.{AreWithin};
 

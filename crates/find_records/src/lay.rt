@@ -1,4 +1,4 @@
-ghost use Rattle.std.specs.Prelude.{◌≡◌, ◌++◌, ◌∷◌, [], List, ℕ, true, ◌+◌, ◌≤◌, length, IfOk, OnOk};
+ghost use Rattle.std.specs.Prelude.{◌≡◌, ◌++◌, ◌∷◌, [], List, true, ◌+◌, ◌≤◌, length, IfOk, OnOk};
 ghost use Rattle.find_records.specs.Marks.{Mark};
 ghost use Rattle.find_records.specs.Places.{ArePlaces, records_at};
 ghost use Rattle.find_records.specs.Record.{Record};

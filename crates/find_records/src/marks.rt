@@ -1,4 +1,4 @@
-ghost use Rattle.std.specs.Prelude.{◌≡◌, ◌++◌, ◌∷◌, ◌<◌, ◌^◌, ℕ, [], true, if◌then◌else◌, get_or, length, slice_get, Some, IfOk, OnErr};
+ghost use Rattle.std.specs.Prelude.{◌≡◌, ◌++◌, ◌∷◌, ◌<◌, ◌^◌, [], true, if◌then◌else◌, get_or, length, slice_get, Some, IfOk, OnErr};
 ghost use Rattle.context_syntax.specs.Label.{label_of, same_label};
 ghost use Rattle.find_records.specs.Labels.{Extends};
 ghost use Rattle.find_records.specs.Marks.{AreMarks, IsWithPair, mark_of, marks_in, no_mark};

@@ -1,4 +1,4 @@
-ghost use Rattle.std.specs.Prelude.{◌≡◌, ◌++◌, ◌∷◌, [], ◌<◌, ◌≤◌, ◌-◌, ◌+◌, ◌^◌, length, slice_get, None, Some, IfErr, IfOk, OnErr, OnOk, vec_len, vec_capacity};
+ghost use Rattle.std.specs.Prelude.{◌≡◌, ◌++◌, ◌∷◌, [], ◌<◌, ◌-◌, ◌+◌, ◌^◌, length, slice_get, None, Some, IfErr, IfOk, OnErr, OnOk, vec_len, vec_capacity};
 ghost use Rattle.std.specs.Option.{option_map};
 ghost use Rattle.label_base.specs.Answers.{Answers, cause_of};
 ghost use Rattle.label_base.specs.Path.{path_names, path_read};
@@ -9,7 +9,7 @@ ghost use Rattle.find_records.specs.Entry.{entry_of, record_told};
 ghost use Rattle.find_records.specs.Labelled.{with_labels};
 ghost use Rattle.find_records.specs.Labels.{Extends};
 ghost use Rattle.find_records.specs.Places.{ArePlaces, records_at};
-ghost use Rattle.find_records.specs.Rows.{IsWithin, record_in, text_in};
+ghost use Rattle.find_records.specs.Rows.{IsWithin, record_in};
 
 use crate::entry::{Entry, Told};
 use crate::labelled::{copy_labels, pair_rows};

@@ -1,4 +1,4 @@
-ghost use Rattle.std.specs.Prelude.{◌≡◌, ◌∷◌, ◌++◌, ◌<◌, ◌≤◌, ◌+◌, [], Contains, List, ℕ, None, Ok, Err, true, false, length, nat_lt, IfOk, OnErr};
+ghost use Rattle.std.specs.Prelude.{◌≡◌, ◌∷◌, ◌++◌, ◌<◌, ◌≤◌, ◌+◌, [], Contains, List, ℕ, None, Ok, Err, true, false, length, nat_lt, IfOk};
 ghost use Rattle.label_base.specs.Answers.{Answers};
 ghost use Rattle.find_records.specs.Cause.{records_cause};
 ghost use Rattle.find_records.specs.Grammar.{meaning, records_from};

@@ -1,5 +1,3 @@
-ghost use Rattle.std.specs.Prelude.{◌≡◌, ◌+◌};
-
 use atomic_table::{Join, Play, Split, TableRule};
 use std::collections::LinkedList;
 

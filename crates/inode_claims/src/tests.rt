@@ -1,4 +1,4 @@
-ghost use Rattle.std.specs.Prelude.{◌≡◌, ◌<◌};
+ghost use Rattle.std.specs.Prelude.{◌<◌};
 ghost use Rattle.inode_claims.specs.Answers.{IsPassOf, groups_of};
 
 use crate::{ClaimPass, Claims, NONE_WORD};

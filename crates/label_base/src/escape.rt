@@ -1,8 +1,8 @@
-ghost use Rattle.std.specs.Prelude.{◌≡◌, ◌++◌, ◌≤◌, length, OnOk, OnErr, IfOk, IfErr, Some, None, MatchResult};
+ghost use Rattle.std.specs.Prelude.{◌≡◌, ◌++◌, ◌≤◌, length, OnOk, OnErr, IfOk, IfErr, Some, None};
 ghost use Rattle.std.specs.List.{list_all};
 ghost use Rattle.std.specs.Option.{option_copied};
 ghost use Rattle.label_base.specs.Answers.{Finds, NoneUnless};
-ghost use Rattle.label_base.specs.Escape.{escaped, escaped_byte, is_plain, is_octal, octal_byte, in_front, led_by, unescaped, after_backslash, unescaped_left, is_free};
+ghost use Rattle.label_base.specs.Escape.{escaped, escaped_byte, is_plain, is_octal, octal_byte, in_front, unescaped, after_backslash, unescaped_left, is_free};
 ghost use Rattle.label_base.specs.Pieces.{turns_left};
 ghost use Rattle.label_base.specs.declared.escape.EscapeFault.TheVariants as fault;
 

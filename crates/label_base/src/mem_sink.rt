@@ -1,6 +1,5 @@
-ghost use Rattle.std.specs.Prelude.{◌≡◌, ◌≤◌, ◌<◌, ◌==◌, ◌+◌, ◌-◌, ◌^◌, ℕ, List, None, Some, [], length, take, min};
+ghost use Rattle.std.specs.Prelude.{◌≡◌, ◌<◌, ◌-◌, ℕ, None, Some, [], length, min};
 ghost use Rattle.label_base.specs.Sink.{IsPut, PutCounts, Puts, mem_put, sink_after};
-ghost use Rattle.label_base.specs.Source.{is_listed};
 
 use crate::bytes::Bytes;
 use crate::row::Row;

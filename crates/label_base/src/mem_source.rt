@@ -1,5 +1,5 @@
-ghost use Rattle.std.specs.Prelude.{◌≡◌, ◌≤◌, ◌<◌, ◌==◌, ◌+◌, ◌-◌, ◌^◌, ℕ, List, Some, length, take, min};
-ghost use Rattle.label_base.specs.Source.{Takes, TakeCounts, is_listed, mem_after, mem_take, sure_after, sure_take};
+ghost use Rattle.std.specs.Prelude.{◌≡◌, ◌≤◌, ◌<◌, ◌+◌, ◌-◌, Some, length, take, min};
+ghost use Rattle.label_base.specs.Source.{Takes, TakeCounts, mem_after, mem_take, sure_after, sure_take};
 
 use crate::bytes::Bytes;
 use crate::row::Row;

@@ -1,8 +1,8 @@
-ghost use Rattle.std.specs.Prelude.{◌≡◌, ◌≤◌, ◌++◌, ◌∷◌, IfOk, OnOk, OnErr, false, IfSome, IfNone, MatchResult, length, List, ℕ, Option, Some, None, Ok, Err};
+ghost use Rattle.std.specs.Prelude.{◌≡◌, ◌≤◌, ◌∷◌, IfOk, OnOk, OnErr, false, IfSome, IfNone, length, Option, Some, None, Ok, Err};
 ghost use Rattle.std.specs.FinMap as map;
 ghost use Rattle.std.specs.Option.{option_copied};
 ghost use Rattle.label_base.specs.Source.{next_count};
-ghost use Rattle.label_base.specs.Store.{FileCounts, FileIs, FileTold, IsFirstPlace, SaveCounts, SaveTold, content, files_of, found_in, has_name, is_planned, read_after, read_failed, write_after, write_failed};
+ghost use Rattle.label_base.specs.Store.{FileCounts, FileIs, IsFirstPlace, SaveCounts, SaveTold, content, files_of, found_in, has_name, is_planned, read_after, read_failed, write_after, write_failed};
 
 use crate::bytes::Bytes;
 use crate::memory::OutOfMemory;

@@ -1,4 +1,4 @@
-ghost use Rattle.std.specs.Prelude.{◌≡◌, ◌*◌, ◌+◌, ◌-◌};
+ghost use Rattle.std.specs.Prelude.{◌≡◌, ◌*◌, ◌-◌};
 ghost use Rattle.label_base.specs.Number.{digit_of, number_of, with_digit};
 
 fn digit(b: u8) -> Option<u64>

@@ -7,7 +7,7 @@ ghost use Rattle.std.proofs.Common.{rules};
 ghost use Rattle.std.specs.Prelude.{◌≡◌, ◌<◌, drop};
 ghost use Rattle.label_base.specs.Path.{path_cmp, path_names};
 ghost use Rattle.label_base.specs.PathFront.{digit, front};
-ghost use Rattle.label_base.specs.PathText.{IsNormal, text_cmp};
+ghost use Rattle.label_base.specs.PathText.{IsNormal};
 
 use crate::path::{cmp_texts, rank};
 use std::cmp::Ordering;

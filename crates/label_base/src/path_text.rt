@@ -1,6 +1,6 @@
 ghost use Rattle.std.specs.Prelude.{◌≡◌, ◌++◌, ◌≤◌, true, IfOk, Ok, OnOk, OnErr, length};
 ghost use Rattle.label_base.specs.Answers.{Answers, cause_of};
-ghost use Rattle.label_base.specs.Path.{path_names, path_read, with_slashes, are_names};
+ghost use Rattle.label_base.specs.Path.{path_names, path_read, with_slashes};
 ghost use Rattle.label_base.specs.PathText.{IsNormal};
 ghost use Rattle.label_base.specs.PathRef.{IsTextOf, normal_text};
 

@@ -1,5 +1,4 @@
 ghost use Rattle.std.specs.Prelude.{◌<◌, ◌^◌, length};
-ghost use Rattle.spec_match.specs.Scratches.{IsScratchOf};
 
 use crate::{
     LabelAfter, Rules, Verdict, conflict_line, decide, does_give, given_at, given_by, given_in,

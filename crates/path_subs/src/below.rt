@@ -1,8 +1,8 @@
 ghost use Rattle.std.specs.Prelude.{◌≡◌, ◌≤◌, ◌<◌, ◌&&◌, length, drop, Some, nat_lt};
-ghost use Rattle.std.specs.List.{list_any, starts_with};
+ghost use Rattle.std.specs.List.{starts_with};
 ghost use Rattle.label_base.specs.Path.{at_or_below, same_bytes, strictly_below};
 ghost use Rattle.label_base.specs.PathRef.{path_of};
-ghost use Rattle.path_subs.specs.Subs.{by_last, by_sub, covering, has_below};
+ghost use Rattle.path_subs.specs.Subs.{by_last, by_sub, has_below};
 
 use crate::sub::Sub;
 use crate::sub_list::SubList;

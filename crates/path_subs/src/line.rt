@@ -1,4 +1,4 @@
-ghost use Rattle.std.specs.Prelude.{◌≡◌, Ok};
+ghost use Rattle.std.specs.Prelude.{Ok};
 ghost use Rattle.label_base.specs.Answers.{Answers, cause_of};
 ghost use Rattle.path_subs.specs.SubLines.{path_in, sub_in, with_paths};
 

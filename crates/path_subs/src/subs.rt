@@ -1,8 +1,7 @@
-ghost use Rattle.std.specs.Prelude.{◌≡◌, ◌||◌, IfOk, is_some, unwrap_or};
+ghost use Rattle.std.specs.Prelude.{◌≡◌, IfOk, is_some, unwrap_or};
 ghost use Rattle.std.specs.Bool.{OnTrue};
-ghost use Rattle.std.specs.List.{list_any};
 ghost use Rattle.label_base.specs.PathRef.{path_of};
-ghost use Rattle.path_subs.specs.Subs.{KeepsBelow, covers, has_below, is_covered, plain, substituted};
+ghost use Rattle.path_subs.specs.Subs.{KeepsBelow, is_covered, plain, substituted};
 
 use crate::below::{has_source_below, has_source_below_first};
 use crate::stage::stage;

@@ -1,5 +1,5 @@
 ghost use Rattle.std.specs.Prelude.{◌≡◌, ◌++◌, ◌&&◌, ◌||◌, ◌==◌, not, true, IfOk, OnOk, [], map, length, if◌then◌else◌};
-ghost use Rattle.pattern_match.specs.Automaton.{Place, moved, followed, in_turn, bare, single, both, both_live, either, looped, up, copies, endless, repeated, all_places};
+ghost use Rattle.pattern_match.specs.Automaton.{moved, followed, bare, single, both, both_live, either, looped, up, copies, endless, repeated, all_places};
 ghost use Rattle.pattern_match.specs.Residuals.{is_count, is_some_list};
 
 use crate::class::Class;

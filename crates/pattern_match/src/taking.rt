@@ -1,4 +1,4 @@
-ghost use Rattle.std.specs.Prelude.{◌≡◌, ◌+◌, ◌*◌, ◌<◌, ◌≤◌, ◌^◌, ◌==◌, ◌&&◌, ◌↔◌, IsTrue, ℕ, length, slice_get};
+ghost use Rattle.std.specs.Prelude.{◌≡◌, ◌+◌, ◌*◌, ◌<◌, ◌^◌, ◌==◌, ◌&&◌, ◌↔◌, IsTrue, ℕ, length};
 ghost use Rattle.std.specs.Int.{bit_at};
 ghost use Rattle.pattern_match.specs.Class.{HasEachByte, takes_at};
 ghost use Rattle.pattern_match.specs.States.{bit};

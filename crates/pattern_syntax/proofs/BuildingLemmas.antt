@@ -8,7 +8,7 @@ use Rattle.std.proofs.Math.Nat.{mul-le-mul_right}
 use Rattle.std.proofs.lemmas.Bool.Decides.{nat_tests}
 use Rattle.pattern_syntax.specs.Tree as tree
 use Rattle.pattern_syntax.specs.Tree.{Tree, tree_from}
-use Rattle.pattern_syntax.specs.Reading.{Reading, reads_as, choice_of, with_side, placed_cut, refused_at, factor, positions, after_token, structure_fault, sequence_of, with_last, with_repeat, new_level}
+use Rattle.pattern_syntax.specs.Reading.{Reading, reads_as, choice_of, with_side, placed_cut, refused_at, factor, positions, after_token, sequence_of, with_last, with_repeat, new_level}
 use Rattle.pattern_syntax.specs.Reading as reading
 use Rattle.pattern_syntax.specs.Tokens as tokens
 use Rattle.pattern_syntax.specs.Shape.{is_proper, is_sequence, is_choice, tree_size, stack_size}

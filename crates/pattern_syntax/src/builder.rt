@@ -1,5 +1,5 @@
 //! The nodes of a pattern, built as its tokens are read.
-ghost use Rattle.std.specs.Prelude.{◌≡◌, ◌+◌, ◌*◌, ◌∷◌, ◌++◌, [], length, ◌<◌, ◌^◌, min, IfOk, OnOk, Some, ℕ, List, true, option_map, is_some};
+ghost use Rattle.std.specs.Prelude.{◌≡◌, ◌+◌, ◌*◌, ◌∷◌, ◌++◌, [], length, ◌<◌, min, IfOk, OnOk, Some, ℕ, List, true, is_some};
 ghost use Rattle.std.specs.Bool.{OnTrue};
 ghost use Rattle.pattern_syntax.specs.Tokens as tokens;
 ghost use Rattle.pattern_syntax.specs.Nodes.{after_node, trees_behind};

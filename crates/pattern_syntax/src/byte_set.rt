@@ -1,4 +1,4 @@
-ghost use Rattle.std.specs.Prelude.{◌≡◌, ◌==◌, ◌||◌, ◌&&◌, ◌<◌, ◌≤◌, ◌^◌, ◌+◌, ◌-◌, ◌∷◌, [], ℕ, MatchOption, nat_le};
+ghost use Rattle.std.specs.Prelude.{◌≡◌, ◌==◌, ◌||◌, ◌<◌, ◌≤◌, ◌+◌, ◌-◌, ◌∷◌, [], ℕ, MatchOption};
 ghost use Rattle.pattern_syntax.specs.ByteSet.{has_byte, bytes_from, bytes_with, only_of, is_none_of, no_bytes};
 ghost use Rattle.pattern_syntax.specs.Classes.{is_between, either, outside};
 

@@ -1,8 +1,7 @@
 //! The rest of a pattern that has too many positions, whatever follows.
-ghost use Rattle.std.specs.Prelude.{◌≡◌, ◌+◌, ◌<◌, ◌≤◌, ◌^◌, length, drop, unwrap_or, Some, MatchOption, None, is_some, true};
+ghost use Rattle.std.specs.Prelude.{◌≡◌, ◌+◌, ◌<◌, ◌≤◌, ◌^◌, length, unwrap_or, Some, MatchOption, None, is_some, true};
 ghost use Rattle.pattern_syntax.specs.PatternCause.{pattern_cause};
 ghost use Rattle.pattern_syntax.specs.Reading.{structure_fault, depth_behind, ends_piece, fault_from};
-ghost use Rattle.pattern_syntax.specs.Tokens.{tokens_from};
 ghost use Rattle.pattern_syntax.specs.Views.{token_of};
 ghost use Rattle.pattern_syntax.specs.declared.limits.TheConstants.{MOST_GROUPS};
 ghost use Rattle.pattern_syntax.specs.declared.pattern_fault.PatternWhy.TheVariants.{TooManyPositions};

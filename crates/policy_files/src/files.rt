@@ -1,4 +1,4 @@
-ghost use Rattle.std.specs.Prelude.{◌≡◌, ℕ, ◌<◌, ◌≤◌, ◌-◌, ◌^◌, IfOk, IfErr, IfSome, OnOk, length};
+ghost use Rattle.std.specs.Prelude.{◌≡◌, ℕ, ◌<◌, ◌≤◌, ◌-◌, ◌^◌, IfOk, IfErr, IfSome, length};
 ghost use Rattle.context_syntax.specs.TypeNames.{types_read};
 ghost use Rattle.path_subs.specs.SubLines.{subs_of};
 ghost use Rattle.spec_reader.specs.SpecLines.{specs_of};

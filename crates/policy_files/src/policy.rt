@@ -1,4 +1,4 @@
-ghost use Rattle.std.specs.Prelude.{◌≡◌, ℕ, ◌<◌, ◌^◌, IfErr, IfOk, IfSome, length};
+ghost use Rattle.std.specs.Prelude.{◌≡◌, ℕ, ◌<◌, IfErr, IfOk, IfSome};
 ghost use Rattle.run_faults.specs.Causes.{Counts, Gives, IsFileCause};
 ghost use Rattle.policy_files.specs.Files.{kept_dump, kept_for, policy, policy_in, with_kept};
 ghost use Rattle.policy_files.specs.SampleWords.{sample_files, sample_words};

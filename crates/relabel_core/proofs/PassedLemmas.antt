@@ -1,8 +1,8 @@
 -- What is found of the directories, entry by entry.
-use Rattle.std.proofs.Common.{◌≡◌, ◌∙◌, sym, refl, ap, ap₂, subst, ℕ, zero, suc, ◌+◌, ◌<◌, ◌≤◌, ◌==◌, ◌&&◌, ◌||◌, Bool, true, false, not, List, [], ◌∷◌, ◌++◌, length, get_or, Option, Some, None, inl, inr, arith, if◌then◌else◌, eq-eqb, ne_eqb, add-one, length-append}
+use Rattle.std.proofs.Common.{◌≡◌, ◌∙◌, sym, refl, ap, ap₂, ℕ, zero, suc, ◌+◌, ◌<◌, ◌≤◌, ◌==◌, ◌&&◌, ◌||◌, Bool, true, false, not, List, [], ◌∷◌, ◌++◌, length, get_or, Option, Some, None, inl, inr, arith, if◌then◌else◌, eq-eqb, ne_eqb, add-one, length-append}
 use Rattle.std.specs.Prelude.{is_some, nat_le, nat_lt}
 use Rattle.std.specs.BTreeMap.{BTreeMap}
-use Rattle.std.proofs.lemmas.Bool.{and_parts, cases_Bool, cases_eq, cases_lt, le-leb, le-ltb, lt-ltb, ltb-true, or_parts}
+use Rattle.std.proofs.lemmas.Bool.{and_parts, cases_eq, cases_lt, le-leb, le-ltb, lt-ltb, or_parts}
 use Rattle.std.proofs.lemmas.List.{get_or_append_left}
 use Rattle.std.proofs.Math.Seq.{get_or-append_seam}
 use Rattle.label_base.specs.Bounded.{all_below, any_below, implies}
@@ -12,7 +12,7 @@ use Rattle.tree_model.specs.Groups.{closed_at}
 use Rattle.tree_model.specs.Selection.{whole_at}
 use Rattle.tree_model.specs.Tree.{ByPath}
 use Rattle.tree_model.proofs.ExtentLemmas.{false_unless, in_behind, in_chain, in_itself}
-use Rattle.relabel_core.specs.Passed.{ArePassed, ArePassing, is_covered, is_first, is_needed, is_not, kept_of, meets, may_skip, needed, renewal, renews, skip_of, uses_digests}
+use Rattle.relabel_core.specs.Passed.{ArePassed, ArePassing, is_covered, is_first, is_not, kept_of, meets, needed, renewal, renews, skip_of, uses_digests}
 use Rattle.relabel_core.specs.Stored.{Adds, digests_in, told_before}
 use Rattle.relabel_core.specs.Walk.{Walk, count, digest_now, is_current, is_live, is_renewed, is_skipped, is_skipped_first, is_whole, skippable, skips, walked}
 use Rattle.relabel_core.specs.declared.passed.Skip.{Skip}

@@ -5,7 +5,7 @@ ghost use Rattle.spec_match.specs.Scratches.{IsScratchOf};
 ghost use Rattle.relabel_core.specs.Passed.{ArePassed, ArePassing, is_needed, kept_of, may_skip, meets, needed, renews, uses_digests};
 ghost use Rattle.relabel_core.specs.Stored.{Adds, digests_in};
 ghost use Rattle.relabel_core.specs.Terms.{terms_by};
-ghost use Rattle.relabel_core.specs.Walk.{count, digest_now, is_current, is_whole, skippable, skips};
+ghost use Rattle.relabel_core.specs.Walk.{count, is_current, is_whole, skippable, skips};
 ghost use Rattle.relabel_core.specs.Walked.{IsFit, walk_of};
 
 use crate::digesting::{Buffers, digest_of, listings_by};

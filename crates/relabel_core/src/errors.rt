@@ -1,6 +1,6 @@
-ghost use Rattle.std.specs.Prelude.{◌≡◌, ◌<◌, ◌^◌, ◌≤◌, length};
+ghost use Rattle.std.specs.Prelude.{◌≡◌, ◌<◌, ◌≤◌, length};
 ghost use Rattle.relabel_core.specs.Answer.{walk_in};
-ghost use Rattle.relabel_core.specs.Walk.{absent_errors, conflict_errors, conflicts_below, count, errors};
+ghost use Rattle.relabel_core.specs.Walk.{absent_errors, conflict_errors, conflicts_below, errors};
 ghost use Rattle.relabel_core.specs.Walked.{IsFit, walk_of};
 
 use crate::input::WalkInput;

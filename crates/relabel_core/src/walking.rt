@@ -1,8 +1,8 @@
-ghost use Rattle.std.specs.Prelude.{◌≡◌, ◌+◌, ◌<◌, ◌≤◌, ◌^◌, IfOk, IfSome, OnOk, length};
+ghost use Rattle.std.specs.Prelude.{◌≡◌, ◌+◌, ◌<◌, ◌≤◌, IfOk, IfSome, OnOk, length};
 ghost use Rattle.spec_match.specs.Scratches.{IsScratchOf};
 ghost use Rattle.relabel_core.specs.Passed.{ArePassed};
 ghost use Rattle.relabel_core.specs.Walk.{count, deciding, one_if, walked, walked_below};
-ghost use Rattle.relabel_core.specs.Walked.{AreNoted, IsFit, IsFor, walk_of};
+ghost use Rattle.relabel_core.specs.Walked.{AreNoted, IsFit, walk_of};
 ghost use Rattle.relabel_core.specs.Answer.{walk_in};
 
 use crate::digesting::buffers_for;

@@ -1,4 +1,4 @@
-ghost use Rattle.std.specs.Prelude.{◌≡◌, ◌⊎◌, ◌≤◌, ◌++◌};
+ghost use Rattle.std.specs.Prelude.{◌≡◌, ◌⊎◌};
 ghost use Rattle.relabel_program.specs.Answer.{cause_of};
 ghost use Rattle.run_faults.specs.Faults.{fault_line};
 ghost use Rattle.relabel_program.specs.Run.{LineOrFront, WritesReport};

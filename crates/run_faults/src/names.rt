@@ -1,5 +1,4 @@
 ghost use Rattle.std.specs.Prelude.{◌≡◌, ◌++◌, IfOk};
-ghost use Rattle.std.specs.Option.{option_copied};
 ghost use Rattle.run_faults.specs.Asked.{base_of, kept_of};
 ghost use Rattle.run_faults.specs.Names.{name_of, name_or_none, names_for, no_names};
 

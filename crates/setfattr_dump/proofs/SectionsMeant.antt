@@ -13,7 +13,7 @@ use Rattle.setfattr_dump.specs.declared.line.Said.{Said}
 use Rattle.setfattr_dump.specs.declared.line.Said.TheVariants.{Ends, Names, Gives}
 use Rattle.setfattr_dump.specs.declared.marks.TheConstants.{FILE_MARK}
 use Rattle.setfattr_dump.specs.Grammar as grammar
-use Rattle.setfattr_dump.specs.Grammar.{AreAttrs, AreSections, DumpMeans, IsAttr, IsBad, IsName, IsRefusedAt, leaves_open, open_after}
+use Rattle.setfattr_dump.specs.Grammar.{AreAttrs, AreSections, DumpMeans, IsBad, IsName, IsRefusedAt, leaves_open, open_after}
 use Rattle.setfattr_dump.specs.Reading.{dump_read, line_read, open_section, said_then, sections_from}
 use Rattle.setfattr_dump.proofs.LinesMeant.{attr_line_read, attr_some, bad_line_read, empty_line_read, name_line_read}
 

@@ -13,7 +13,7 @@ use Rattle.setfattr_dump.specs.declared.dump.Attr.{Attr}
 use Rattle.setfattr_dump.specs.declared.dump.Section.{Section}
 use Rattle.setfattr_dump.specs.declared.marks.TheConstants.{FILE_MARK}
 use Rattle.setfattr_dump.specs.Grammar as grammar
-use Rattle.setfattr_dump.specs.Grammar.{AreAttrs, AreSections, HasKey, IsAttr, IsName}
+use Rattle.setfattr_dump.specs.Grammar.{AreAttrs, AreSections, IsAttr, IsName}
 use Rattle.setfattr_dump.specs.Reading.{dump_read, with_slash}
 use Rattle.setfattr_dump.specs.Texts.{are_writable, is_key, is_marked, is_readable}
 use Rattle.setfattr_dump.proofs.DumpMeant.{dump_means}

@@ -13,7 +13,7 @@ use Rattle.setfattr_dump.specs.declared.dump.Attr.{Attr}
 use Rattle.setfattr_dump.specs.declared.dump.Section.{Section}
 use Rattle.setfattr_dump.specs.declared.marks.TheConstants.{FILE_MARK, HEX_MARK, QUOTE_ESCAPE, QUOTE_MARK}
 use Rattle.setfattr_dump.specs.Grammar as grammar
-use Rattle.setfattr_dump.specs.Grammar.{AreAttrs, AreSections, HasKey, IsAttr, IsName, IsValue}
+use Rattle.setfattr_dump.specs.Grammar.{AreAttrs, AreSections, IsAttr, IsName}
 use Rattle.setfattr_dump.specs.Reading.{dump_read, with_slash}
 use Rattle.setfattr_dump.specs.ReadsBack.{AttrReads, NameReads, SectionReads}
 use Rattle.setfattr_dump.specs.Texts.{are_writable, attr_line, attrs_text, dump_text, is_key, is_marked, is_readable, is_writable, section_text}

@@ -1,7 +1,7 @@
 ghost use Rattle.std.specs.Prelude.{◌≡◌, ◌++◌, ◌<◌, OnOk};
 ghost use Rattle.std.specs.List.{list_all};
 ghost use Rattle.label_base.specs.Escape.{is_plain};
-ghost use Rattle.setfattr_dump.specs.Values.{hex_byte, hex_bytes, hex_digit, is_digest, is_kept, quoted_byte, quoted_bytes, value_text};
+ghost use Rattle.setfattr_dump.specs.Values.{hex_bytes, hex_digit, is_digest, is_kept, quoted_byte, quoted_bytes, value_text};
 
 use crate::marks::{BACKSLASH, DEL, DIGEST_KEY, HEX_MARK, QUOTE, QUOTE_ESCAPE, QUOTE_MARK};
 use label_base::{BLANK, Bytes, OutOfMemory};

@@ -1,4 +1,4 @@
-ghost use Rattle.std.specs.Prelude.{◌≡◌, ◌++◌, ◌<◌, ◌^◌, [], length, is_some, option_map, IfErr, IfOk, None, OnOk, Some};
+ghost use Rattle.std.specs.Prelude.{◌≡◌, ◌++◌, ◌<◌, ◌^◌, [], length, is_some, option_map, IfErr, None, OnOk, Some};
 ghost use Rattle.label_base.specs.Answers.{Answers, Explains, cause_of};
 ghost use Rattle.setfattr_dump.specs.Reading.{dump_read, line_read, open_section};
 ghost use Rattle.setfattr_dump.specs.SoFar.{IsState, Takes};

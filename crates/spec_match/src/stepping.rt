@@ -1,7 +1,6 @@
-ghost use Rattle.std.specs.Prelude.{◌≡◌, ◌++◌, ◌∷◌, ◌⊎◌, ◌<◌, ℕ, Bool, List, [], true, IfSome, length, map};
+ghost use Rattle.std.specs.Prelude.{◌≡◌, ◌∷◌, ◌<◌, Bool, [], true, IfSome, length, map};
 ghost use Rattle.std.specs.List.{All};
-ghost use Rattle.pattern_match.specs.States.{AreStatesOf, Progress, StandsFor};
-ghost use Rattle.pattern_syntax.specs.Language.{Opens};
+ghost use Rattle.pattern_match.specs.States.{AreStatesOf};
 ghost use Rattle.spec_match.specs.Alive.{AreAlive, IsOwn, LeadsBy, alive, alive_at, list_of, wanted};
 ghost use Rattle.spec_match.specs.Listed.{IsListed, Stays};
 ghost use Rattle.spec_match.specs.StatesFor.{AreStatesFor, patterns_of, spec_in};

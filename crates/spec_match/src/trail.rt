@@ -1,5 +1,4 @@
-ghost use Rattle.std.specs.Prelude.{◌≡◌, ◌≤◌, ◌<◌, ◌+◌, ◌++◌, ◌*◌, ℕ, Bool, List, length, min, take, drop, set, true, IfOk, if◌then◌else◌, nat_lt};
-ghost use Rattle.std.specs.Vec.{vec_capacity};
+ghost use Rattle.std.specs.Prelude.{◌≡◌, ◌≤◌, ◌<◌, ◌+◌, ◌++◌, ◌*◌, ℕ, Bool, List, length, min, take, set, true, IfOk, if◌then◌else◌, nat_lt};
 ghost use Rattle.pattern_match.specs.Onwards.{AreTextBytes};
 ghost use Rattle.pattern_syntax.specs.Tree.{Tree};
 ghost use Rattle.spec_reader.specs.SpecValue.{SpecValue};

@@ -1,4 +1,4 @@
-ghost use Rattle.std.specs.Prelude.{◌≡◌, ◌<◌, ◌^◌, length, true, IfSome};
+ghost use Rattle.std.specs.Prelude.{◌≡◌, ◌<◌, ◌^◌, length, true};
 ghost use Rattle.std.specs.Option.{option_map};
 ghost use Rattle.label_base.specs.Answers.{Answers, cause_of};
 ghost use Rattle.pattern_syntax.specs.PatternCause.{pattern_cause};

@@ -1,7 +1,6 @@
-ghost use Rattle.std.specs.Prelude.{◌≡◌, ◌∷◌, [], ◌++◌, IfOk};
+ghost use Rattle.std.specs.Prelude.{◌≡◌, ◌∷◌, [], IfOk};
 ghost use Rattle.std.specs.List.{last_or};
 ghost use Rattle.std.specs.Option.{option_and_then, option_copied};
-ghost use Rattle.label_base.specs.Answers.{Answers, cause_of};
 ghost use Rattle.tool_words.specs.Values.{count_named, kind_named, workers_named};
 ghost use Rattle.tool_words.specs.Words.{asked_by, base_of, count_of, end_wrong, has_flag, has_operand, has_path, has_value, is_flag, is_given, is_operand, lacks_output, lookup_of, options_of, paths_in, recurses, relabel_of, value_of, values_of, workers_of};
 

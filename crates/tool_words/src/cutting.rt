@@ -1,4 +1,4 @@
-ghost use Rattle.std.specs.Prelude.{◌≡◌, ◌∷◌, ◌++◌, ◌<◌, ◌≤◌, ◌^◌, [], drop, get_or, length, IfOk, OnOk};
+ghost use Rattle.std.specs.Prelude.{◌≡◌, ◌∷◌, ◌++◌, ◌<◌, ◌^◌, [], drop, get_or, length, IfOk, OnOk};
 ghost use Rattle.tool_words.specs.Items.{any_taken, ahead, is_cluster, item, items_of, letters_say, operand_says, operand_taken, taken, unended, valued_says, wrong};
 ghost use Rattle.tool_words.specs.declared.cutting.Expects.TheVariants.{Any};
 ghost use Rattle.tool_words.specs.declared.item.Says.TheVariants.{Given};

@@ -3,7 +3,7 @@ ghost use Rattle.std.specs.List.{dedup};
 ghost use Rattle.label_base.specs.Answers.{Answers};
 ghost use Rattle.tree_model.specs.Entries.{doubled, entries_of, tree_of};
 ghost use Rattle.tree_model.specs.Numbered.{item_of, numbered_from, place_of};
-ghost use Rattle.tree_model.specs.Runs.{same_place, noted, passed, doubled_in};
+ghost use Rattle.tree_model.specs.Runs.{same_place, noted, doubled_in};
 ghost use Rattle.find_records.specs.Places.{ArePlaces, records_at};
 ghost use Rattle.tree_model.specs.Tree.{tree_cause};
 ghost use Rattle.tree_model.specs.Up.{goes_up, is_next, steps_up};

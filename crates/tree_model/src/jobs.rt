@@ -1,7 +1,7 @@
-ghost use Rattle.std.specs.Prelude.{◌≡◌, ◌+◌, ◌<◌, ◌≤◌, ◌^◌, ◌++◌, ◌∷◌, [], if◌then◌else◌, length, map, filter, IfOk, IfSome, OnOk};
+ghost use Rattle.std.specs.Prelude.{◌≡◌, ◌+◌, ◌<◌, ◌^◌, ◌++◌, ◌∷◌, [], if◌then◌else◌, length, map, filter, IfOk, OnOk};
 ghost use Rattle.label_base.specs.Bounded.{all_numbers};
-ghost use Rattle.tree_model.specs.Extents.{ParentsTo, is_directory, parent_of};
-ghost use Rattle.tree_model.specs.Jobs.{AreJobs, directories_below, home_of, job_for, shape_of};
+ghost use Rattle.tree_model.specs.Extents.{ParentsTo, is_directory};
+ghost use Rattle.tree_model.specs.Jobs.{AreJobs, directories_below, home_of, shape_of};
 ghost use Rattle.tree_model.specs.Kept.{KeepsGroups};
 ghost use Rattle.tree_model.specs.Tree.{ByPath};
 ghost use Rattle.walk_steps.specs.Shaped.{IsValid};

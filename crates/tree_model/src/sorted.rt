@@ -1,4 +1,4 @@
-ghost use Rattle.std.specs.Prelude.{◌≡◌, ◌↔◌, ℕ, ◌<◌, ◌^◌, ◌-◌, IfOk, Some, length, slice_get};
+ghost use Rattle.std.specs.Prelude.{◌≡◌, ◌↔◌, ◌<◌, ◌^◌, ◌-◌, IfOk, Some, length, slice_get};
 ghost use Rattle.std.specs.List.{Contains};
 ghost use Rattle.label_base.specs.Answers.{Answers};
 ghost use Rattle.label_base.specs.PathRef.{path_of};
@@ -7,7 +7,7 @@ ghost use Rattle.find_records.specs.Record.{Record};
 ghost use Rattle.find_records.specs.Labelled.{with_labels};
 ghost use Rattle.find_records.specs.Places.{ArePlaces};
 ghost use Rattle.tree_model.specs.Entries.{tree_of};
-ghost use Rattle.tree_model.specs.Extents.{entry_at, in_extent, is_directory};
+ghost use Rattle.tree_model.specs.Extents.{in_extent, is_directory};
 ghost use Rattle.tree_model.specs.Tree.{ByPath, IsFrom, tree_cause, find_in};
 
 use crate::building::put_in_order;

@@ -1,4 +1,4 @@
-ghost use Rattle.std.specs.Prelude.{◌≡◌, ◌+◌, ◌<◌, ◌≤◌, [], length, OnOk, IfOk, IfErr, true, replicate, slice_index, slice_set, min};
+ghost use Rattle.std.specs.Prelude.{◌≡◌, ◌<◌, [], length, OnOk, IfOk, IfErr, true, replicate, min};
 ghost use Rattle.walk_steps.specs.Lists.{is_in, list_of, added_to, lowered};
 
 use crate::shape::Shape;

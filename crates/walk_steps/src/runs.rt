@@ -1,4 +1,4 @@
-ghost use Rattle.std.specs.Prelude.{◌≡◌, ◌^◌, ◌<◌, length, IfOk};
+ghost use Rattle.std.specs.Prelude.{◌^◌, ◌<◌, length, IfOk};
 ghost use Rattle.label_base.specs.Answers.{Answers};
 ghost use Rattle.walk_steps.specs.Shaped.{IsValid};
 ghost use Rattle.walk_steps.specs.Machine.{run_of, index_of};

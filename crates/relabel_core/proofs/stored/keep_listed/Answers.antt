@@ -1,4 +1,4 @@
-use Rattle.std.proofs.Common.{◌∙◌, ap, sym, arith, ℕ, length, None, inl, inr}
+use Rattle.std.proofs.Common.{◌∙◌, ap, sym, arith, ℕ, None, inl, inr}
 use std.Path.{fun_ext}
 use Rattle.std.proofs.lemmas.Bool.{cases_lt}
 use Rattle.std.proofs.lemmas.List.{get_or_default, get_or_past}

@@ -1,4 +1,4 @@
-use Rattle.std.proofs.Common.{◌∷◌, ◌∙◌, [], ◌≡◌, ◌<◌, ◌+◌, ◌*◌, ap, arith, length, map, refl, rules, set, subst, sym}
+use Rattle.std.proofs.Common.{◌∷◌, ◌∙◌, [], ◌≡◌, ◌<◌, ◌+◌, ◌*◌, ap, arith, length, map, rules, set, subst, sym}
 use Rattle.spec_match.specs.Alive.{LeadsBy, list_of}
 use Rattle.spec_match.specs.Listed.{IsListed}
 use Rattle.spec_match.specs.Remembering.{IsGrown, IsTableOf, Kept, kept}

@@ -1,4 +1,4 @@
-use Rattle.std.proofs.Common.{◌∙◌, arith, map, subst, sym}
+use Rattle.std.proofs.Common.{◌∙◌, arith, map, subst}
 use Rattle.spec_match.specs.Alive.{list_of}
 use Rattle.spec_match.specs.Listed.{IsListed}
 use Rattle.spec_match.specs.StatesFor.{patterns_of, spec_in}
