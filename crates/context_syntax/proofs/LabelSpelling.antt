@@ -2,7 +2,7 @@
 use Rattle.std.proofs.Common.{◌≡◌, ◌∙◌, ap, sym, refl, subst, ℕ, true, false, cond, List, [], ◌∷◌, inl, inr, arith}
 use Rattle.std.specs.Prelude.{◌↔◌, Option, Some, None}
 use Rattle.std.proofs.lemmas.Slice.Eq.{bytes_eq-Decides}
-use Rattle.label_base.specs.Path.{same_bytes}
+use Rattle.label_base.specs.Text.{same_bytes}
 use Rattle.context_syntax.specs.Context.{ContextValue, context_of}
 use Rattle.context_syntax.specs.Label.{label_from, label_of}
 use Rattle.context_syntax.specs.LabelGrammar.{IsOdd, SpellsLabel}

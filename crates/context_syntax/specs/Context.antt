@@ -3,7 +3,7 @@ use Rattle.std.specs.Prelude.{◌≡◌, ℕ, Bool, true, false, ◌&&◌, ◌||
 use Rattle.std.specs.Char.{is_ascii_alphanumeric, is_ascii_graphic}
 use Rattle.std.specs.List.{list_all, list_any}
 use Rattle.label_base.specs.Cut.{front, behind}
-use Rattle.label_base.specs.Path.{same_bytes}
+use Rattle.label_base.specs.Text.{same_bytes}
 use Rattle.context_syntax.specs.declared.context.TheConstants.{COLON}
 
 pub record ContextValue : Type 0 where

@@ -7,8 +7,8 @@ use Rattle.std.proofs.lemmas.Bool.Decides.{Decides-eqb}
 use Rattle.std.proofs.lemmas.Fmt.{decimal_injective, digits_decimal}
 use Rattle.std.proofs.lemmas.Str.Parse.{IsNumeralModel, numerals_by_fold}
 use Rattle.std.specs.Str.{all_ascii_digits}
-use Rattle.label_base.specs.Path.{Path, are_names, is_name, is_name_byte, path_names, path_text, with_slashes}
-use Rattle.label_base.proofs.PathLemmas.{names_back}
+use Rattle.file_paths.specs.Path.{Path, are_names, is_name, is_name_byte, path_names, path_text, with_slashes}
+use Rattle.file_paths.proofs.PathLemmas.{names_back}
 use Rattle.label_base.specs.declared.kind.EntryKind.{EntryKind}
 use Rattle.label_base.specs.declared.kind.EntryKind.TheVariants.{Regular, Directory, Link, Pipe, Socket, Block, Char, Other}
 use Rattle.context_syntax.specs.Context.{ContextValue, IsContext, context_of, context_text, is_range, is_range_byte, is_word, is_word_byte, range_text}

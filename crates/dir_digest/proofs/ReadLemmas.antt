@@ -4,7 +4,7 @@ use Rattle.std.specs.List.{AllByRecursion, last_or}
 use Rattle.std.proofs.lemmas.Bool.{and_from, and_parts}
 use Rattle.std.proofs.lemmas.List.{drop_all, length-map}
 use Rattle.std.proofs.lemmas.List.Folds.{list_all-append}
-use Rattle.label_base.specs.Path.{Path, are_names, is_name}
+use Rattle.file_paths.specs.Path.{Path, are_names, is_name}
 use Rattle.path_subs.specs.Subs.{SubValue, by_last, by_sub, covering, covers, plain, substituted}
 use Rattle.spec_reader.specs.SpecValue.{SpecValue}
 use Rattle.spec_match.specs.Relevant.{can_decide}

@@ -4,7 +4,7 @@ use Rattle.std.specs.List.{enumerate_from, flat_map}
 use Rattle.std.proofs.lemmas.Grind.{flat_map-append}
 use Rattle.std.proofs.lemmas.List.{length-map}
 use Rattle.std.proofs.Math.Seq.{get_or-append_seam}
-use Rattle.label_base.specs.Path.{Path, path_text}
+use Rattle.file_paths.specs.Path.{Path, path_text}
 use Rattle.path_subs.specs.Subs.{plain, substituted}
 use Rattle.spec_reader.specs.SpecValue.{SpecValue}
 use Rattle.spec_match.specs.Relevant.{can_decide, relevant_at}

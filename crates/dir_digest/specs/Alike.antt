@@ -1,6 +1,6 @@
 -- What a directory's listing tells of the labels at and below it.
 use Rattle.std.specs.Prelude.{◌≡◌, false, ◌++◌, Option, option_map}
-use Rattle.label_base.specs.Path.{Path, path_text}
+use Rattle.file_paths.specs.Path.{Path, path_text}
 use Rattle.label_base.specs.declared.kind.Asked.{Asked}
 use Rattle.path_subs.specs.Subs.{substituted}
 use Rattle.spec_reader.specs.SpecValue.{SpecValue}

@@ -1,7 +1,7 @@
 -- The digest of a directory.
 use Rattle.std.specs.Prelude.{ℕ, Bool, List}
 use Rattle.sha1.specs.Sha1.{sha1}
-use Rattle.label_base.specs.Path.{Path}
+use Rattle.file_paths.specs.Path.{Path}
 use Rattle.path_subs.specs.Subs.{SubValue}
 use Rattle.spec_reader.specs.SpecValue.{SpecValue}
 use Rattle.dir_digest.specs.Listing.{listing_of}

@@ -1,7 +1,7 @@
 -- What decides the labels at and below a directory, as far as it can be told without the tree: the
 -- path that is looked up, the options, the substitutions and the specifications.
 use Rattle.std.specs.Prelude.{ℕ, Bool, List, [], Option, filter, map, if◌then◌else◌}
-use Rattle.label_base.specs.Path.{Path}
+use Rattle.file_paths.specs.Path.{Path}
 use Rattle.label_base.specs.declared.kind.EntryKind.{EntryKind}
 use Rattle.path_subs.specs.Subs.{SubValue, plain, substituted}
 use Rattle.spec_reader.specs.SpecValue.{SpecValue}

@@ -1,7 +1,7 @@
 -- The bytes of a listing: fields, each with a NUL behind it. The format is this project's own.
 use Rattle.std.specs.Prelude.{◌≡◌, ℕ, ◌<◌, ◌^◌, ◌==◌, Bool, true, false, List, [], ◌∷◌, ◌++◌, length, Option, Some, None, decimal}
 use Rattle.std.specs.List.{AllByRecursion, flat_map, list_all, list_any}
-use Rattle.label_base.specs.Path.{are_names, path_text}
+use Rattle.file_paths.specs.Path.{are_names, path_text}
 use Rattle.label_base.specs.declared.kind.EntryKind.{EntryKind}
 use Rattle.context_syntax.specs.Context.{IsContext, context_text, is_word}
 use Rattle.path_subs.specs.Subs.{SubValue}

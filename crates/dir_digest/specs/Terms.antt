@@ -1,7 +1,7 @@
 -- What decides the listings of all directories.
 use Rattle.std.specs.Prelude.{◌≡◌, ℕ, ◌<◌, ◌^◌, Bool, true, false, List, length}
 use Rattle.std.specs.List.{list_all}
-use Rattle.label_base.specs.Path.{Path}
+use Rattle.file_paths.specs.Path.{Path}
 use Rattle.context_syntax.specs.Context.{is_word}
 use Rattle.context_syntax.specs.TypeNames.{NameSet, in_order}
 use Rattle.path_subs.specs.Subs.{SubValue}

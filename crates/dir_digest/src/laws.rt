@@ -1,7 +1,7 @@
 // Laws on the definitions: these functions do nothing, and their contracts are the laws.
 
 ghost use Rattle.std.specs.Prelude.{◌≡◌, true};
-ghost use Rattle.label_base.specs.Path.{Path, are_names};
+ghost use Rattle.file_paths.specs.Path.{Path, are_names};
 ghost use Rattle.dir_digest.specs.Alike.{AreAlike};
 ghost use Rattle.dir_digest.specs.Listing.{Listing};
 ghost use Rattle.dir_digest.specs.ListingBytes.{IsListing, listing_bytes};

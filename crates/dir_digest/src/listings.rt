@@ -1,6 +1,6 @@
 ghost use Rattle.std.specs.Prelude.{◌≡◌, ◌++◌, ◌∷◌, ◌<◌, IfOk, IfSome, OnOk, Some, decimal, get_or, length, [], map, option_map, slice_get};
 ghost use Rattle.std.specs.List.{flat_map};
-ghost use Rattle.label_base.specs.PathRef.{path_of};
+ghost use Rattle.file_paths.specs.PathRef.{path_of};
 ghost use Rattle.context_syntax.specs.TypeNames.{in_order};
 ghost use Rattle.path_subs.specs.Subs.{substituted};
 ghost use Rattle.spec_match.specs.Scratches.{IsScratchOf};
@@ -13,7 +13,8 @@ ghost use Rattle.dir_digest.specs.Terms.{AreRead, IsRead, is_whole, terms_of};
 use crate::fields::{LISTING_MARK, add_count, add_field, add_shared, add_spec};
 use crate::mode::Mode;
 use context_syntax::TypeNames;
-use label_base::{Bytes, OutOfMemory, PathRef, Row};
+use file_paths::PathRef;
+use label_base::{Bytes, OutOfMemory, Row};
 use path_subs::Subs;
 use sha1::Sha1;
 use spec_match::{RuleSet, Scratch};

@@ -4,7 +4,8 @@ use crate::{
     Mode, accepted_files_give_listings, digest, equal_listings_decide_alike, listing, listings_tell,
 };
 use context_syntax::{TypeNames, read_customizable};
-use label_base::{Bytes, NormPath, Part};
+use file_paths::NormPath;
+use label_base::{Bytes, Part};
 use path_subs::{SubList, Subs, read_subs};
 use sha1::Sha1;
 use spec_match::RuleSet;

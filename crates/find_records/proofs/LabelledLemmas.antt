@@ -4,7 +4,7 @@ use Rattle.std.specs.Prelude.{Some, slice_get}
 use Rattle.std.specs.List.{AllByRecursion}
 use Rattle.std.proofs.lemmas.List.{length-append, length-map, length-take-le, map-append, take_more}
 use Rattle.std.proofs.lemmas.Option.{get_or_from_slice_get}
-use Rattle.label_base.specs.Path.{path_names}
+use Rattle.file_paths.specs.Path.{path_names}
 use Rattle.context_syntax.specs.declared.label.Label.{Label}
 use Rattle.context_syntax.specs.declared.label.Label.TheVariants.{Absent}
 use Rattle.find_records.specs.Labelled.{ArePaired, with_label, with_labels}

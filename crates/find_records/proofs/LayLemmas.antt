@@ -3,8 +3,8 @@ use Rattle.std.proofs.Common.{◌≡◌, ◌∙◌, ap, sym, refl, subst, ℕ, z
 use Rattle.std.specs.Prelude.{Some, slice_get, unwrap_or}
 use Rattle.std.proofs.lemmas.List.{length-append, length-drop, length-map, length-take-le, map-append, take_more}
 use Rattle.std.proofs.lemmas.Option.{get_or_from_slice_get}
-use Rattle.label_base.specs.Path.{path_names}
-use Rattle.label_base.specs.PathText.{IsNormal}
+use Rattle.file_paths.specs.Path.{path_names}
+use Rattle.file_paths.specs.PathText.{IsNormal}
 use Rattle.find_records.specs.Labels.{Extends}
 use Rattle.find_records.specs.Marks.{Mark, no_mark}
 use Rattle.find_records.specs.Places.{ArePlaces, no_record, records_at}

@@ -3,8 +3,8 @@ use Rattle.std.proofs.Common.{◌≡◌, ◌∙◌, ap, sym, refl, subst, ℕ, �
 use Rattle.std.specs.Prelude.{◌⊎◌, Contains, count_by, Option, Some, None, IsSome, Result, Ok, Err}
 use Rattle.label_base.specs.Cut.{front, behind}
 use Rattle.label_base.specs.Number.{number_of}
-use Rattle.label_base.specs.Path.{Path, path_read}
-use Rattle.label_base.specs.declared.path_fault.PathWhy.{PathWhy}
+use Rattle.file_paths.specs.Path.{Path, path_read}
+use Rattle.file_paths.specs.declared.path_fault.PathWhy.{PathWhy}
 use Rattle.label_base.specs.declared.kind.EntryKind.{EntryKind}
 use Rattle.context_syntax.specs.Label.{label_of}
 use Rattle.context_syntax.specs.declared.label.Label.{Label}

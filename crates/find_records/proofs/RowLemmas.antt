@@ -5,8 +5,8 @@ use Rattle.std.specs.Option.{option_map}
 use Rattle.std.proofs.lemmas.List.{take-append-le, drop-append-le, length-append, length-drop, length-map, map-append, get_or_append_left}
 use Rattle.std.proofs.Math.Seq.{drop-append_seam, take-length}
 use Rattle.std.proofs.lemmas.Option.{slice_get-map, get_or_from_slice_get, slice_get_read}
-use Rattle.label_base.specs.Path.{Path, path_names}
-use Rattle.label_base.specs.PathText.{IsNormal}
+use Rattle.file_paths.specs.Path.{Path, path_names}
+use Rattle.file_paths.specs.PathText.{IsNormal}
 use Rattle.find_records.specs.Marks.{Mark, no_mark}
 use Rattle.find_records.specs.Record.{Record}
 use Rattle.find_records.specs.declared.row.RecordRow.{RecordRow}

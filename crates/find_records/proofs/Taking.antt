@@ -3,7 +3,7 @@ use Rattle.std.proofs.Common.{◌≡◌, ◌∙◌, ap, sym, subst, refl, ℕ, �
 use Rattle.std.specs.Prelude.{Option, Some, None, Result, Err}
 use Rattle.std.specs.Io.KnownBytes.{Keeps, Consumes, IsAtEnd}
 use Rattle.label_base.specs.Answers.{Answers}
-use Rattle.label_base.proofs.Known.{Consumes-then, Consumes-keeps, AtEnd-keeps}
+use Rattle.input_output.proofs.Known.{Consumes-then, Consumes-keeps, AtEnd-keeps}
 use Rattle.find_records.specs.Record.{Record}
 use Rattle.find_records.specs.declared.reading.RecordLimits.{RecordLimits}
 use Rattle.find_records.specs.declared.fault.RecordsFault.{RecordsFault}

@@ -1,6 +1,6 @@
 -- What contracts see of a borrowed entry, and of what is told of one.
-use Rattle.label_base.specs.Path.{path_names}
-use Rattle.label_base.specs.PathRef.{path_of}
+use Rattle.file_paths.specs.Path.{path_names}
+use Rattle.file_paths.specs.PathRef.{path_of}
 use Rattle.context_syntax.specs.Label.{label_of}
 use Rattle.find_records.specs.Record.{Record}
 use Rattle.find_records.specs.declared.entry.Entry.{Entry}

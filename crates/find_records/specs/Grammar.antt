@@ -3,8 +3,9 @@ use Rattle.std.specs.Prelude.{◌≡◌, ◌⊎◌, ℕ, ◌+◌, ◌<◌, ◌�
 use Rattle.std.specs.List.{slice_split}
 use Rattle.label_base.specs.Cut.{front, behind}
 use Rattle.label_base.specs.Number.{number_of}
-use Rattle.label_base.specs.Path.{Path, path_read, same_bytes}
-use Rattle.label_base.specs.declared.path_fault.PathWhy.{PathWhy}
+use Rattle.label_base.specs.Text.{same_bytes}
+use Rattle.file_paths.specs.Path.{Path, path_read}
+use Rattle.file_paths.specs.declared.path_fault.PathWhy.{PathWhy}
 use Rattle.label_base.specs.declared.kind.EntryKind.{EntryKind}
 use Rattle.label_base.specs.declared.kind.EntryKind.TheVariants.{Regular, Directory, Link, Pipe, Socket, Block, Char, Other}
 use Rattle.context_syntax.specs.Label.{label_of}

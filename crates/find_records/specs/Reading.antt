@@ -1,7 +1,7 @@
 -- What reading the records of a source says of the source.
 use Rattle.std.specs.Prelude.{◌≡◌, ℕ, ◌+◌, ◌≤◌, List, [], ◌∷◌, ◌++◌, length, Option, Some, None, Result, Ok, Err}
 use Rattle.std.specs.Io.KnownBytes.{Consumes}
-use Rattle.label_base.specs.Source.{Rose}
+use Rattle.input_output.specs.Source.{Rose}
 use Rattle.find_records.specs.Record.{Record}
 use Rattle.find_records.specs.declared.reading.RecordLimits.{RecordLimits}
 use Rattle.find_records.specs.declared.fault.RecordsFault.{RecordsFault}

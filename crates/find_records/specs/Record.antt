@@ -1,6 +1,6 @@
 -- What one record says of an entry: the fields that find(1) prints for %y %D %i %Z %p.
 use Rattle.std.specs.Prelude.{ℕ}
-use Rattle.label_base.specs.Path.{Path}
+use Rattle.file_paths.specs.Path.{Path}
 use Rattle.label_base.specs.declared.kind.EntryKind.{EntryKind}
 use Rattle.context_syntax.specs.declared.label.Label.{Label}
 

@@ -1,8 +1,8 @@
 -- Rows that stand for records: each has its path's text in one text, and its device and label among marks.
 use Rattle.std.specs.Prelude.{◌≡◌, ℕ, ◌+◌, ◌<◌, ◌≤◌, ◌^◌, List, [], ◌∷◌, length, map, take, drop, get_or}
 use Rattle.std.specs.List.{AllByRecursion}
-use Rattle.label_base.specs.Path.{path_names}
-use Rattle.label_base.specs.PathText.{IsNormal}
+use Rattle.file_paths.specs.Path.{path_names}
+use Rattle.file_paths.specs.PathText.{IsNormal}
 use Rattle.find_records.specs.Marks.{Mark, no_mark}
 use Rattle.find_records.specs.Places.{records_at}
 use Rattle.find_records.specs.Record.{Record}

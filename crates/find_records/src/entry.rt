@@ -1,5 +1,6 @@
 use context_syntax::Label;
-use label_base::{EntryKind, PathRef};
+use file_paths::PathRef;
+use label_base::EntryKind;
 
 /// A record, borrowed: what find(1) prints for `%y %D %i %Z %p`.
 #[derive(Clone, Copy, Debug)]

@@ -1,7 +1,7 @@
 ghost use Rattle.std.specs.Prelude.{◌≡◌};
 ghost use Rattle.find_records.specs.declared.fault.RecordsFault.TheVariants.{OutOfMemory};
 
-use label_base::PathWhy;
+use file_paths::PathWhy;
 
 /// What is wrong with a record that has its NUL.
 #[derive(Clone, Copy, Debug, PartialEq, Eq)]

@@ -16,7 +16,7 @@ mod so_far;
 
 pub use entry::{Entry, Told};
 pub use fault::{RecordWhy, RecordsFault};
-pub use label_base::PathWhy;
+pub use file_paths::PathWhy;
 pub use reading::{RecordLimits, read_records, records_follow_grammar};
 pub use records::Records;
 

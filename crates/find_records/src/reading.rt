@@ -5,7 +5,8 @@ ghost use Rattle.find_records.specs.Reading.{RecordsTold, RecordsCounts};
 use crate::fault::RecordsFault;
 use crate::records::Records;
 use crate::so_far::SoFar;
-use label_base::{OutOfMemory, Source, Take};
+use input_output::{Source, Take};
+use label_base::OutOfMemory;
 use std::alloc::Global;
 
 /// The most that is read.

@@ -1,8 +1,8 @@
 ghost use Rattle.std.specs.Prelude.{◌≡◌, ◌++◌, ◌∷◌, [], ◌<◌, ◌-◌, ◌+◌, ◌^◌, length, slice_get, None, Some, IfErr, IfOk, OnErr, OnOk, vec_len, vec_capacity};
 ghost use Rattle.std.specs.Option.{option_map};
 ghost use Rattle.label_base.specs.Answers.{Answers, cause_of};
-ghost use Rattle.label_base.specs.Path.{path_names, path_read};
-ghost use Rattle.label_base.specs.PathRef.{path_of};
+ghost use Rattle.file_paths.specs.Path.{path_names, path_read};
+ghost use Rattle.file_paths.specs.PathRef.{path_of};
 ghost use Rattle.context_syntax.specs.Label.{same_label};
 ghost use Rattle.find_records.specs.Record.{Record};
 ghost use Rattle.find_records.specs.Entry.{entry_of, record_told};
@@ -17,7 +17,8 @@ use crate::lay::{is_given, lay};
 use crate::marks::Marks;
 use crate::row::{RecordRow, text_at};
 use context_syntax::Label;
-use label_base::{Fault, OutOfMemory, PathFault, PathRef, Row, add_path};
+use file_paths::{PathFault, PathRef, add_path};
+use label_base::{Fault, OutOfMemory, Row};
 use std::alloc::Global;
 use std::marker::Model;
 

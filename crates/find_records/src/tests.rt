@@ -3,7 +3,8 @@ use crate::{
     records_follow_grammar,
 };
 use context_syntax::Label;
-use label_base::{Bytes, EntryKind, MemSource, OutOfMemory, ReadSource, Row};
+use input_output::{MemSource, ReadSource};
+use label_base::{Bytes, EntryKind, OutOfMemory, Row};
 use std::alloc::Global;
 use std::test::Fail;
 

@@ -6,7 +6,7 @@ use Rattle.std.proofs.lemmas.Bool.{and_parts, and_from, or_parts, or_from, ne_eq
 use Rattle.std.proofs.lemmas.List.Elements.{All-from_recursion}
 use Rattle.std.proofs.lemmas.List.Splits.{slice_split-cons_yes, slice_split_at, slice_split_none}
 use Rattle.label_base.specs.declared.cut.TheConstants.{LINE_FEED}
-use Rattle.label_base.specs.Path.{is_nonempty}
+use Rattle.label_base.specs.Text.{is_nonempty}
 use Rattle.label_base.specs.Lines.{fields_of, is_blank, lines_of}
 use Rattle.label_base.specs.LineGrammar.{AreBlanks, AreFields, AreLines, IsField, none, last, more}
 use Rattle.label_base.proofs.FirstCut.{cut, pieces_at, pieces_lacking}

@@ -2,7 +2,7 @@
 use Rattle.std.proofs.Common.{◌≡◌, ◌==◌, ℕ, suc, ◌≤◌, Bool, true, false, cond, List, [], ◌∷◌, length, subst, arith}
 use Rattle.std.specs.Prelude.{filter}
 use Rattle.std.specs.List.{slice_split, onto_first}
-use Rattle.label_base.specs.Path.{is_nonempty}
+use Rattle.label_base.specs.Text.{is_nonempty}
 use Rattle.label_base.specs.Lines.{fields_of, is_blank, lines_of, without_empty_last}
 
 -- no piece is longer than n

@@ -5,7 +5,7 @@ use Rattle.std.proofs.lemmas.Bool.{true≢false}
 use Rattle.std.proofs.lemmas.Slice.Eq.{bytes_eq-Decides}
 use Rattle.std.specs.declared.vec.Vec.{Vec}
 use Rattle.label_base.specs.NumberUnder.{number_under}
-use Rattle.label_base.specs.Path.{same_bytes}
+use Rattle.label_base.specs.Text.{same_bytes}
 
 -- a text under which a number is put
 under_here : (X : Option ℕ) (n m : ℕ) (b c : Bool) → b ≡ c → cond c (Some n) X ≡ cond b (Some n) (cond c (Some m) X)

@@ -7,12 +7,5 @@ pub mod LineGrammar
 pub mod Lines
 pub mod Number
 pub mod NumberUnder
-pub mod Path
-pub mod PathFront
-pub mod PathRef
-pub mod PathText
 pub mod Pieces
-pub mod Reading
-pub mod Sink
-pub mod Source
-pub mod Store
+pub mod Text

@@ -1,7 +1,7 @@
 -- Lines, fields, and what the lines of a file say.
 use Rattle.std.specs.Prelude.{◌≡◌, ℕ, Bool, false, ◌||◌, ◌==◌, List, [], ◌∷◌, ◌++◌, length, Option, Some, None, Result, Ok, Err, is_ok, nat_lt, filter, take_while, if◌then◌else◌}
 use Rattle.std.specs.List.{slice_split, enumerate_from, filter_map}
-use Rattle.label_base.specs.Path.{is_nonempty}
+use Rattle.label_base.specs.Text.{is_nonempty}
 use Rattle.label_base.specs.declared.cut.TheConstants.{BLANK, LINE_FEED, TAB}
 use Rattle.label_base.specs.declared.lines.TheConstants.{COMMENT_MARK}
 use Rattle.label_base.specs.declared.lines.RefusedLine.{RefusedLine}

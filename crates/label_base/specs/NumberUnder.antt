@@ -2,7 +2,7 @@
 use Rattle.std.specs.Prelude.{ℕ, List, Option}
 use Rattle.std.specs.Map.{lookup}
 use Rattle.std.specs.declared.vec.Vec.{Vec}
-use Rattle.label_base.specs.Path.{same_bytes}
+use Rattle.label_base.specs.Text.{same_bytes}
 
 -- the number under the text
 abbrev pub number_under : {A : Type 0} → List ℕ → List (Vec ℕ A × ℕ) → Option ℕ

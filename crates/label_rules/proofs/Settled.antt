@@ -1,7 +1,7 @@
 -- A second decision changes nothing.
 use Rattle.std.proofs.Common.{◌≡◌, refl, ℕ, List, Bool, true, false, if◌then◌else◌}
 use Rattle.std.proofs.lemmas.Slice.Eq.{bytes_eq-Decides}
-use Rattle.label_base.specs.Path.{same_bytes}
+use Rattle.label_base.specs.Text.{same_bytes}
 use Rattle.context_syntax.specs.Context.{ContextValue, same_context, with_kind_of}
 use Rattle.context_syntax.specs.Equal.{context_decides}
 use Rattle.context_syntax.specs.TypeNames.{NameSet, has_name}

@@ -1,6 +1,6 @@
 -- How a label is decided, as restorecon(8) tells it.
 use Rattle.std.specs.Prelude.{Bool, true, false, Option, Some, None, if◌then◌else◌}
-use Rattle.label_base.specs.Path.{same_bytes}
+use Rattle.label_base.specs.Text.{same_bytes}
 use Rattle.context_syntax.specs.Context.{ContextValue, same_context, with_kind_of}
 use Rattle.context_syntax.specs.TypeNames.{NameSet, has_name}
 use Rattle.context_syntax.specs.declared.label.Label.{Label}

@@ -1,6 +1,6 @@
 -- The lines that tell what becomes of a label.
 use Rattle.std.specs.Prelude.{Bool, Option, Some, None, if◌then◌else◌}
-use Rattle.label_base.specs.Path.{Path}
+use Rattle.file_paths.specs.Path.{Path}
 use Rattle.context_syntax.specs.Context.{ContextValue, same_context}
 use Rattle.context_syntax.specs.declared.label.Label.{Label}
 use Rattle.context_syntax.specs.declared.label.Label.TheVariants as label_kinds

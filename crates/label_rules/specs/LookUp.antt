@@ -1,6 +1,6 @@
 -- Which specification decides a path, and what it gives.
 use Rattle.std.specs.Prelude.{ℕ, List, Option, Some, None, slice_get, option_and_then}
-use Rattle.label_base.specs.Path.{Path, path_text}
+use Rattle.file_paths.specs.Path.{Path, path_text}
 use Rattle.label_base.specs.declared.kind.Asked.{Asked}
 use Rattle.label_base.specs.declared.kind.Asked.TheVariants.{Of}
 use Rattle.context_syntax.specs.Context.{ContextValue}

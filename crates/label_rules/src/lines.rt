@@ -1,6 +1,6 @@
 ghost use Rattle.std.specs.Prelude.{◌≡◌, Some, option_map};
 ghost use Rattle.std.specs.Option.{option_copied};
-ghost use Rattle.label_base.specs.PathRef.{path_of};
+ghost use Rattle.file_paths.specs.PathRef.{path_of};
 ghost use Rattle.context_syntax.specs.ContextRef.{context_lent};
 ghost use Rattle.report_text.specs.Message.{message_of};
 ghost use Rattle.label_rules.specs.Decide.{given_in};
@@ -12,7 +12,7 @@ ghost use Rattle.label_rules.specs.Lines.{conflict_line, customized_line, verdic
 use crate::label_after::LabelAfter;
 use crate::verdict::Verdict;
 use context_syntax::{Context, ContextRef, Label};
-use label_base::PathRef;
+use file_paths::PathRef;
 use report_text::Message;
 
 /// The label after a verdict.

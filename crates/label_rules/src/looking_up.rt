@@ -1,12 +1,13 @@
 ghost use Rattle.std.specs.Prelude.{◌≡◌, ◌+◌, ◌≤◌, ◌<◌, IfOk, IfSome, length};
 ghost use Rattle.find_records.specs.Entry.{entry_of};
 ghost use Rattle.spec_match.specs.Scratches.{IsScratchOf};
-ghost use Rattle.label_base.specs.PathRef.{path_of};
+ghost use Rattle.file_paths.specs.PathRef.{path_of};
 ghost use Rattle.label_rules.specs.LookUp.{index_asked, index_for};
 
 use crate::rules::Rules;
+use file_paths::PathRef;
 use find_records::Entry;
-use label_base::{Asked, OutOfMemory, PathRef, Steps};
+use label_base::{Asked, OutOfMemory, Steps};
 use spec_match::Scratch;
 use std::alloc::Global;
 use std::sync::ledger::Ledger;

@@ -5,8 +5,10 @@ use crate::{
     label_by, look_up, look_up_path, spec_at, verdict_line,
 };
 use context_syntax::{Context, Label, TypeNames, read_customizable};
+use file_paths::{NormPath, PathRef};
 use find_records::{RecordLimits, Records, read_records};
-use label_base::{Asked, Bytes, MemSource, NormPath, OutOfMemory, Part, PathRef, Row};
+use input_output::MemSource;
+use label_base::{Asked, Bytes, OutOfMemory, Part, Row};
 use path_subs::{SubList, Subs, read_subs};
 use report_text::Message;
 use spec_match::{RuleSet, Scratch};

@@ -3,7 +3,7 @@ use Rattle.std.proofs.Common.{◌≡◌, ◌∙◌, sym, refl, ap, ℕ, ◌+◌,
 use mir.Val.{bool_byte}
 use Rattle.std.specs.Prelude.{filter, map}
 use Rattle.std.proofs.lemmas.List.{at_drop_more, drop_all}
-use Rattle.label_base.specs.Path.{Path}
+use Rattle.file_paths.specs.Path.{Path}
 use Rattle.report_text.specs.Message.{MessageValue}
 use Rattle.report_text.specs.Texts.{line_of, report_of}
 use Rattle.path_lookups.specs.Verified.{count_unverified, is_unverified}

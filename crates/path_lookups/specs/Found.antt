@@ -1,6 +1,6 @@
 -- What a look-up of paths tells, as matchpathcon(8) prints it.
 use Rattle.std.specs.Prelude.{Bool, List, map, Option, Some, None}
-use Rattle.label_base.specs.Path.{Path}
+use Rattle.file_paths.specs.Path.{Path}
 use Rattle.label_base.specs.declared.kind.Asked.{Asked}
 use Rattle.label_base.specs.declared.kind.Asked.TheVariants.{Any, Of}
 use Rattle.label_base.specs.declared.kind.EntryKind.{EntryKind}

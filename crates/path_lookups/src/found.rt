@@ -1,12 +1,13 @@
 ghost use Rattle.std.specs.Prelude.{◌≡◌, ◌++◌, IfOk, OnOk};
 ghost use Rattle.std.specs.Option.{option_copied};
-ghost use Rattle.label_base.specs.PathRef.{path_of};
+ghost use Rattle.file_paths.specs.PathRef.{path_of};
 ghost use Rattle.report_text.specs.Texts.{line_of, report_of};
 ghost use Rattle.spec_match.specs.Scratches.{IsScratchOf};
 ghost use Rattle.path_lookups.specs.Found.{any_or, context_for, found_message, found_messages};
 
 use context_syntax::Context;
-use label_base::{Asked, Bytes, EntryKind, NormPath, OutOfMemory, PathRef};
+use file_paths::{NormPath, PathRef};
+use label_base::{Asked, Bytes, EntryKind, OutOfMemory};
 use label_rules::{Rules, given_at, look_up_path};
 use report_text::{Message, add_line};
 use spec_match::Scratch;

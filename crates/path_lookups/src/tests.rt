@@ -3,8 +3,10 @@ ghost use Rattle.spec_match.specs.Scratches.{IsScratchOf};
 
 use crate::{add_found_report, add_verified_report, find_context, is_unverified, verify};
 use context_syntax::TypeNames;
+use file_paths::{NormPath, PathRef};
 use find_records::{RecordLimits, read_records};
-use label_base::{Asked, Bytes, EntryKind, MemSource, NormPath, OutOfMemory, Part, PathRef, Row};
+use input_output::MemSource;
+use label_base::{Asked, Bytes, EntryKind, OutOfMemory, Part, Row};
 use label_rules::{Rules, look_up_path};
 use path_subs::{SubList, Subs, read_subs};
 use spec_match::{RuleSet, Scratch};

@@ -1,6 +1,6 @@
 ghost use Rattle.std.specs.Prelude.{◌≡◌, ◌++◌, ◌<◌, ◌^◌, IfOk, OnOk, Some, length};
 ghost use Rattle.std.specs.Option.{option_copied};
-ghost use Rattle.label_base.specs.PathRef.{path_of};
+ghost use Rattle.file_paths.specs.PathRef.{path_of};
 ghost use Rattle.report_text.specs.Message.{message_of};
 ghost use Rattle.report_text.specs.Texts.{line_of, report_of};
 ghost use Rattle.spec_match.specs.Scratches.{IsScratchOf};
@@ -8,7 +8,8 @@ ghost use Rattle.path_lookups.specs.Verified.{count_unverified, entry_message, i
 
 use crate::found::find_context;
 use context_syntax::{Context, Label};
-use label_base::{Asked, Bytes, EntryKind, NormPath, OutOfMemory, PathRef};
+use file_paths::{NormPath, PathRef};
+use label_base::{Asked, Bytes, EntryKind, OutOfMemory};
 use label_rules::Rules;
 use report_text::{Message, add_line};
 use spec_match::Scratch;

@@ -2,7 +2,7 @@
 use Rattle.std.proofs.Common.{◌≡◌, ◌∙◌, refl, ℕ, zero, suc, ◌+◌, Bool, true, false, cond, List, [], ◌∷◌, take, drop, add-one}
 use Rattle.std.specs.Prelude.{Option, Some, None, ◌||◌, is_some, filter, slice_get}
 use Rattle.std.specs.List.{last_or, list_any}
-use Rattle.label_base.specs.Path.{Path}
+use Rattle.file_paths.specs.Path.{Path}
 use Rattle.path_subs.specs.Subs.{SubValue, covering, covers}
 
 module _ {A : Type 0} (p : A → Bool) where

@@ -12,10 +12,11 @@ use Rattle.std.proofs.Math.Seq.{take-append_seam}
 use Rattle.std.specs.declared.vec.Vec.{Vec}
 use Rattle.label_base.specs.Bounded.{greater, greatest_below, last_or_found}
 use Rattle.label_base.specs.NumberUnder.{number_under}
-use Rattle.label_base.specs.Path.{Path, are_names, at_or_below, is_name, path_text, same_bytes, with_slashes}
+use Rattle.label_base.specs.Text.{same_bytes}
+use Rattle.file_paths.specs.Path.{Path, are_names, at_or_below, is_name, path_text, with_slashes}
 use Rattle.label_base.proofs.BoundedLemmas.{below_or_last, cond_last, greater_below, greatest_agree, greatest_bound, greatest_none, greatest_passes}
-use Rattle.label_base.proofs.PathTexts.{same_texts}
-use Rattle.label_base.proofs.PathLemmas.{text_pushed}
+use Rattle.file_paths.proofs.PathTexts.{same_texts}
+use Rattle.file_paths.proofs.PathLemmas.{text_pushed}
 use Rattle.path_subs.specs.Listed.{IsListed, covers_to, has_text, last_covering, last_with, sub_at, no_sub}
 use Rattle.path_subs.specs.Subs.{SubValue, covering, covers, is_root}
 use Rattle.path_subs.proofs.Covering.{last_found, last_passed}

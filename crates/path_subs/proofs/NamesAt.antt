@@ -2,7 +2,8 @@
 use Rattle.std.proofs.Common.{◌≡◌, ◌∙◌, refl, ℕ, ◌+◌, Bool, true, false, List, drop}
 use Rattle.std.specs.Prelude.{Some, ◌&&◌, not, slice_get}
 use Rattle.std.specs.List.{starts_with}
-use Rattle.label_base.specs.Path.{Path, same_bytes}
+use Rattle.label_base.specs.Text.{same_bytes}
+use Rattle.file_paths.specs.Path.{Path}
 use Rattle.path_subs.proofs.Covering.{drop-next}
 
 next_name : (path other : Path) (place i : ℕ) (x y : List ℕ) → slice_get path place ≡ Some x → slice_get other i ≡ Some y → starts_with same_bytes (drop place path) (drop i other) ≡ (same_bytes y x && starts_with same_bytes (drop (place + 1) path) (drop (i + 1) other))

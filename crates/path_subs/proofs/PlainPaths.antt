@@ -5,7 +5,8 @@ use Rattle.std.specs.Prelude.{Option, Some, None, IfSome, filter, not, ◌&&◌,
 use Rattle.std.specs.List.{last_or, starts_with}
 use Rattle.std.specs.Cmp.Lexicographic.{nat_list_eq_equiv}
 use Rattle.std.proofs.lemmas.Bool.Decides.{nat_tests}
-use Rattle.label_base.specs.Path.{Path, at_or_below, same_bytes, strictly_below}
+use Rattle.label_base.specs.Text.{same_bytes}
+use Rattle.file_paths.specs.Path.{Path, at_or_below, strictly_below}
 use Rattle.path_subs.specs.Subs.{SubValue, KeepsBelow, by_last, by_sub, covering, covers, has_below, plain}
 
 and_assoc : (a b c : Bool) → (a && (b && c)) ≡ ((a && b) && c)

@@ -1,8 +1,8 @@
 -- The substitutions of a file are those that its grammar gives.
 use Rattle.std.proofs.Common.{◌≡◌, ◌∙◌, ap, sym, refl, subst, ℕ, ◌<◌, List, [], ◌∷◌, length, arith}
 use Rattle.std.specs.Prelude.{◌↔◌, Result, Ok, Err}
-use Rattle.label_base.specs.Path.{Path, path_read}
-use Rattle.label_base.specs.declared.path_fault.PathWhy.{PathWhy}
+use Rattle.file_paths.specs.Path.{Path, path_read}
+use Rattle.file_paths.specs.declared.path_fault.PathWhy.{PathWhy}
 use Rattle.label_base.specs.declared.lines.RefusedLine.{RefusedLine}
 use Rattle.label_base.proofs.LinesMeant.{lines_mean}
 use Rattle.path_subs.specs.Subs.{SubValue}

@@ -3,7 +3,8 @@ use Rattle.std.specs.Prelude.{◌≡◌, ℕ, ◌<◌, ◌≤◌, Bool, true, �
 use Rattle.std.specs.declared.vec.Vec.{Vec}
 use Rattle.label_base.specs.Bounded.{greatest_below}
 use Rattle.label_base.specs.NumberUnder.{number_under}
-use Rattle.label_base.specs.Path.{Path, are_names, same_bytes, with_slashes}
+use Rattle.label_base.specs.Text.{same_bytes}
+use Rattle.file_paths.specs.Path.{Path, are_names, with_slashes}
 use Rattle.path_subs.specs.Subs.{SubValue, covers}
 
 -- what stands where there is no line

@@ -1,7 +1,7 @@
 -- The grammar of a substitution file: a source and a target on each line, as selabel_file(5) has them.
 use Rattle.std.specs.Prelude.{◌≡◌, ℕ, ◌<◌, List, ◌∷◌, length, Result, Ok, Err}
 use Rattle.label_base.specs.LineGrammar.{LinesMean}
-use Rattle.label_base.specs.Path.{path_read}
+use Rattle.file_paths.specs.Path.{path_read}
 use Rattle.label_base.specs.declared.lines.RefusedLine.{RefusedLine}
 use Rattle.path_subs.specs.Subs.{SubValue}
 use Rattle.path_subs.specs.declared.sub_fault.NoSub.{NoSub}

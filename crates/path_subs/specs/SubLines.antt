@@ -1,8 +1,8 @@
 -- What the lines of a substitution file say: a source and a target, as selabel_file(5) has them.
 use Rattle.std.specs.Prelude.{ℕ, List, ◌∷◌, Result, Ok, Err}
 use Rattle.label_base.specs.Lines.{lines_read}
-use Rattle.label_base.specs.Path.{Path, path_read}
-use Rattle.label_base.specs.declared.path_fault.PathWhy.{PathWhy}
+use Rattle.file_paths.specs.Path.{Path, path_read}
+use Rattle.file_paths.specs.declared.path_fault.PathWhy.{PathWhy}
 use Rattle.label_base.specs.declared.lines.RefusedLine.{RefusedLine}
 use Rattle.path_subs.specs.Subs.{SubValue}
 use Rattle.path_subs.specs.declared.sub_fault.NoSub.{NoSub}

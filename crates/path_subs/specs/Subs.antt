@@ -1,7 +1,7 @@
 -- The substitution of the front of a path.
 use Rattle.std.specs.Prelude.{◌≡◌, Bool, true, false, ◌&&◌, ◌||◌, not, List, [], ◌∷◌, ◌++◌, length, drop, Option, Some, None, filter}
 use Rattle.std.specs.List.{last_or, list_any}
-use Rattle.label_base.specs.Path.{Path, at_or_below, strictly_below}
+use Rattle.file_paths.specs.Path.{Path, at_or_below, strictly_below}
 
 pub record SubValue : Type 0 where
   pub source : Path

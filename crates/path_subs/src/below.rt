@@ -1,12 +1,13 @@
 ghost use Rattle.std.specs.Prelude.{◌≡◌, ◌≤◌, ◌<◌, ◌&&◌, length, drop, Some, nat_lt};
 ghost use Rattle.std.specs.List.{starts_with};
-ghost use Rattle.label_base.specs.Path.{at_or_below, same_bytes, strictly_below};
-ghost use Rattle.label_base.specs.PathRef.{path_of};
+ghost use Rattle.label_base.specs.Text.{same_bytes};
+ghost use Rattle.file_paths.specs.Path.{at_or_below, strictly_below};
+ghost use Rattle.file_paths.specs.PathRef.{path_of};
 ghost use Rattle.path_subs.specs.Subs.{by_last, by_sub, has_below};
 
 use crate::sub::Sub;
 use crate::sub_list::SubList;
-use label_base::PathRef;
+use file_paths::PathRef;
 
 fn is_strictly_below(path: &PathRef<'_>, top: &PathRef<'_>) -> bool
     ensures { result ≡ strictly_below (path_of path.now) (path_of top.now) }

@@ -4,7 +4,8 @@ ghost use Rattle.path_subs.specs.SubLines.{path_in, sub_in, with_paths};
 
 use crate::sub::Sub;
 use crate::sub_fault::NoSub;
-use label_base::{Fault, LineReader, NormPath, next_field};
+use file_paths::NormPath;
+use label_base::{Fault, LineReader, next_field};
 use std::alloc::Global;
 
 fn read_path(alloc: Global, field: &[u8]) -> Result<NormPath, Fault<NoSub>>

@@ -1,11 +1,12 @@
 ghost use Rattle.std.specs.Prelude.{◌≡◌, true, Some, IfOk, is_some, unwrap_or};
 ghost use Rattle.std.specs.List.{list_any};
-ghost use Rattle.label_base.specs.PathRef.{path_of};
+ghost use Rattle.file_paths.specs.PathRef.{path_of};
 ghost use Rattle.path_subs.specs.Subs.{by_last, by_sub, covers};
 
 use crate::sub::Sub;
 use crate::sub_list::SubList;
-use label_base::{NormPath, OutOfMemory, PathRef};
+use file_paths::{NormPath, PathRef};
+use label_base::OutOfMemory;
 use std::alloc::Global;
 
 // What a line that covers the path makes of it.

@@ -1,4 +1,4 @@
-use label_base::NormPath;
+use file_paths::NormPath;
 use std::marker::Model;
 
 /// One line of a substitution file. Its source isn't `/`.

@@ -1,14 +1,15 @@
 ghost use Rattle.std.specs.Prelude.{◌≡◌, ◌<◌, ℕ, if◌then◌else◌, List, true, length, min, Some, IfOk, IfSome, OnOk};
 ghost use Rattle.std.specs.Option.{option_copied};
 ghost use Rattle.label_base.specs.NumberUnder.{number_under};
-ghost use Rattle.label_base.specs.Path.{are_names};
-ghost use Rattle.label_base.specs.PathRef.{path_of};
+ghost use Rattle.file_paths.specs.Path.{are_names};
+ghost use Rattle.file_paths.specs.PathRef.{path_of};
 ghost use Rattle.path_subs.specs.Listed.{IsListed, has_text, last_covering};
 ghost use Rattle.path_subs.specs.Subs.{SubValue, covering, covers};
 
 use crate::sub::Sub;
+use file_paths::PathRef;
 use indexmap::IndexMap;
-use label_base::{OutOfMemory, PathRef, Row, greater};
+use label_base::{OutOfMemory, Row, greater};
 use std::alloc::Global;
 use std::marker::Model;
 

@@ -1,12 +1,13 @@
 ghost use Rattle.std.specs.Prelude.{◌≡◌, IfOk, is_some, unwrap_or};
 ghost use Rattle.std.specs.Bool.{OnTrue};
-ghost use Rattle.label_base.specs.PathRef.{path_of};
+ghost use Rattle.file_paths.specs.PathRef.{path_of};
 ghost use Rattle.path_subs.specs.Subs.{KeepsBelow, is_covered, plain, substituted};
 
 use crate::below::{has_source_below, has_source_below_first};
 use crate::stage::stage;
 use crate::sub_list::SubList;
-use label_base::{NormPath, OutOfMemory, PathRef};
+use file_paths::{NormPath, PathRef};
+use label_base::OutOfMemory;
 use std::alloc::Global;
 
 /// The substitutions of a policy. Each stage is applied at most once.

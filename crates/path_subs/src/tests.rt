@@ -4,7 +4,8 @@ use crate::reading::{read_subs, subs_follow_grammar};
 use crate::sub_fault::{NoSub, SubFault};
 use crate::sub_list::SubList;
 use crate::subs::Subs;
-use label_base::{Fault, NormPath, RefusedLine};
+use file_paths::NormPath;
+use label_base::{Fault, RefusedLine};
 use std::test::Fail;
 
 fn subs_of(rt: &HostRuntime, first: &[u8], second: &[u8]) -> Result<Subs, SubFault>

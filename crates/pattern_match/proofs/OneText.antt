@@ -1,7 +1,7 @@
 -- A pattern that is its literal start alone.
 use Rattle.std.proofs.Common.{◌≡◌, ◌∙◌, sym, refl, ap, subst, ℕ, Bool, true, false, List, [], ◌∷◌, ◌++◌, append-nil, length, ◌==◌, arith}
 use Rattle.std.specs.Cmp.Lexicographic.{bytes_decides}
-use Rattle.label_base.specs.Path.{same_bytes}
+use Rattle.label_base.specs.Text.{same_bytes}
 use Rattle.pattern_syntax.specs.Tree.{Tree, Nothing}
 use Rattle.pattern_syntax.specs.Language.{In, holds}
 use Rattle.pattern_syntax.specs.Literal.{literal_start_of}

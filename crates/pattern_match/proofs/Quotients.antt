@@ -2,8 +2,8 @@
 use Rattle.std.proofs.Common.{◌≡◌, refl, sym, ◌∙◌, ap, ℕ, zero, suc, pred, ◌==◌, Bool, true, false, List, [], ◌∷◌, ◌++◌, Some, None, ◌⊎◌, inl, inr, arith}
 use Rattle.std.specs.Prelude.{if◌then◌else◌}
 use Rattle.std.specs.List.{list_any}
-use Rattle.label_base.specs.Path.{Path, path_text}
-use Rattle.label_base.specs.declared.path.TheConstants.{SLASH}
+use Rattle.file_paths.specs.Path.{Path, path_text}
+use Rattle.file_paths.specs.declared.path.TheConstants.{SLASH}
 use Rattle.pattern_syntax.specs.Tree.{Tree, Set, Nothing, Both, Either, Repeat}
 use Rattle.pattern_syntax.specs.Language.{In, Opens, holds}
 use Rattle.pattern_match.specs.Quotients.{nullable, derived, opens, holds_below}

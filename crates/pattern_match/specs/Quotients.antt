@@ -2,8 +2,8 @@
 -- Expressions", 1964).
 use Rattle.std.specs.Prelude.{ℕ, zero, suc, pred, Bool, true, false, ◌||◌, ◌&&◌, ◌==◌, List, [], ◌∷◌, ◌++◌, Some, None, if◌then◌else◌}
 use Rattle.std.specs.List.{list_any}
-use Rattle.label_base.specs.Path.{Path, path_text}
-use Rattle.label_base.specs.declared.path.TheConstants.{SLASH}
+use Rattle.file_paths.specs.Path.{Path, path_text}
+use Rattle.file_paths.specs.declared.path.TheConstants.{SLASH}
 use Rattle.pattern_syntax.specs.Tree.{Tree, Set, Nothing, Both, Either, Repeat}
 use Rattle.pattern_syntax.specs.Language.{holds}
 use Rattle.pattern_match.specs.Residuals.{has_texts, is_count}

@@ -1,7 +1,7 @@
 -- Sets of states, as bits of words, and the texts that they stand for.
 use Rattle.std.specs.Prelude.{◌≡◌, ℕ, ◌+◌, ◌/◌, ◌%◌, ◌≤◌, ◌==◌, ◌&&◌, ◌⊎◌, not, Bool, true, false, List, [], ◌∷◌, ◌++◌, drop, length, Some, slice_get, slice_index}
 use Rattle.std.specs.Int.{bit_at}
-use Rattle.label_base.specs.Path.{Path, path_text}
+use Rattle.file_paths.specs.Path.{Path, path_text}
 use Rattle.pattern_syntax.specs.Tree.{Tree}
 use Rattle.pattern_syntax.specs.Language.{In, Opens}
 use Rattle.pattern_syntax.specs.Literal.{literal_start_of}

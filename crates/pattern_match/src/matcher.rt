@@ -5,7 +5,7 @@ ghost use Rattle.pattern_syntax.specs.Language.{In, Opens, holds};
 ghost use Rattle.pattern_syntax.specs.Literal.{literal_start_of};
 ghost use Rattle.pattern_syntax.specs.Nodes.{tree_of};
 ghost use Rattle.pattern_syntax.specs.declared.node.Node.TheVariants as node;
-ghost use Rattle.label_base.specs.Path.{Path};
+ghost use Rattle.file_paths.specs.Path.{Path};
 ghost use Rattle.pattern_match.specs.Quotients.{holds_below};
 ghost use Rattle.pattern_match.specs.Onwards.{TakesAll};
 ghost use Rattle.pattern_match.specs.Settled.{StatesLeadOnward, StatesStay};
@@ -14,7 +14,8 @@ ghost use Rattle.pattern_match.specs.States.{AreStatesOf, StandsFor, Below};
 
 use crate::machine::Machine;
 use crate::states::States;
-use label_base::{Bytes, NormPath, OutOfMemory};
+use file_paths::NormPath;
+use label_base::{Bytes, OutOfMemory};
 use pattern_syntax::{Node, Pattern};
 use std::alloc::Global;
 use std::marker::Model;

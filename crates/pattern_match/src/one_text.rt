@@ -1,5 +1,5 @@
 ghost use Rattle.std.specs.Prelude.{◌≡◌, ◌++◌, ◌∷◌, ◌↔◌, true, ℕ, List, [], IsTrue};
-ghost use Rattle.label_base.specs.Path.{same_bytes};
+ghost use Rattle.label_base.specs.Text.{same_bytes};
 ghost use Rattle.pattern_syntax.specs.Tree.{Nothing};
 ghost use Rattle.pattern_syntax.specs.Language.{Opens, holds};
 ghost use Rattle.pattern_syntax.specs.Literal.{literal_start_of};

@@ -3,7 +3,7 @@
 use Rattle.std.specs.Prelude.{ℕ, List, Option, Some, None, Result, Ok, Err, IfErr, IfSome}
 use Rattle.std.proofs.Common.{◌≡◌, ◌∙◌, refl, subst, sym, ap}
 use Rattle.std.specs.Result.{IsErrAnd}
-use Rattle.label_base.specs.Store.{Files}
+use Rattle.input_output.specs.Store.{Files}
 use Rattle.label_base.specs.declared.kind.Part.TheVariants.{Subs, SubsDist}
 use Rattle.context_syntax.specs.TypeNames.{NameSet}
 use Rattle.spec_reader.specs.SpecValue.{SpecValue}

@@ -1,6 +1,6 @@
 -- The files of a policy, and the rules that they give.
 use Rattle.std.specs.Prelude.{◌≡◌, ℕ, ◌-◌, nat_lt, List, [], ◌++◌, length, Option, Some, None, Result, Ok, Err, IfErr, IfSome, if◌then◌else◌}
-use Rattle.label_base.specs.Store.{Files, content}
+use Rattle.input_output.specs.Store.{Files, content}
 use Rattle.label_base.specs.declared.kind.Part.{Part}
 use Rattle.label_base.specs.declared.lines.LinesWhy.{LinesWhy}
 use Rattle.label_base.specs.declared.lines.LinesWhy.TheVariants.{Refused, TooMany}

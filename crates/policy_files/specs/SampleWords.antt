@@ -1,7 +1,7 @@
 -- What a sample is asked for, and its files.
 use Rattle.std.specs.Prelude.{true, false, [], ◌∷◌, None}
 use Rattle.std.specs.FinMap as map_of
-use Rattle.label_base.specs.Store.{Files}
+use Rattle.input_output.specs.Store.{Files}
 use Rattle.tree_model.specs.declared.options.Options.{Options}
 use Rattle.tree_model.specs.declared.selection.Choice.{Choice}
 use Rattle.sample_tree.specs.declared.records.TheConstants.{SPECS}

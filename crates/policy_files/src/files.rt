@@ -7,7 +7,8 @@ ghost use Rattle.policy_files.specs.Files.{Reads, absent, customizable_types, li
 ghost use Rattle.run_faults.specs.Names.{names_for};
 
 use context_syntax::{TypeNames, read_customizable};
-use label_base::{Bytes, Fault, FileFault, LinesWhy, Name, Part, Row, Store};
+use input_output::{FileFault, Store};
+use label_base::{Bytes, Fault, LinesWhy, Name, Part, Row};
 use label_rules::Rules;
 use path_subs::{SubList, Subs, read_subs};
 use run_faults::{Cause, FileNames, LimitKind};

@@ -7,7 +7,8 @@ ghost use Rattle.run_faults.specs.Names.{names_for};
 
 use crate::files::{read_part, read_rules};
 use crate::sample::{SAMPLE_FILE, sample_words};
-use label_base::{Fault, OutOfMemory, Part, Row, Store, SureStore};
+use input_output::{Store, SureStore};
+use label_base::{Fault, OutOfMemory, Part, Row};
 use label_rules::Rules;
 use run_faults::{Cause, FileNames, asks_kept};
 use sample_tree::SPECS;

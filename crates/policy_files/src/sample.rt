@@ -1,7 +1,8 @@
 ghost use Rattle.std.specs.Prelude.{◌≡◌, IfOk};
 ghost use Rattle.policy_files.specs.SampleWords.{sample_choice, sample_options, sample_words};
 
-use label_base::{Name, NormPath, OutOfMemory, Row};
+use file_paths::NormPath;
+use label_base::{Name, OutOfMemory, Row};
 use std::alloc::Global;
 use tool_words::RelabelWords;
 use tree_model::{Choice, Options};

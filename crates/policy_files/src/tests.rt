@@ -1,5 +1,6 @@
 use crate::{Policy, read_policy, sample_choice, sample_options, sample_words};
-use label_base::{MemStore, OutOfMemory, Part, Row};
+use input_output::MemStore;
+use label_base::{OutOfMemory, Part, Row};
 use run_faults::{Cause, FileNames};
 use std::alloc::Global;
 use std::test::Fail;

@@ -5,7 +5,8 @@ use Rattle.std.specs.Prelude.{is_some, option_and_then}
 use Rattle.std.specs.Option.{option_copied}
 use Rattle.std.proofs.lemmas.Bool.{cases_Bool}
 use Rattle.std.proofs.lemmas.Slice.Eq.{bytes_eq-Decides}
-use Rattle.label_base.specs.Path.{Path, same_bytes}
+use Rattle.label_base.specs.Text.{same_bytes}
+use Rattle.file_paths.specs.Path.{Path}
 use Rattle.context_syntax.specs.Context.{ContextValue, same_context, same_option, with_kind_of}
 use Rattle.context_syntax.specs.Equal.{context_decides, never, option_decides}
 use Rattle.context_syntax.specs.Label.{same_label}

@@ -7,7 +7,7 @@ use Rattle.std.proofs.lemmas.Grind.{flat_map-append}
 use Rattle.std.proofs.lemmas.List.{at_drop_more, drop_all, get_or-replicate, length-replicate}
 use Rattle.std.proofs.lemmas.List.Elements.{filter_map-append}
 use Rattle.label_base.specs.Bounded.{all_numbers}
-use Rattle.label_base.specs.Path.{Path}
+use Rattle.file_paths.specs.Path.{Path}
 use Rattle.report_text.specs.Message.{MessageValue, Absent}
 use Rattle.report_text.specs.Texts.{line_of, report_of}
 use Rattle.relabel_core.specs.Report.{AreRaised, absent_text, optional_text, raised_at, text_below, unflagged_line}

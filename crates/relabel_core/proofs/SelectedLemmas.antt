@@ -3,7 +3,7 @@ use Rattle.std.proofs.Common.{◌∙◌, ℕ, suc, ◌≤◌, Bool, true, false,
 use Rattle.std.specs.Prelude.{is_some}
 use Rattle.std.proofs.lemmas.List.{length-map}
 use Rattle.label_base.specs.Bounded.{all_numbers}
-use Rattle.label_base.specs.Path.{Path}
+use Rattle.file_paths.specs.Path.{Path}
 use Rattle.label_base.proofs.BoundedLemmas.{count_numbers}
 use Rattle.find_records.specs.Record.{Record}
 use Rattle.tree_model.specs.Selection.{absent_from, is_live, selected_by}

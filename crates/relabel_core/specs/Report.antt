@@ -2,7 +2,7 @@
 use Rattle.std.specs.Prelude.{◌≡◌, ℕ, ◌<◌, Bool, true, false, List, [], length, nat_lt, get_or, if◌then◌else◌, map, set, slice_get, Option, Some, None}
 use Rattle.std.specs.List.{filter_map}
 use Rattle.label_base.specs.Bounded.{all_numbers, any_below}
-use Rattle.label_base.specs.Path.{Path}
+use Rattle.file_paths.specs.Path.{Path}
 use Rattle.report_text.specs.Message.{MessageValue, Absent}
 use Rattle.report_text.specs.Texts.{line_of, report_of}
 use Rattle.relabel_core.specs.Walk.{Walk, deciding, is_at, line_of_spec}

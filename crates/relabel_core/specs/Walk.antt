@@ -3,7 +3,8 @@
 use Rattle.std.specs.Prelude.{ℕ, ◌+◌, Bool, false, not, ◌&&◌, ◌||◌, ◌==◌, List, [], ◌++◌, length, filter, map, get_or, slice_get, Option, Some, None, is_some, option_and_then, if◌then◌else◌}
 use Rattle.std.specs.List.{filter_map}
 use Rattle.label_base.specs.Bounded.{all_numbers, any_below, least_below}
-use Rattle.label_base.specs.Path.{Path, same_bytes}
+use Rattle.label_base.specs.Text.{same_bytes}
+use Rattle.file_paths.specs.Path.{Path}
 use Rattle.context_syntax.specs.Context.{ContextValue}
 use Rattle.context_syntax.specs.Label.{same_label}
 use Rattle.context_syntax.specs.TypeNames.{in_order}

@@ -1,7 +1,7 @@
 -- What a walk keeps, and what contracts see of it.
 use Rattle.std.specs.Prelude.{◌≡◌, ℕ, ◌<◌, ◌≤◌, ◌+◌, ◌^◌, List, [], length, map, get_or}
 use Rattle.label_base.specs.Bounded.{least_below}
-use Rattle.label_base.specs.Path.{Path}
+use Rattle.file_paths.specs.Path.{Path}
 use Rattle.find_records.specs.Record.{Record}
 use Rattle.tree_model.specs.Groups.{groups_in}
 use Rattle.tree_model.specs.Selection.{SelectedValue, selected_by}

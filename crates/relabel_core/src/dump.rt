@@ -1,6 +1,6 @@
 ghost use Rattle.std.specs.Prelude.{◌≡◌, ◌++◌, ◌<◌, OnOk, option_map};
 ghost use Rattle.std.specs.Option.{option_copied};
-ghost use Rattle.label_base.specs.PathRef.{path_of};
+ghost use Rattle.file_paths.specs.PathRef.{path_of};
 ghost use Rattle.context_syntax.specs.ContextRef.{context_lent};
 ghost use Rattle.setfattr_dump.specs.Texts.{attrs_text, dump_text};
 ghost use Rattle.relabel_core.specs.Answer.{walk_in};
@@ -11,7 +11,8 @@ ghost use Rattle.relabel_core.specs.Walk.{count};
 use crate::digests::Digests;
 use crate::walked::Walked;
 use context_syntax::ContextRef;
-use label_base::{Bytes, OutOfMemory, PathRef};
+use file_paths::PathRef;
+use label_base::{Bytes, OutOfMemory};
 use setfattr_dump::{DIGEST_KEY, LABEL_KEY, add_attr, add_name, end_section};
 use std::alloc::Global;
 

@@ -4,7 +4,8 @@ ghost use Rattle.relabel_core.specs.Stored.{digests_of};
 ghost use Rattle.relabel_core.specs.Walked.{IsFit, walk_for, walk_of};
 
 use crate::stored::Stored;
-use label_base::{NormPath, Row};
+use file_paths::NormPath;
+use label_base::Row;
 use label_rules::Rules;
 use tree_model::{Choice, Options, Selected, Tree};
 

@@ -1,5 +1,5 @@
 ghost use Rattle.std.specs.Prelude.{◌≡◌, ◌++◌, [], IfOk, None, OnOk, Some, false, get_or, if◌then◌else◌, length, option_map, replicate, slice_get};
-ghost use Rattle.label_base.specs.PathRef.{path_of};
+ghost use Rattle.file_paths.specs.PathRef.{path_of};
 ghost use Rattle.report_text.specs.Message.{message_of};
 ghost use Rattle.report_text.specs.Texts.{report_of};
 ghost use Rattle.relabel_core.specs.Answer.{walk_in};
@@ -9,7 +9,8 @@ ghost use Rattle.relabel_core.specs.Walked.{walk_of};
 
 use crate::input::WalkInput;
 use crate::walked::Walked;
-use label_base::{Bytes, NormPath, OutOfMemory, PathRef};
+use file_paths::{NormPath, PathRef};
+use label_base::{Bytes, OutOfMemory};
 use label_rules::{Rules, given_by, spec_at};
 use report_text::{Message, add_line};
 use std::alloc::Global;

@@ -1,10 +1,11 @@
 ghost use Rattle.std.specs.Prelude.{◌≡◌, ℕ, ◌<◌, ◌^◌, ◌∷◌, [], IfOk, None, OnOk, Some, false, get_or, length, true};
 ghost use Rattle.std.specs.Option.{option_copied};
-ghost use Rattle.label_base.specs.PathRef.{path_of};
+ghost use Rattle.file_paths.specs.PathRef.{path_of};
 ghost use Rattle.tree_model.specs.Extents.{is_directory};
 ghost use Rattle.relabel_core.specs.Stored.{Adds, Keeps, KeepsAmong, KeepsFrom, digests_by, digests_in, digests_listed, digests_of, directory_at, if_directory, is_digest, no_digests};
 
-use label_base::{Bytes, EntryKind, OutOfMemory, PathRef, Row};
+use file_paths::PathRef;
+use label_base::{Bytes, EntryKind, OutOfMemory, Row};
 use setfattr_dump::{Attr, DIGEST_KEY, Dump, Section};
 use std::alloc::Global;
 use std::collections::BTreeMap;

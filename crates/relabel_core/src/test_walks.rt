@@ -4,8 +4,10 @@ ghost use Rattle.relabel_core.specs.Walked.{IsFit};
 
 use crate::{DigestAfter, Stored, WalkInput, Walked, next_labels, walk, walk_input};
 use context_syntax::read_customizable;
+use file_paths::NormPath;
 use find_records::{RecordLimits, read_records};
-use label_base::{Bytes, MemSource, NormPath, OutOfMemory, Part, Row, Steps};
+use input_output::MemSource;
+use label_base::{Bytes, OutOfMemory, Part, Row, Steps};
 use label_rules::{LabelAfter, Rules};
 use path_subs::{SubList, Subs, read_subs};
 use setfattr_dump::Dump;

@@ -8,7 +8,7 @@ use crate::input::WalkInput;
 use crate::numbers::found_in;
 use crate::passed::{Passed, is_skipped_first, is_walked};
 use context_syntax::{Context, ContextRef, Label};
-use label_base::PathRef;
+use file_paths::PathRef;
 use label_rules::{
     LabelAfter, Verdict, conflict_line, decide, given_at, given_in, label_by, verdict_line,
 };
@@ -40,7 +40,7 @@ fn is_at(found: Option<u32>, e: u32) -> bool
 }
 
 impl<'a> Walked<'a> {
-    ghost use Rattle.label_base.specs.PathRef.{path_of};
+    ghost use Rattle.file_paths.specs.PathRef.{path_of};
     ghost use Rattle.tree_model.specs.Groups.{group_of, groups_in, label_in};
     ghost use Rattle.report_text.specs.Message.{message_of};
     ghost use Rattle.context_syntax.specs.ContextRef.{context_lent};

@@ -2,8 +2,8 @@
 use Rattle.std.proofs.Common.{◌≡◌, ◌∙◌, ap, sym, subst, refl, ℕ, ◌⊎◌, inl, inr, List}
 use Rattle.std.specs.Prelude.{Option, Some, Result, Ok, Err, IfSome}
 use Rattle.std.specs.Io.KnownBytes.{Appends}
-use Rattle.label_base.specs.Source.{Rose}
-use Rattle.label_base.specs.Store.{Files}
+use Rattle.input_output.specs.Source.{Rose}
+use Rattle.input_output.specs.Store.{Files}
 use Rattle.tool_words.specs.declared.command.Command.{Command}
 use Rattle.tool_words.specs.declared.usage.Usage.{Usage}
 use Rattle.relabel_program.specs.Answer.{answer, cause_of}

@@ -1,7 +1,7 @@
 -- A run that ends for want of memory.
 use Rattle.std.proofs.Common.{◌≡◌, ap, sym, subst, ℕ, ◌≤◌, arith, List}
 use Rattle.std.specs.Prelude.{false, Option, Some, Ok, IfSome}
-use Rattle.label_base.specs.Store.{Files}
+use Rattle.input_output.specs.Store.{Files}
 use Rattle.tool_words.specs.declared.command.Command.{Command}
 use Rattle.run_faults.specs.Asked.{input_for, output_of, takes_records}
 use Rattle.run_faults.specs.Faults.{fault_line}

@@ -5,9 +5,9 @@ use Rattle.std.specs.FinMap as map
 use Rattle.std.specs.FinMap.{get-insert, get-remove, same_map, nat_cmp-IsAntisymmetric, slice_cmp-IsAntisymmetric}
 use Rattle.std.specs.Ordering.{eq_by_cmp, nat_cmp}
 use Rattle.std.specs.Cmp.Lexicographic.{slice_cmp, nat_list_cmp_total}
-use Rattle.label_base.specs.Store.{Files}
-use Rattle.label_base.specs.declared.store.SaveFault.{SaveFault}
-use Rattle.label_base.specs.declared.store.SaveFault.TheVariants as save
+use Rattle.input_output.specs.Store.{Files}
+use Rattle.input_output.specs.declared.store.SaveFault.{SaveFault}
+use Rattle.input_output.specs.declared.store.SaveFault.TheVariants as save
 use Rattle.find_records.specs.Record.{Record}
 use Rattle.tool_words.specs.declared.command.Command.{Command}
 use Rattle.tool_words.specs.declared.command.Command.TheVariants.{Relabel, Lookup, Sample}

@@ -1,7 +1,7 @@
 -- A run whose files or input are refused.
 use Rattle.std.proofs.Common.{◌≡◌, ap, sym, subst, ℕ, arith, ◌⊎◌, inl, inr, List}
 use Rattle.std.specs.Prelude.{Option, Ok, Err, is_ok}
-use Rattle.label_base.specs.Store.{Files}
+use Rattle.input_output.specs.Store.{Files}
 use Rattle.tool_words.specs.declared.command.Command.{Command}
 use Rattle.relabel_program.specs.Answer.{answer_for}
 use Rattle.run_faults.specs.Asked.{input_for, output_of}

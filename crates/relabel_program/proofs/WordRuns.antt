@@ -3,7 +3,7 @@ use Rattle.std.proofs.Common.{◌≡◌, ◌∙◌, ap, sym, subst, refl, ℕ, a
 use Rattle.std.specs.Prelude.{Option, Some, None, Result, Ok, Err, IfSome}
 use Rattle.label_base.specs.Answers.{Explains}
 use Rattle.label_base.specs.Answers as answers
-use Rattle.label_base.specs.Store.{Files}
+use Rattle.input_output.specs.Store.{Files}
 use Rattle.label_base.specs.declared.fault.Fault.{Fault}
 use Rattle.label_base.specs.declared.fault.Fault.TheVariants as faults
 use Rattle.tool_words.specs.declared.command.Command.{Command}

@@ -1,10 +1,10 @@
 -- A run that writes what it tells, or tries to.
 use Rattle.std.proofs.Common.{◌≡◌, ◌∙◌, ap, sym, subst, refl, ℕ, ◌≤◌, arith, ◌⊎◌, inl, inr, List, []}
 use Rattle.std.specs.Prelude.{true, Option, Some, Result, Ok, Err, is_ok, is_some, IfSome, option_map}
-use Rattle.label_base.specs.Source.{Rose}
-use Rattle.label_base.specs.Store.{Files}
-use Rattle.label_base.specs.declared.store.SaveFault.{SaveFault}
-use Rattle.label_base.specs.declared.store.SaveFault.TheVariants as save
+use Rattle.input_output.specs.Source.{Rose}
+use Rattle.input_output.specs.Store.{Files}
+use Rattle.input_output.specs.declared.store.SaveFault.{SaveFault}
+use Rattle.input_output.specs.declared.store.SaveFault.TheVariants as save
 use Rattle.find_records.specs.Record.{Record}
 use Rattle.tool_words.specs.declared.command.Command.{Command}
 use Rattle.relabel_program.specs.Answer.{answer_for, cause_of, told_by}

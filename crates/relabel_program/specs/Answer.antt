@@ -1,6 +1,6 @@
 -- What the whole run is to answer, as a function of what the words ask for, the files and the input.
 use Rattle.std.specs.Prelude.{ℕ, ◌==◌, List, Option, Some, None, Result, Ok, Err, if◌then◌else◌}
-use Rattle.label_base.specs.Store.{Files}
+use Rattle.input_output.specs.Store.{Files}
 use Rattle.find_records.specs.Record.{Record}
 use Rattle.setfattr_dump.specs.Texts.{dump_text}
 use Rattle.report_text.specs.Texts.{report_of}

@@ -2,10 +2,10 @@
 use Rattle.std.specs.Prelude.{◌≡◌, ℕ, ◌≤◌, true, false, List, [], Option, Some, None, is_some, Result, Ok, Err, IsOk, IfErr, IfOk, IfSome, ◌⊎◌}
 use Rattle.std.specs.FinMap as map
 use Rattle.std.specs.Io.KnownBytes.{Appends}
-use Rattle.label_base.specs.Sink.{AppendsFront}
-use Rattle.label_base.specs.Source.{Rose}
-use Rattle.label_base.specs.Store.{Files, SaveTold}
-use Rattle.label_base.specs.declared.store.SaveFault.{SaveFault}
+use Rattle.input_output.specs.Sink.{AppendsFront}
+use Rattle.input_output.specs.Source.{Rose}
+use Rattle.input_output.specs.Store.{Files, SaveTold}
+use Rattle.input_output.specs.declared.store.SaveFault.{SaveFault}
 use Rattle.tool_words.specs.declared.command.Command.{Command}
 use Rattle.tool_words.specs.declared.usage.Usage.{Usage}
 use Rattle.relabel_program.specs.Answer.{answer, cause_of}

@@ -1,7 +1,7 @@
 -- What the stages of a run leave: the files are read, then the input, then all is told.
 use Rattle.std.specs.Prelude.{◌≡◌, ℕ, false, List, Option, Result, Ok, Err, IfSome}
-use Rattle.label_base.specs.Store.{Files, SaveCounts}
-use Rattle.label_base.specs.declared.store.SaveFault.TheVariants as save
+use Rattle.input_output.specs.Store.{Files, SaveCounts}
+use Rattle.input_output.specs.declared.store.SaveFault.TheVariants as save
 use Rattle.find_records.specs.Record.{Record}
 use Rattle.tool_words.specs.declared.command.Command.{Command}
 use Rattle.relabel_program.specs.Answer.{told_by}

@@ -6,7 +6,7 @@ ghost use Rattle.run_faults.specs.declared.cause.Cause.TheVariants as causes;
 ghost use Rattle.run_faults.specs.declared.names.FileNames.{FileNames};
 
 use crate::told::{End, Told};
-use label_base::{Sink, write_all};
+use input_output::{Sink, write_all};
 use run_faults::{Cause, FileNames, refusal_line};
 use std::alloc::Global;
 

@@ -13,7 +13,7 @@ mod tests;
 mod told;
 
 use crate::runs::top;
-use label_base::{FileStore, ReadSource, WriteSink};
+use input_output::{FileStore, ReadSource, WriteSink};
 use std::alloc::Global;
 use std::io::ErrorKind;
 use std::process::ExitCode;

@@ -1,9 +1,9 @@
 ghost use Rattle.std.specs.Prelude.{◌≡◌};
-ghost use Rattle.label_base.specs.Store.{SaveCounts};
+ghost use Rattle.input_output.specs.Store.{SaveCounts};
 ghost use Rattle.relabel_program.specs.Run.{Saves};
 
 use crate::told::Told;
-use label_base::{SaveFault, Store};
+use input_output::{SaveFault, Store};
 use std::alloc::Global;
 
 /// Writes the dump to its file, where one is asked for.

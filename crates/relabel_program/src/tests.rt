@@ -1,7 +1,8 @@
 ghost use Rattle.std.specs.Prelude.{◌<◌, ◌^◌, IfOk, length};
 
 use crate::runs::{plain, top};
-use label_base::{Bytes, MemSink, MemSource, MemStore, OutOfMemory, Row};
+use input_output::{MemSink, MemSource, MemStore};
+use label_base::{Bytes, OutOfMemory, Row};
 use run_faults::{Cause, Outcome};
 use std::alloc::Global;
 use std::test::Fail;

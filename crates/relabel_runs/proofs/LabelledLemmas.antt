@@ -4,7 +4,7 @@ use std.Path.{fun_ext}
 use Rattle.std.specs.List.{list_any, position_or_len, prefix_len}
 use Rattle.std.proofs.lemmas.Bool.{false≢true}
 use Rattle.label_base.specs.Bounded.{all_below, all_numbers, implies, least_below}
-use Rattle.label_base.specs.Path.{Path, at_or_below}
+use Rattle.file_paths.specs.Path.{Path, at_or_below}
 use Rattle.label_base.specs.declared.kind.EntryKind.{EntryKind}
 use Rattle.label_base.proofs.BoundedLemmas.{IsLeast, least_told}
 use Rattle.context_syntax.specs.declared.label.Label.{Label}

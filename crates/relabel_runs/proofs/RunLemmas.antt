@@ -3,7 +3,7 @@ use Rattle.std.proofs.Common.{◌≡◌, ◌∙◌, ap, ap₂, sym, refl, subst,
 use std.Path.{fun_ext}
 use Rattle.sha1.specs.Sha1.{sha1}
 use Rattle.std.proofs.lemmas.Slice.Eq.{bytes_eq-Decides}
-use Rattle.label_base.specs.Path.{are_names, at_or_below}
+use Rattle.file_paths.specs.Path.{are_names, at_or_below}
 use Rattle.label_base.specs.Kind.{same_kind}
 use Rattle.label_base.specs.declared.kind.Asked.TheVariants.{Of}
 use Rattle.label_base.specs.declared.kind.EntryKind.TheVariants.{Directory}

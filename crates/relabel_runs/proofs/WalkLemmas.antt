@@ -2,7 +2,8 @@
 use Rattle.std.proofs.Common.{◌≡◌, ◌∙◌, ap, ap₂, sym, refl, ℕ, ◌==◌, Bool, true, false, cond, ◌&&◌, ◌||◌, not, List, length, get_or, Option, Some, None, is_some, option_and_then}
 use Rattle.sha1.specs.Sha1.{sha1}
 use Rattle.std.proofs.lemmas.Bool.{and_parts}
-use Rattle.label_base.specs.Path.{Path, same_bytes}
+use Rattle.label_base.specs.Text.{same_bytes}
+use Rattle.file_paths.specs.Path.{Path}
 use Rattle.label_base.specs.declared.kind.EntryKind.{EntryKind}
 use Rattle.label_base.specs.declared.kind.Asked.TheVariants.{Of}
 use Rattle.label_base.proofs.BoundedLemmas.{any_same, least_case, least_same}

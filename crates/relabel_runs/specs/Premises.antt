@@ -1,7 +1,7 @@
 -- What is asked of runs.
 use Rattle.std.specs.Prelude.{◌≡◌, ◌⊎◌, ℕ, ◌<◌, true, ◌||◌, List, [], ◌∷◌, length}
 use Rattle.sha1.specs.Sha1.{sha1}
-use Rattle.label_base.specs.Path.{Path, are_names}
+use Rattle.file_paths.specs.Path.{Path, are_names}
 use Rattle.dir_digest.specs.ListingBytes.{listing_bytes}
 use Rattle.dir_digest.specs.Terms.{AreRead, Terms, listing_on}
 use Rattle.find_records.specs.Record.{Record}

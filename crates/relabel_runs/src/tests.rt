@@ -1,7 +1,9 @@
 use crate::{next_walk, none_is_skipped, one_more_run_keeps_labels, skipping_keeps_labels};
 use context_syntax::TypeNames;
+use file_paths::NormPath;
 use find_records::{RecordLimits, read_records};
-use label_base::{Bytes, MemSource, NormPath, OutOfMemory, Part, Row};
+use input_output::MemSource;
+use label_base::{Bytes, OutOfMemory, Part, Row};
 use label_rules::Rules;
 use path_subs::{SubList, Subs};
 use relabel_core::{Stored, Walked};

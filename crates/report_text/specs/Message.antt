@@ -1,8 +1,8 @@
 -- What a run tells, as contracts see it.
 use Rattle.std.specs.Prelude.{ℕ, Bool, List, Option}
 use Rattle.std.specs.Option.{option_copied}
-use Rattle.label_base.specs.Path.{Path}
-use Rattle.label_base.specs.PathRef.{path_of}
+use Rattle.file_paths.specs.Path.{Path}
+use Rattle.file_paths.specs.PathRef.{path_of}
 use Rattle.label_base.specs.declared.kind.EntryKind.{EntryKind}
 use Rattle.context_syntax.specs.Context.{ContextValue}
 use Rattle.context_syntax.specs.ContextRef.{context_lent}

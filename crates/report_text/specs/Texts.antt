@@ -2,7 +2,7 @@
 use Rattle.std.specs.Prelude.{ℕ, Bool, true, false, List, [], ◌++◌, Option, Some, None}
 use Rattle.std.specs.List.{flat_map}
 use Rattle.label_base.specs.Escape.{escaped}
-use Rattle.label_base.specs.Path.{Path, path_text}
+use Rattle.file_paths.specs.Path.{Path, path_text}
 use Rattle.label_base.specs.declared.kind.EntryKind.{EntryKind}
 use Rattle.context_syntax.specs.Context.{ContextValue, context_text}
 use Rattle.context_syntax.specs.declared.label.Label.{Label}

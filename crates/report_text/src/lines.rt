@@ -1,6 +1,6 @@
 ghost use Rattle.std.specs.Prelude.{◌≡◌, ◌++◌, IfOk, OnErr, OnOk, map};
 ghost use Rattle.std.specs.Option.{option_copied};
-ghost use Rattle.label_base.specs.PathRef.{path_of};
+ghost use Rattle.file_paths.specs.PathRef.{path_of};
 ghost use Rattle.context_syntax.specs.ContextRef.{context_lent};
 ghost use Rattle.report_text.specs.Message.{message_of};
 ghost use Rattle.report_text.specs.Message as value;
@@ -9,7 +9,8 @@ ghost use Rattle.report_text.specs.Texts.{line_of, message_text, report_of, show
 use crate::message::Message;
 use crate::words::*;
 use context_syntax::{Context, ContextRef, Label};
-use label_base::{Bytes, EntryKind, OutOfMemory, PathRef};
+use file_paths::PathRef;
+use label_base::{Bytes, EntryKind, OutOfMemory};
 use std::alloc::Global;
 
 fn add_relabel(

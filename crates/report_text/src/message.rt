@@ -1,5 +1,6 @@
 use context_syntax::{Context, ContextRef, Label};
-use label_base::{EntryKind, PathRef};
+use file_paths::PathRef;
+use label_base::EntryKind;
 
 /// What a run tells. It borrows its parts from the tree and the rules that it is about.
 ///

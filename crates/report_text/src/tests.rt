@@ -1,7 +1,8 @@
 use crate::lines::{add_line, line, report};
 use crate::message::Message;
 use context_syntax::{Context, ContextRef, Label};
-use label_base::{Bytes, EntryKind, NormPath, OutOfMemory};
+use file_paths::NormPath;
+use label_base::{Bytes, EntryKind, OutOfMemory};
 use std::alloc::Global;
 use std::test::Fail;
 

@@ -1,11 +1,12 @@
 ghost use Rattle.std.specs.Prelude.{◌≡◌, ◌++◌, OnOk};
 ghost use Rattle.std.specs.Option.{option_copied};
-ghost use Rattle.label_base.specs.PathRef.{path_of};
+ghost use Rattle.file_paths.specs.PathRef.{path_of};
 ghost use Rattle.context_syntax.specs.Context.{context_text};
 ghost use Rattle.report_text.specs.Texts.{found_words, given_text, kind_words, label_text, relabel_words, shown_path};
 
 use context_syntax::{Context, ContextRef, Label};
-use label_base::{Bytes, EntryKind, OutOfMemory, PathRef, write_escaped};
+use file_paths::PathRef;
+use label_base::{Bytes, EntryKind, OutOfMemory, write_escaped};
 use spec_reader::{NO_CONTEXT, type_field};
 use std::alloc::Global;
 

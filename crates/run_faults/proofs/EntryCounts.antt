@@ -3,7 +3,7 @@ use Rattle.std.proofs.Common.{◌≡◌, ℕ, ◌+◌, ◌≤◌, List, [], ◌�
 use Rattle.std.specs.Prelude.{Option, Some, None, Ok}
 use Rattle.std.specs.declared.cmp.Ordering.{Ordering}
 use Rattle.std.specs.declared.cmp.Ordering.TheVariants.{Less, Equal, Greater}
-use Rattle.label_base.specs.Path.{path_cmp}
+use Rattle.file_paths.specs.Path.{path_cmp}
 use Rattle.find_records.specs.Record.{Record}
 use Rattle.tree_model.specs.Entries.{doubled, entered, entries_of, placed, tree_of, unless_doubled}
 

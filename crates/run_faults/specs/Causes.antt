@@ -1,6 +1,6 @@
 -- What a part of a run may answer in place of a value. A cause that no row names is refused.
 use Rattle.std.specs.Prelude.{◌≡◌, ℕ, ◌≤◌, Result, Ok, Err}
-use Rattle.label_base.specs.Source.{Rose}
+use Rattle.input_output.specs.Source.{Rose}
 use Rattle.label_base.specs.declared.fault.Fault.{Fault}
 use Rattle.label_base.specs.declared.fault.Fault.TheVariants as faults
 use Rattle.tool_words.specs.declared.usage.Usage as wrong_word

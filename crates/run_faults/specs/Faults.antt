@@ -2,8 +2,8 @@
 use Rattle.std.specs.Prelude.{ℕ, Bool, List, [], ◌++◌, if◌then◌else◌}
 use Rattle.std.specs.Fmt.{decimal}
 use Rattle.label_base.specs.Escape.{escaped}
-use Rattle.label_base.specs.declared.path_fault.PathWhy.{PathWhy}
-use Rattle.label_base.specs.declared.path_fault.PathWhy.TheVariants.{Empty, PathTooLong, HasNul, NotAbsolute, DotPart}
+use Rattle.file_paths.specs.declared.path_fault.PathWhy.{PathWhy}
+use Rattle.file_paths.specs.declared.path_fault.PathWhy.TheVariants.{Empty, PathTooLong, HasNul, NotAbsolute, DotPart}
 use Rattle.find_records.specs.declared.fault.RecordWhy.{RecordWhy}
 use Rattle.find_records.specs.declared.fault.RecordWhy.TheVariants as records
 use Rattle.label_base.specs.declared.kind.Part.TheVariants.{Customizable, Kept}

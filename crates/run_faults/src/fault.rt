@@ -5,8 +5,9 @@ ghost use Rattle.run_faults.specs.Faults.{dump_text, fault_line, limit_text, pat
 
 use crate::cause::{Cause, LimitKind};
 use crate::names::FileNames;
+use file_paths::PathWhy;
 use find_records::RecordWhy;
-use label_base::{Bytes, OutOfMemory, Part, PathWhy, write_escaped};
+use label_base::{Bytes, OutOfMemory, Part, write_escaped};
 use pattern_syntax::PatternWhy;
 use setfattr_dump::DumpWhy;
 use spec_reader::SpecWhy;

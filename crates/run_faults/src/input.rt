@@ -8,7 +8,7 @@ ghost use Rattle.sample_tree.specs.Sample.{sample_records};
 use crate::asked::takes_records;
 use crate::cause::{Cause, LimitKind};
 use find_records::{RecordLimits, Records, RecordsFault, read_records};
-use label_base::{Source, SureSource};
+use input_output::{Source, SureSource};
 use sample_tree::sample_records;
 use std::alloc::Global;
 use tool_words::Command;

@@ -2,7 +2,8 @@ use crate::{
     Cause, FileNames, LimitKind, asks_kept, is_soft, read_entries, refusal_line, status,
     takes_records,
 };
-use label_base::{Bytes, MemSource, Name, OutOfMemory, Part, Row};
+use input_output::MemSource;
+use label_base::{Bytes, Name, OutOfMemory, Part, Row};
 use std::alloc::Global;
 use std::test::Fail;
 use tool_words::{Command, RelabelWords};

@@ -3,7 +3,7 @@ use Rattle.std.proofs.Common.{◌≡◌, ◌∙◌, ap, sym, refl, subst, ℕ, �
 use Rattle.std.specs.Prelude.{◌↔◌, Option, Some, None, is_some, Result, Ok, Err}
 use Rattle.label_base.specs.LineGrammar.{AreLines}
 use Rattle.label_base.specs.Lines.{lines_of, with_front}
-use Rattle.label_base.specs.Path.{Path}
+use Rattle.file_paths.specs.Path.{Path}
 use Rattle.label_base.proofs.LineCuts.{lines_are}
 use Rattle.setfattr_dump.specs.declared.dump.Attr.{Attr}
 use Rattle.setfattr_dump.specs.declared.dump.Section.{Section}

@@ -5,7 +5,7 @@ use Rattle.label_base.specs.Answers.{Answers, Explains}
 use Rattle.label_base.specs.Cut.{front, behind}
 use Rattle.label_base.specs.Escape.{in_front, unescaped, unescaped_left}
 use Rattle.label_base.specs.Lines.{with_front}
-use Rattle.label_base.specs.Path.{Path, path_read}
+use Rattle.file_paths.specs.Path.{Path, path_read}
 use Rattle.label_base.specs.declared.lines.RefusedLine.{RefusedLine}
 use Rattle.label_base.proofs.EscapeLemmas.{unescaped_cut}
 use Rattle.setfattr_dump.specs.declared.dump.Attr.{Attr}

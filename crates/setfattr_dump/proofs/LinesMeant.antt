@@ -6,8 +6,9 @@ use Rattle.std.proofs.lemmas.List.Prefix.{front_rest}
 use Rattle.std.proofs.lemmas.Slice.Eq.{starts_is}
 use Rattle.label_base.specs.Cut.{front, behind}
 use Rattle.label_base.specs.Escape.{unescaped}
-use Rattle.label_base.specs.Path.{Path, is_nonempty, path_read}
-use Rattle.label_base.specs.declared.path_fault.PathWhy.{PathWhy}
+use Rattle.label_base.specs.Text.{is_nonempty}
+use Rattle.file_paths.specs.Path.{Path, path_read}
+use Rattle.file_paths.specs.declared.path_fault.PathWhy.{PathWhy}
 use Rattle.label_base.proofs.FirstCut.{IsCut, cut, front_at, behind_at, behind_none}
 use Rattle.setfattr_dump.specs.declared.dump.Attr.{Attr}
 use Rattle.setfattr_dump.specs.declared.fault.DumpWhy.{DumpWhy}

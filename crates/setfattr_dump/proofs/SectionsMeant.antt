@@ -3,7 +3,8 @@ use Rattle.std.proofs.Common.{◌≡◌, ◌∙◌, ap, sym, refl, subst, ℕ, �
 use Rattle.std.specs.Prelude.{Option, Some, None, is_some, Result, Ok, Err}
 use Rattle.label_base.specs.LineGrammar.{AreLines}
 use Rattle.label_base.specs.Lines.{with_front}
-use Rattle.label_base.specs.Path.{Path, is_nonempty}
+use Rattle.label_base.specs.Text.{is_nonempty}
+use Rattle.file_paths.specs.Path.{Path}
 use Rattle.label_base.specs.declared.lines.RefusedLine.{RefusedLine}
 use Rattle.label_base.proofs.LineCuts.{lines_are}
 use Rattle.setfattr_dump.specs.declared.dump.Attr.{Attr}

@@ -5,10 +5,11 @@ use Rattle.std.specs.List.{AllByRecursion, list_all, list_any, slice_split, onto
 use Rattle.std.proofs.lemmas.Bool.Decides.{nat_tests}
 use Rattle.label_base.specs.LineGrammar as cuts
 use Rattle.label_base.specs.LineGrammar.{AreLines}
-use Rattle.label_base.specs.Path.{Path, is_dot_part, is_nonempty, is_slash, path_names, path_read, path_text, with_slashes}
-use Rattle.label_base.specs.declared.path_fault.PathWhy.TheVariants.{Empty, PathTooLong, HasNul, NotAbsolute, DotPart}
+use Rattle.label_base.specs.Text.{is_nonempty}
+use Rattle.file_paths.specs.Path.{Path, is_dot_part, is_slash, path_names, path_read, path_text, with_slashes}
+use Rattle.file_paths.specs.declared.path_fault.PathWhy.TheVariants.{Empty, PathTooLong, HasNul, NotAbsolute, DotPart}
 use Rattle.label_base.proofs.FirstCut.{lacks_first, lacks_others}
-use Rattle.label_base.proofs.PathLengths.{short_text}
+use Rattle.file_paths.proofs.PathLengths.{short_text}
 use Rattle.setfattr_dump.specs.declared.dump.Attr.{Attr}
 use Rattle.setfattr_dump.specs.declared.dump.Section.{Section}
 use Rattle.setfattr_dump.specs.declared.marks.TheConstants.{FILE_MARK}

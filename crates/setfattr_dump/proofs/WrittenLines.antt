@@ -7,7 +7,8 @@ use Rattle.std.proofs.lemmas.Bool.Decides.{nat_tests}
 use Rattle.label_base.specs.Escape.{escaped, escaped_byte, is_plain}
 use Rattle.label_base.specs.LineGrammar as cuts
 use Rattle.label_base.specs.LineGrammar.{AreLines}
-use Rattle.label_base.specs.Path.{Path, is_nonempty, path_read, path_text}
+use Rattle.label_base.specs.Text.{is_nonempty}
+use Rattle.file_paths.specs.Path.{Path, path_read, path_text}
 use Rattle.label_base.proofs.FirstCut.{lacks_nothing}
 use Rattle.setfattr_dump.specs.declared.dump.Attr.{Attr}
 use Rattle.setfattr_dump.specs.declared.dump.Section.{Section}

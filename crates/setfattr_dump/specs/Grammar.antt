@@ -2,7 +2,8 @@
 use Rattle.std.specs.Prelude.{◌≡◌, ℕ, ◌+◌, ◌*◌, ◌<◌, Bool, true, false, List, [], ◌∷◌, ◌++◌, length, Contains, Some, Result, Ok, Err}
 use Rattle.label_base.specs.Escape.{octal_byte, unescaped}
 use Rattle.label_base.specs.LineGrammar.{AreLines}
-use Rattle.label_base.specs.Path.{Path, is_nonempty, path_read}
+use Rattle.label_base.specs.Text.{is_nonempty}
+use Rattle.file_paths.specs.Path.{Path, path_read}
 use Rattle.label_base.specs.declared.lines.RefusedLine.{RefusedLine}
 use Rattle.setfattr_dump.specs.declared.dump.Attr.{Attr}
 use Rattle.setfattr_dump.specs.declared.dump.Section.{Section}

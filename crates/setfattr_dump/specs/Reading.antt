@@ -3,9 +3,10 @@ use Rattle.std.specs.Prelude.{ℕ, ◌+◌, Bool, false, ◌==◌, List, [], ◌
 use Rattle.label_base.specs.Cut.{front, behind}
 use Rattle.label_base.specs.Escape.{unescaped}
 use Rattle.label_base.specs.Lines.{lines_of, with_front}
-use Rattle.label_base.specs.Path.{Path, is_nonempty, path_read}
-use Rattle.label_base.specs.declared.path.TheConstants.{SLASH}
-use Rattle.label_base.specs.declared.path_fault.PathWhy.{PathWhy}
+use Rattle.label_base.specs.Text.{is_nonempty}
+use Rattle.file_paths.specs.Path.{Path, path_read}
+use Rattle.file_paths.specs.declared.path.TheConstants.{SLASH}
+use Rattle.file_paths.specs.declared.path_fault.PathWhy.{PathWhy}
 use Rattle.label_base.specs.declared.lines.RefusedLine.{RefusedLine}
 use Rattle.setfattr_dump.specs.declared.dump.Attr.{Attr}
 use Rattle.setfattr_dump.specs.declared.dump.Section.{Section}

@@ -2,7 +2,7 @@
 use Rattle.std.specs.Prelude.{◌≡◌, true, Some, Ok}
 use Rattle.std.specs.List.{AllByRecursion}
 use Rattle.label_base.specs.Escape.{escaped, unescaped}
-use Rattle.label_base.specs.Path.{Path, path_read, path_text}
+use Rattle.file_paths.specs.Path.{Path, path_read, path_text}
 use Rattle.setfattr_dump.specs.declared.dump.Attr.{Attr}
 use Rattle.setfattr_dump.specs.declared.dump.Section.{Section}
 use Rattle.setfattr_dump.specs.Grammar.{IsValue}

@@ -1,6 +1,6 @@
 -- What is read so far of the lines of a dump.
 use Rattle.std.specs.Prelude.{◌≡◌, ◌++◌, ◌∷◌, [], List, Option, Some, None, Result, Ok, Err}
-use Rattle.label_base.specs.Path.{Path}
+use Rattle.file_paths.specs.Path.{Path}
 use Rattle.setfattr_dump.specs.declared.dump.Attr.{Attr}
 use Rattle.setfattr_dump.specs.declared.dump.Section.{Section}
 use Rattle.setfattr_dump.specs.declared.fault.DumpWhy.{DumpWhy}

@@ -2,9 +2,10 @@
 use Rattle.std.specs.Prelude.{ℕ, Bool, ◌&&◌, ◌==◌, nat_eq, nat_le, not, List, ◌++◌, length}
 use Rattle.std.specs.List.{flat_map, list_all, list_any, starts_with}
 use Rattle.label_base.specs.Escape.{escaped}
-use Rattle.label_base.specs.Path.{Path, is_dot_part, is_nonempty, path_text}
+use Rattle.label_base.specs.Text.{is_nonempty}
+use Rattle.file_paths.specs.Path.{Path, is_dot_part, path_text}
 use Rattle.label_base.specs.declared.cut.TheConstants.{LINE_FEED}
-use Rattle.label_base.specs.declared.path.TheConstants.{MOST_PATH_BYTES}
+use Rattle.file_paths.specs.declared.path.TheConstants.{MOST_PATH_BYTES}
 use Rattle.setfattr_dump.specs.declared.dump.Attr.{Attr}
 use Rattle.setfattr_dump.specs.declared.dump.Section.{Section}
 use Rattle.setfattr_dump.specs.declared.marks.TheConstants.{EQUALS, FILE_MARK, KEY_END, LINE_END}

@@ -2,7 +2,7 @@
 use Rattle.std.specs.Prelude.{ℕ, ◌+◌, ◌-◌, ◌*◌, ◌/◌, ◌%◌, Bool, false, ◌==◌, ◌&&◌, ◌||◌, nat_le, nat_lt, List, [], ◌∷◌, ◌++◌, Option, Some, None, Result, Ok, Err, if◌then◌else◌}
 use Rattle.std.specs.List.{flat_map}
 use Rattle.label_base.specs.Escape.{escaped_byte, is_plain, led_by, octal_byte}
-use Rattle.label_base.specs.Path.{same_bytes}
+use Rattle.label_base.specs.Text.{same_bytes}
 use Rattle.setfattr_dump.specs.declared.fault.DumpWhy.{DumpWhy}
 use Rattle.setfattr_dump.specs.declared.fault.DumpWhy.TheVariants.{BadValue}
 use Rattle.setfattr_dump.specs.declared.marks.TheConstants.{BACKSLASH, DIGEST_KEY, HEX_MARK, QUOTE, QUOTE_ESCAPE, QUOTE_MARK, ZERO}

@@ -7,7 +7,8 @@ ghost use Rattle.setfattr_dump.specs.Texts.{are_writable, dump_text};
 use crate::fault::DumpFault;
 use crate::reading::read_sections;
 use crate::writing::write_sections;
-use label_base::{Bytes, NormPath, OutOfMemory, Row};
+use file_paths::NormPath;
+use label_base::{Bytes, OutOfMemory, Row};
 use std::alloc::Global;
 
 /// An extended attribute: its key and the bytes of its value.

@@ -1,6 +1,6 @@
 ghost use Rattle.std.specs.Prelude.{◌≡◌, ◌≤◌, length, true};
 ghost use Rattle.label_base.specs.Answers.{Answers, cause_of};
-ghost use Rattle.label_base.specs.Path.{path_read};
+ghost use Rattle.file_paths.specs.Path.{path_read};
 ghost use Rattle.setfattr_dump.specs.Reading.{attr_read, has_slash, line_read, name_read, path_or_bad, with_slash, with_value};
 ghost use Rattle.setfattr_dump.specs.Texts.{is_marked};
 ghost use Rattle.setfattr_dump.specs.Values.{value_or_bad, value_read};
@@ -9,7 +9,8 @@ use crate::dump::Attr;
 use crate::fault::DumpWhy;
 use crate::marks::{BACKSLASH, EQUALS, FILE_MARK};
 use crate::value::read_value;
-use label_base::{Bytes, EscapeFault, Fault, NormPath, SLASH, cut_at, read_escaped};
+use file_paths::{NormPath, SLASH};
+use label_base::{Bytes, EscapeFault, Fault, cut_at, read_escaped};
 use std::alloc::Global;
 
 // What a line says: an empty one ends a section, another names a file or gives an attribute.

@@ -6,7 +6,8 @@ ghost use Rattle.setfattr_dump.specs.SoFar.{IsState, Takes};
 use crate::dump::{Attr, Section};
 use crate::fault::{DumpFault, DumpWhy};
 use crate::line::{Said, read_line};
-use label_base::{Fault, NormPath, OutOfMemory, RefusedLine, Row, next_line};
+use file_paths::NormPath;
+use label_base::{Fault, OutOfMemory, RefusedLine, Row, next_line};
 use std::alloc::Global;
 use std::mem;
 

@@ -4,7 +4,8 @@ use crate::dump::{Attr, Dump, dumps_follow_grammar, read_dumps_can_be_written};
 use crate::fault::{DumpFault, DumpWhy};
 use crate::marks::{DIGEST_KEY, LABEL_KEY};
 use crate::writing::{add_attr, add_name, end_section};
-use label_base::{Bytes, Fault, NormPath, OutOfMemory, RefusedLine};
+use file_paths::NormPath;
+use label_base::{Bytes, Fault, OutOfMemory, RefusedLine};
 use std::alloc::Global;
 use std::test::Fail;
 

@@ -1,7 +1,7 @@
 ghost use Rattle.std.specs.Prelude.{◌≡◌, ◌++◌, true, IfOk, OnOk, Some};
 ghost use Rattle.std.specs.List.{AllByRecursion};
 ghost use Rattle.label_base.specs.Escape.{escaped, unescaped};
-ghost use Rattle.label_base.specs.PathRef.{path_of};
+ghost use Rattle.file_paths.specs.PathRef.{path_of};
 ghost use Rattle.setfattr_dump.specs.Grammar.{IsValue};
 ghost use Rattle.setfattr_dump.specs.ReadsBack.{AttrReads, NameReads, SectionReads};
 ghost use Rattle.setfattr_dump.specs.Values.{value_text};
@@ -11,7 +11,8 @@ ghost use Rattle.setfattr_dump.specs.Texts.{attr_line, attrs_text, dump_text, is
 use crate::dump::{Attr, Section};
 use crate::marks::{FILE_MARK, KEY_END, LINE_END};
 use crate::quoting::add_value;
-use label_base::{Bytes, OutOfMemory, PathRef, write_escaped};
+use file_paths::PathRef;
+use label_base::{Bytes, OutOfMemory, write_escaped};
 use std::alloc::Global;
 
 /// Adds the line that names a file, and so begins a section. Where memory runs out, a front of the line may

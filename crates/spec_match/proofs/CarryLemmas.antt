@@ -1,7 +1,7 @@
 -- Texts of the children of a path, and what is alive behind them.
 use Rattle.std.proofs.Common.{◌≡◌, ◌∙◌, refl, sym, ap, subst, ℕ, true, false, List, [], ◌∷◌, ◌++◌, append_assoc, append-nil}
 use Rattle.std.proofs.lemmas.List.Concat.{flat_map-append}
-use Rattle.label_base.specs.Path.{Path, path_text, with_slashes}
+use Rattle.file_paths.specs.Path.{Path, path_text, with_slashes}
 use Rattle.label_base.specs.declared.kind.Asked.{Asked}
 use Rattle.pattern_syntax.specs.Language.{Opens}
 use Rattle.spec_match.specs.LastMatch.{fits}

@@ -2,7 +2,7 @@
 use Rattle.std.proofs.Common.{◌≡◌, ◌∙◌, refl, sym, ap, subst, ℕ, zero, suc, ◌+◌, ◌-◌, ◌<◌, ◌≤◌, ◌==◌, Bool, true, false, cond, List, [], ◌∷◌, ◌++◌, drop, length, get_or, map, filter, append_assoc, append-nil, arith}
 use Rattle.std.proofs.lemmas.List.{get_or_default}
 use Rattle.std.specs.List.{enumerate_from}
-use Rattle.label_base.specs.Path.{Path, path_text}
+use Rattle.file_paths.specs.Path.{Path, path_text}
 use Rattle.pattern_match.proofs.Holding.{holds_tells}
 use Rattle.pattern_match.proofs.Quotients.{below_test}
 use Rattle.pattern_match.proofs.Reading.{none_below}

@@ -12,7 +12,7 @@ use Rattle.spec_match.specs.Carrying.{Carrying, IsAliveAt, IsCarriedOf, StandsAt
 use Rattle.spec_match.specs.Workspaces.{IsWorkspaceFor, room_in}
 use Rattle.spec_match.specs.declared.workspace.Workspace.{Workspace}
 use Rattle.std.specs.List.{All}
-use Rattle.label_base.specs.Path.{Path, path_text}
+use Rattle.file_paths.specs.Path.{Path, path_text}
 use Rattle.spec_match.specs.declared.rule.Rule.{Rule}
 use Rattle.spec_reader.specs.SpecValue.{SpecValue}
 

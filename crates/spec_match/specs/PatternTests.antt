@@ -2,7 +2,7 @@
 use Rattle.std.specs.Prelude.{◌≡◌, ℕ, List}
 use Rattle.std.specs.Coded.{Coded-set, ×_prop, Π_prop}
 use mathlib.Core.Bool.{Bool-set}
-use Rattle.label_base.specs.Path.{same_bytes}
+use Rattle.label_base.specs.Text.{same_bytes}
 use Rattle.pattern_syntax.specs.Tree.{Tree, Nothing, tree_code}
 use Rattle.pattern_syntax.specs.Language.{holds}
 use Rattle.pattern_syntax.specs.Literal.{literal_start_of}

@@ -1,7 +1,7 @@
 -- The specifications that can decide at or below a path.
 use Rattle.std.specs.Prelude.{ℕ, Bool, true, false, List, [], ◌∷◌, filter, map}
 use Rattle.std.specs.List.{enumerate_from}
-use Rattle.label_base.specs.Path.{Path}
+use Rattle.file_paths.specs.Path.{Path}
 use Rattle.pattern_match.specs.Quotients.{holds_below}
 use Rattle.spec_reader.specs.SpecValue.{SpecValue}
 

@@ -1,5 +1,5 @@
 ghost use Rattle.std.specs.Prelude.{◌≡◌, ◌+◌, ◌++◌, ◌∷◌, [], IfOk};
-ghost use Rattle.label_base.specs.Path.{Path, path_text};
+ghost use Rattle.file_paths.specs.Path.{Path, path_text};
 ghost use Rattle.spec_match.specs.Carrying.{IsCarriedOf, StandsAt};
 ghost use Rattle.spec_match.specs.Relevant.{relevant_at};
 ghost use Rattle.spec_match.specs.Remembering.{IsAnswer};

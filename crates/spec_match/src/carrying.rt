@@ -1,6 +1,6 @@
 ghost use Rattle.std.specs.Prelude.{◌≡◌, ◌<◌, ◌^◌, ◌++◌, ◌∷◌, [], false, true, IfOk, IfSome, OnOk, length, map};
 ghost use Rattle.std.specs.List.{All};
-ghost use Rattle.label_base.specs.Path.{Path, path_text};
+ghost use Rattle.file_paths.specs.Path.{Path, path_text};
 ghost use Rattle.pattern_match.specs.States.{AreStatesOf, StandsFor};
 ghost use Rattle.spec_match.specs.Alive.{AreAlive, IsOwn, Leads, alive_at};
 ghost use Rattle.spec_match.specs.Carrying.{IsAliveAt};

@@ -1,6 +1,6 @@
 ghost use Rattle.std.specs.Prelude.{◌≡◌, ◌<◌, ◌^◌, ◌++◌, ◌∷◌, [], IfOk, OnOk, length, map, if◌then◌else◌};
-ghost use Rattle.label_base.specs.Path.{Path, path_text};
-ghost use Rattle.label_base.specs.PathRef.{path_of};
+ghost use Rattle.file_paths.specs.Path.{Path, path_text};
+ghost use Rattle.file_paths.specs.PathRef.{path_of};
 ghost use Rattle.pattern_match.specs.States.{AreStatesOf, StandsFor};
 ghost use Rattle.spec_match.specs.Alive.{AreAlive, alive_at, list_of};
 ghost use Rattle.spec_match.specs.Relevant.{can_decide, is_root_path, relevant_at};
@@ -9,7 +9,8 @@ ghost use Rattle.spec_match.specs.Stepping.{AreOwnLists};
 
 use crate::lists::Lists;
 use crate::rule::Rule;
-use label_base::{OutOfMemory, PathRef};
+use file_paths::PathRef;
+use label_base::OutOfMemory;
 use pattern_match::States;
 use std::alloc::Global;
 

@@ -5,13 +5,14 @@ ghost use Rattle.pattern_syntax.specs.Literal.{literal_start_of};
 ghost use Rattle.pattern_match.specs.Onwards.{TakesAll};
 ghost use Rattle.pattern_match.specs.States.{AreStatesOf, StandsFor};
 ghost use Rattle.spec_match.specs.LastMatch.{fits};
-ghost use Rattle.label_base.specs.Path.{Path, path_text};
-ghost use Rattle.label_base.specs.PathRef.{path_of};
+ghost use Rattle.file_paths.specs.Path.{Path, path_text};
+ghost use Rattle.file_paths.specs.PathRef.{path_of};
 ghost use Rattle.spec_match.specs.PatternTests.{IsTestOf, is_fact};
 ghost use Rattle.spec_match.specs.Relevant.{can_decide, is_root_path};
 
 use crate::pattern_test::PatternTest;
-use label_base::{Asked, EntryKind, OutOfMemory, PathRef};
+use file_paths::PathRef;
+use label_base::{Asked, EntryKind, OutOfMemory};
 use pattern_match::{States, may_hold};
 use spec_reader::Spec;
 use std::alloc::Global;

@@ -1,6 +1,6 @@
 ghost use Rattle.std.specs.Prelude.{◌≡◌, ◌+◌, ◌<◌, ◌^◌, [], false, IfOk, IfSome, Some, length, map, option_and_then, slice_get};
-ghost use Rattle.label_base.specs.Path.{path_text};
-ghost use Rattle.label_base.specs.PathRef.{path_of};
+ghost use Rattle.file_paths.specs.Path.{path_text};
+ghost use Rattle.file_paths.specs.PathRef.{path_of};
 ghost use Rattle.spec_match.specs.LastMatch.{Decides, last_index, last_match};
 ghost use Rattle.spec_match.specs.Relevant.{relevant_at};
 ghost use Rattle.spec_match.specs.Remembering.{kept};
@@ -13,7 +13,8 @@ use crate::scratch::Scratch;
 use crate::starts::Starts;
 use crate::table::Table;
 use crate::workspace::Workspace;
-use label_base::{Asked, OutOfMemory, PathRef, Row, Steps};
+use file_paths::PathRef;
+use label_base::{Asked, OutOfMemory, Row, Steps};
 use pattern_match::States;
 use spec_reader::Spec;
 use std::alloc::Global;

@@ -3,7 +3,8 @@ ghost use Rattle.spec_match.specs.Scratches.{IsScratchOf};
 
 use crate::rule_set::RuleSet;
 use crate::scratch::Scratch;
-use label_base::{Asked, EntryKind, NormPath, Part, PathRef, Row, Steps};
+use file_paths::{NormPath, PathRef};
+use label_base::{Asked, EntryKind, Part, Row, Steps};
 use spec_reader::{Spec, read_specs};
 use std::alloc::Global;
 use std::marker::Brand;

@@ -1,7 +1,7 @@
 ghost use Rattle.std.specs.Prelude.{◌≡◌, ◌<◌, ◌^◌, ◌++◌, ◌∷◌, [], IfOk, IfSome, length, map};
 ghost use Rattle.std.specs.List.{All};
-ghost use Rattle.label_base.specs.Path.{Path, path_text};
-ghost use Rattle.label_base.specs.PathRef.{path_of};
+ghost use Rattle.file_paths.specs.Path.{Path, path_text};
+ghost use Rattle.file_paths.specs.PathRef.{path_of};
 ghost use Rattle.spec_match.specs.Alive.{IsOwn};
 ghost use Rattle.spec_match.specs.Carrying.{IsAliveAt};
 ghost use Rattle.spec_match.specs.Chains.{AreStartsOf};
@@ -16,7 +16,8 @@ use crate::relevant::{all_relevant, listed_relevant};
 use crate::rule::Rule;
 use crate::starts::Starts;
 use crate::table::Table;
-use label_base::{Asked, OutOfMemory, PathRef};
+use file_paths::PathRef;
+use label_base::{Asked, OutOfMemory};
 use pattern_match::States;
 use std::alloc::Global;
 

@@ -2,7 +2,7 @@
 use Rattle.std.specs.Prelude.{ℕ, List, Option, Some, None, if◌then◌else◌}
 use Rattle.label_base.specs.declared.kind.EntryKind.{EntryKind}
 use Rattle.label_base.specs.declared.kind.EntryKind.TheVariants.{Regular, Directory, Link, Pipe, Socket, Block, Char, Other}
-use Rattle.label_base.specs.Path.{same_bytes}
+use Rattle.label_base.specs.Text.{same_bytes}
 use Rattle.spec_reader.specs.declared.type_fields.TheConstants.{REGULAR_FIELD, DIRECTORY_FIELD, LINK_FIELD, PIPE_FIELD, SOCKET_FIELD, BLOCK_FIELD, CHAR_FIELD, NO_FIELD}
 
 -- the type field that names a kind, and nothing for a kind that has none

@@ -9,7 +9,7 @@ use Rattle.std.specs.declared.vec.Vec.{Vec}
 use Rattle.indexmap.specs.IndexMap.{insert_entry}
 use Rattle.label_base.specs.Bounded.{greater, greatest_below, last_or_found}
 use Rattle.label_base.specs.NumberUnder.{number_under}
-use Rattle.label_base.specs.Path.{same_bytes}
+use Rattle.label_base.specs.Text.{same_bytes}
 use Rattle.label_base.proofs.BoundedLemmas.{below_or_last, cond_last, greater_below, greatest_above, greatest_agree, greatest_bound, greatest_none, greatest_passes, greatest_shrinks}
 use Rattle.label_base.proofs.UnderLemmas.{under_more}
 use Rattle.stem_index.specs.Kept.{AreHeads, IsKept, last_with}

@@ -1,8 +1,9 @@
 -- Stems of texts, and the texts that may stand for paths below a first name.
 use Rattle.std.specs.Prelude.{ℕ, zero, suc, Bool, ◌==◌, ◌&&◌, ◌||◌, not, List, [], ◌∷◌, Option, Some, None, get_or, if◌then◌else◌}
 use Rattle.label_base.specs.Cut.{front, behind}
-use Rattle.label_base.specs.Path.{Path, same_bytes}
-use Rattle.label_base.specs.declared.path.TheConstants.{SLASH}
+use Rattle.label_base.specs.Text.{same_bytes}
+use Rattle.file_paths.specs.Path.{Path}
+use Rattle.file_paths.specs.declared.path.TheConstants.{SLASH}
 
 -- the name, where something stands behind its slash
 abbrev pub name_before : List ℕ → Option (List ℕ) → List ℕ

@@ -1,8 +1,9 @@
 ghost use Rattle.std.specs.Prelude.{◌≡◌};
-ghost use Rattle.label_base.specs.PathRef.{path_of};
+ghost use Rattle.file_paths.specs.PathRef.{path_of};
 ghost use Rattle.stem_index.specs.Stems.{first_name, stem_of};
 
-use label_base::{PathRef, SLASH, cut_at};
+use file_paths::{PathRef, SLASH};
+use label_base::cut_at;
 
 /// The stem of a text: empty where it has none.
 pub fn stem_of(text: &[u8]) -> &[u8]

@@ -1,13 +1,14 @@
 ghost use Rattle.std.specs.Prelude.{◌≡◌, ◌++◌, ◌∷◌, ◌<◌, ◌-◌, ◌^◌, [], length, OnErr, OnOk, vec_len, vec_capacity};
 ghost use Rattle.label_base.specs.NumberUnder.{number_under};
-ghost use Rattle.label_base.specs.PathRef.{path_of};
+ghost use Rattle.file_paths.specs.PathRef.{path_of};
 ghost use Rattle.stem_index.specs.Kept.{IsKept, last_with};
 ghost use Rattle.stem_index.specs.Stems.{candidates_below, first_name, is_none, stem_at, stem_of};
 
 use crate::candidates::Candidates;
 use crate::stem::{first_name, stem_of};
+use file_paths::PathRef;
 use indexmap::IndexMap;
-use label_base::{Bytes, OutOfMemory, PathRef};
+use label_base::{Bytes, OutOfMemory};
 use std::alloc::Global;
 use std::marker::Model;
 

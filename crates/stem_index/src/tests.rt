@@ -1,5 +1,5 @@
 use crate::{StemIndex, candidates_fit};
-use label_base::NormPath;
+use file_paths::NormPath;
 use std::alloc::Global;
 use std::test::Fail;
 

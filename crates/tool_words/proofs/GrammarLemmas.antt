@@ -4,7 +4,7 @@ use Rattle.std.specs.Prelude.{◌⊎◌, ◌≢◌, ◌↔◌, ⊤}
 use Rattle.std.proofs.lemmas.Bool.{eqb-true}
 use Rattle.std.proofs.lemmas.List.{append-nil}
 use Rattle.std.proofs.lemmas.Slice.Eq.{bytes_eq-Decides}
-use Rattle.label_base.specs.Path.{same_bytes}
+use Rattle.label_base.specs.Text.{same_bytes}
 use Rattle.tool_words.specs.Grammar.{AreAlone, AreLetters, AreWords, all_alone, valued, unknown, none, options, value, missing, operand, end, flags, operands_at}
 use Rattle.tool_words.specs.Items.{Item, Letters, Taken, any_taken, ahead, flag, is_cluster, item, items_from, items_of, letters_say, letters_taken, operand_says, operand_taken, valued_says, with_letter, wrong}
 use Rattle.tool_words.specs.Tools.{letter_of}

@@ -7,7 +7,8 @@ use Rattle.std.specs.declared.alloc.Global.{Global}
 use Rattle.std.proofs.lemmas.List.{length-map, length-append}
 use Rattle.std.proofs.lemmas.List.Elements.{filter_map-append}
 use Rattle.label_base.specs.Answers.{Answers, cause_of}
-use Rattle.label_base.specs.Path.{path_read, same_bytes}
+use Rattle.label_base.specs.Text.{same_bytes}
+use Rattle.file_paths.specs.Path.{path_read}
 use Rattle.label_base.specs.declared.fault.Fault.{Fault}
 use Rattle.tool_words.specs.Items.{Item, Letters, Taken, ahead, any_taken, is_cluster, item, items_from, items_of, letters_say, letters_taken, operand_says, taken, unended, with_letter, word_taken}
 use Rattle.tool_words.specs.Tools.{letter_of, tool_named}

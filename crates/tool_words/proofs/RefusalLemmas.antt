@@ -6,7 +6,8 @@ use Rattle.std.specs.Option.{unwrap_or}
 use Rattle.std.proofs.lemmas.Bool.{eqb-false, eqb-true, leb-false, lt-leb}
 use Rattle.label_base.specs.Lines.{first_of}
 use Rattle.label_base.specs.Number.{number_of}
-use Rattle.label_base.specs.Path.{path_read, same_bytes}
+use Rattle.label_base.specs.Text.{same_bytes}
+use Rattle.file_paths.specs.Path.{path_read}
 use Rattle.tool_words.specs.Items.{Item, Letters, Taken, any_taken, ahead, is_cluster, items_from, items_of, letters_say, taken, unended, valued_says, with_letter, word_taken, operand_says, operand_taken, letters_taken}
 use Rattle.tool_words.specs.Refusals.{AreGood, HasLetter, HasWrong, HasWrongEnd, IsBad, IsNoPath, IsPast, IsThere, IsWrong, IsWrongFor, Lacks, NamesFile, NamesNoTool, StandsIn, IsLast}
 use Rattle.tool_words.specs.Tools.{letter_of, tool_named}

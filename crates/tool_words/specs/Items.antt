@@ -1,7 +1,7 @@
 -- What the words behind the tool's name say, one thing at a time, each with the index of the word
 -- in which it stands, as it is computed; Grammar.antt has the grammar, and a law ties the two.
 use Rattle.std.specs.Prelude.{ℕ, ◌+◌, ◌-◌, Bool, true, false, ◌==◌, List, [], ◌∷◌, ◌++◌, drop, if◌then◌else◌}
-use Rattle.label_base.specs.Path.{same_bytes}
+use Rattle.label_base.specs.Text.{same_bytes}
 use Rattle.tool_words.specs.Tools.{letter_of}
 use Rattle.tool_words.specs.declared.cutting.Ahead.{Ahead}
 use Rattle.tool_words.specs.declared.cutting.Expects.{Expects}

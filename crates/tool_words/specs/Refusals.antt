@@ -2,7 +2,7 @@
 use Rattle.std.specs.Prelude.{◌≡◌, ◌≢◌, ◌⊎◌, ⊤, ℕ, ◌+◌, ◌<◌, true, false, List, [], ◌∷◌, ◌++◌, length, Option, Some, None, Ok, slice_get}
 use Rattle.std.specs.List.{AllByRecursion}
 use Rattle.label_base.specs.Number.{number_of}
-use Rattle.label_base.specs.Path.{Path, path_read}
+use Rattle.file_paths.specs.Path.{Path, path_read}
 use Rattle.tool_words.specs.Items.{Item, items_of}
 use Rattle.tool_words.specs.Tools.{letter_of, tool_named}
 use Rattle.tool_words.specs.Values.{item_wrong, kind_named}

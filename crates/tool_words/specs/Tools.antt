@@ -2,7 +2,7 @@
 -- matchpathcon(8) have them; sample has none.
 use Rattle.std.specs.Prelude.{ℕ, Bool, ◌==◌, List, Option, Some, None, if◌then◌else◌}
 use Rattle.std.specs.List.{list_any}
-use Rattle.label_base.specs.Path.{same_bytes}
+use Rattle.label_base.specs.Text.{same_bytes}
 use Rattle.tool_words.specs.declared.letters.TheConstants.{BASE, LOOKUP_BASE}
 use Rattle.tool_words.specs.declared.tool.TheConstants.{SETFILES, RESTORECON, MATCHPATHCON, SAMPLE, SETFILES_FLAGS, SETFILES_VALUED, RESTORECON_FLAGS, RESTORECON_VALUED, MATCHPATHCON_FLAGS, MATCHPATHCON_VALUED, SAMPLE_LETTERS}
 use Rattle.tool_words.specs.declared.tool.Letter.{Letter}

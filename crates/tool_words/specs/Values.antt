@@ -4,11 +4,12 @@ use Rattle.std.specs.List.{filter_map}
 use Rattle.label_base.specs.Answers.{cause_of}
 use Rattle.label_base.specs.Lines.{first_of}
 use Rattle.label_base.specs.Number.{number_of}
-use Rattle.label_base.specs.Path.{Path, path_read, same_bytes}
+use Rattle.label_base.specs.Text.{same_bytes}
+use Rattle.file_paths.specs.Path.{Path, path_read}
 use Rattle.label_base.specs.declared.fault.Fault.{Fault}
 use Rattle.label_base.specs.declared.kind.EntryKind.{EntryKind}
 use Rattle.label_base.specs.declared.kind.EntryKind.TheVariants.{Regular, Directory, Link, Pipe, Socket, Block, Char}
-use Rattle.label_base.specs.declared.path_fault.PathWhy.{PathWhy}
+use Rattle.file_paths.specs.declared.path_fault.PathWhy.{PathWhy}
 use Rattle.tool_words.specs.Items.{Item}
 use Rattle.tool_words.specs.declared.item.Says.{Says}
 use Rattle.tool_words.specs.declared.item.Says.TheVariants.{Flag, Given, Operand, Wrong}

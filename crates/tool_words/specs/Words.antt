@@ -5,8 +5,8 @@ use Rattle.std.specs.List.{filter_map, last_or, list_any}
 use Rattle.std.specs.Option.{option_and_then, unwrap_or}
 use Rattle.std.specs.String.{string_bytes}
 use Rattle.std.specs.declared.alloc.Global.{Global}
-use Rattle.label_base.specs.Path.{Path, path_read}
-use Rattle.label_base.specs.declared.path_fault.PathWhy.{PathWhy}
+use Rattle.file_paths.specs.Path.{Path, path_read}
+use Rattle.file_paths.specs.declared.path_fault.PathWhy.{PathWhy}
 use Rattle.tree_model.specs.declared.options.Options.{Options}
 use Rattle.tree_model.specs.declared.selection.Choice.{Choice}
 use Rattle.tool_words.specs.Items.{Item, items_of}

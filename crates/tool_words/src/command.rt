@@ -1,4 +1,5 @@
-use label_base::{EntryKind, Name, NormPath, Row};
+use file_paths::NormPath;
+use label_base::{EntryKind, Name, Row};
 use tree_model::{Choice, Options};
 
 /// What setfiles(8) or restorecon(8) is asked for.

@@ -1,7 +1,7 @@
 ghost use Rattle.std.specs.Prelude.{◌≡◌, ◌++◌, ◌∷◌, ◌==◌, [], OnOk};
 ghost use Rattle.std.specs.List.{cons_option};
 ghost use Rattle.label_base.specs.Answers.{Answers, cause_of};
-ghost use Rattle.label_base.specs.Path.{path_read};
+ghost use Rattle.file_paths.specs.Path.{path_read};
 ghost use Rattle.tool_words.specs.Values.{Judges, first_wrong, item_wrong, path_wrong, says_wrong, value_wrong};
 ghost use Rattle.tool_words.specs.Words.{operands_of, paths_in, paths_of, text_if, unless_wrong, values_of};
 ghost use Rattle.tool_words.specs.declared.letters.TheConstants.{EXCLUDED};
@@ -10,7 +10,8 @@ use crate::item::{Item, Says};
 use crate::letters::EXCLUDED;
 use crate::usage::{Usage, UsageWhy};
 use crate::values::plain_value_wrong;
-use label_base::{Fault, NormPath, Row};
+use file_paths::NormPath;
+use label_base::{Fault, Row};
 use std::alloc::Global;
 
 /// The paths among what the words say.

@@ -2,7 +2,8 @@ use crate::command::{Command, LookupWords, RelabelWords};
 use crate::laws::{refused_where_wrong, words_follow_grammar};
 use crate::reading::read_words;
 use crate::usage::{Usage, UsageWhy};
-use label_base::{EntryKind, Fault, Name, NormPath, OutOfMemory, Row};
+use file_paths::NormPath;
+use label_base::{EntryKind, Fault, Name, OutOfMemory, Row};
 use std::alloc::Global;
 use std::test::Fail;
 

@@ -7,7 +7,8 @@ use Rattle.std.specs.declared.cmp.Ordering.{Ordering}
 use Rattle.std.specs.declared.cmp.Ordering.TheVariants.{Less, Equal, Greater}
 use Rattle.std.proofs.lemmas.Cmp.{tied_itself}
 use Rattle.tree_model.proofs.SameLemmas.{and_true}
-use Rattle.label_base.specs.Path.{Path, at_or_below, path_cmp, same_bytes}
+use Rattle.label_base.specs.Text.{same_bytes}
+use Rattle.file_paths.specs.Path.{Path, at_or_below, path_cmp}
 
 name_total : IsTotalOrder (slice_cmp nat_cmp)
 name_total = nat_list_cmp_total

@@ -6,7 +6,7 @@ use borrow.Author.Tests.{lt-ltb}
 use Rattle.std.specs.Ordering.{is_eq, ordering_reverse}
 use Rattle.std.specs.declared.cmp.Ordering.{Ordering}
 use Rattle.std.specs.declared.cmp.Ordering.TheVariants.{Less, Equal, Greater}
-use Rattle.label_base.specs.Path.{Path, at_or_below, path_cmp}
+use Rattle.file_paths.specs.Path.{Path, at_or_below, path_cmp}
 use Rattle.find_records.specs.Record.{Record}
 use Rattle.tree_model.specs.Extents.{EndsFrom, entry_at, extent_of}
 use Rattle.tree_model.specs.LiveLists.{IsCleared, IsClearedTo, IsFilled}

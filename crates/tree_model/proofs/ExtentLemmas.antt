@@ -6,7 +6,7 @@ use Rattle.std.proofs.lemmas.Bool.Decides.{nat_tests}
 use Rattle.std.specs.Prelude.{Option, Some, None, ◌&&◌, nat_le, nat_lt}
 use Rattle.std.specs.declared.cmp.Ordering.TheVariants.{Less}
 use Rattle.label_base.specs.Bounded.{greatest_below}
-use Rattle.label_base.specs.Path.{Path, path_cmp}
+use Rattle.file_paths.specs.Path.{Path, path_cmp}
 use Rattle.label_base.proofs.BoundedLemmas.{IsGreatest, greatest_is, greatest_told}
 use Rattle.find_records.specs.Record.{Record}
 use Rattle.tree_model.specs.Extents.{entry_at, extent_of, in_extent, one_behind}

@@ -9,7 +9,7 @@ use Rattle.std.specs.Ordering.{is_eq, is_lt}
 use Rattle.std.specs.declared.cmp.Ordering.{Ordering}
 use Rattle.std.specs.declared.cmp.Ordering.TheVariants.{Less, Equal, Greater}
 use Rattle.std.proofs.lemmas.List.Sums.{position_or_len_is}
-use Rattle.label_base.specs.Path.{Path, path_cmp}
+use Rattle.file_paths.specs.Path.{Path, path_cmp}
 use Rattle.find_records.specs.Places.{no_record}
 use Rattle.find_records.specs.Record.{Record}
 use Rattle.tree_model.specs.Extents.{entry_at}

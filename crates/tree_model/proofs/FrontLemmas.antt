@@ -7,7 +7,8 @@ use Rattle.std.specs.Cmp.{second_so}
 use Rattle.std.specs.Prelude.{Option, Some, None, is_some, ◌&&◌, nat_lt, if◌then◌else◌}
 use Rattle.std.specs.declared.cmp.Ordering.TheVariants.{Less}
 use Rattle.label_base.specs.Bounded.{greatest_below}
-use Rattle.label_base.specs.Path.{Path, at_or_below, path_cmp, same_bytes, strictly_below}
+use Rattle.label_base.specs.Text.{same_bytes}
+use Rattle.file_paths.specs.Path.{Path, at_or_below, path_cmp, strictly_below}
 use Rattle.label_base.proofs.BoundedLemmas.{greatest_agree, greatest_is, greatest_none}
 use Rattle.find_records.specs.Places.{no_record}
 use Rattle.find_records.specs.Record.{Record}

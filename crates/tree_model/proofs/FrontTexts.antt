@@ -4,9 +4,9 @@ use Rattle.std.proofs.Math.Seq.{take-append_seam}
 use Rattle.std.proofs.lemmas.List.Folds.{list_all-append}
 use Rattle.std.specs.Cmp.{first_so}
 use Rattle.std.specs.Prelude.{Some, slice_get}
-use Rattle.label_base.specs.Path.{Path, are_names, is_name, path_names, path_text, with_slashes}
-use Rattle.label_base.specs.PathText.{IsNormal}
-use Rattle.label_base.proofs.PathLemmas.{names_back, normal_of_names, text_pushed}
+use Rattle.file_paths.specs.Path.{Path, are_names, is_name, path_names, path_text, with_slashes}
+use Rattle.file_paths.specs.PathText.{IsNormal}
+use Rattle.file_paths.proofs.PathLemmas.{names_back, normal_of_names, text_pushed}
 use Rattle.tree_model.specs.Fronts.{IsOneBelow}
 
 -- a path is its names before the last, and that one

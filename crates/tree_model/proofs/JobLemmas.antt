@@ -9,7 +9,7 @@ use Rattle.std.proofs.lemmas.List.Elements.{filter-append}
 use Rattle.std.proofs.lemmas.List.Sums.{position_or_len_is}
 use Rattle.std.proofs.Math.Seq.{get_or-append_seam}
 use Rattle.label_base.specs.Bounded.{all_numbers}
-use Rattle.label_base.specs.Path.{strictly_below}
+use Rattle.file_paths.specs.Path.{strictly_below}
 use Rattle.label_base.proofs.BoundedLemmas.{IsGreatest, count_numbers, greatest_told}
 use Rattle.find_records.specs.Record.{Record}
 use Rattle.walk_steps.specs.Shaped.{IsValid}

@@ -8,7 +8,7 @@ use Rattle.std.proofs.lemmas.Bool.{cases_lt}
 use Rattle.std.proofs.lemmas.List.{ext_get_or, get_or-map, length-map}
 use Rattle.std.proofs.Math.ListN.{get_or-eq_default}
 use Rattle.label_base.specs.Bounded.{all_below, all_numbers, greatest_below, implies}
-use Rattle.label_base.specs.Path.{Path, path_cmp, at_or_below, strictly_below}
+use Rattle.file_paths.specs.Path.{Path, path_cmp, at_or_below, strictly_below}
 use Rattle.label_base.proofs.BoundedLemmas.{count_numbers}
 use Rattle.context_syntax.specs.declared.label.Label.{Label}
 use Rattle.context_syntax.specs.declared.label.Label.TheVariants.{Absent}

@@ -3,7 +3,7 @@ use Rattle.std.proofs.Common.{◌≡◌, ◌∙◌, ap, sym, refl, subst, ℕ, z
 use Rattle.std.proofs.lemmas.Bool.{cases_lt, le-leb, lt-ltb}
 use Rattle.std.specs.Prelude.{Option, Some, None, IfSome, ◌&&◌, nat_lt}
 use Rattle.std.specs.Cmp.{first_so, second_so}
-use Rattle.label_base.specs.Path.{strictly_below}
+use Rattle.file_paths.specs.Path.{strictly_below}
 use Rattle.label_base.proofs.BoundedLemmas.{IsGreatest, greatest_is, greatest_none, greatest_told}
 use Rattle.find_records.specs.Record.{Record}
 use Rattle.tree_model.specs.Extents.{EndsFrom, before, entry_at, extent_of, in_extent, is_above, is_directory, one_behind, parent_of}

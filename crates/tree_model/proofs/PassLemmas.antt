@@ -6,7 +6,7 @@ use Rattle.std.specs.Ordering.{is_eq, ordering_reverse}
 use Rattle.std.specs.declared.cmp.Ordering.{Ordering}
 use Rattle.std.specs.declared.cmp.Ordering.TheVariants.{Less, Equal, Greater}
 use Rattle.std.proofs.lemmas.List.{drop_more, length-map}
-use Rattle.label_base.specs.Path.{path_cmp}
+use Rattle.file_paths.specs.Path.{path_cmp}
 use Rattle.tree_model.specs.Numbered.{Numbered, place_of}
 use Rattle.tree_model.specs.Runs.{same_place, noted, passed, doubled_in}
 use Rattle.tree_model.proofs.SameLemmas.{same_path_is}

@@ -6,7 +6,8 @@ use Rattle.std.specs.Cmp.Lexicographic.{pointwise}
 use Rattle.std.specs.declared.cmp.Ordering.{Ordering}
 use Rattle.std.specs.declared.cmp.Ordering.TheVariants.{Less, Equal, Greater}
 use Rattle.label_base.specs.Kind.{same_kind}
-use Rattle.label_base.specs.Path.{Path, path_cmp, same_bytes}
+use Rattle.label_base.specs.Text.{same_bytes}
+use Rattle.file_paths.specs.Path.{Path, path_cmp}
 use Rattle.context_syntax.specs.Label.{same_label}
 use Rattle.find_records.specs.Record.{Record}
 

@@ -3,7 +3,7 @@
 use Rattle.std.specs.Prelude.{◌≡◌, ℕ, zero, suc, ◌+◌, ◌<◌, ◌≤◌, ◌==◌, nat_lt, Bool, ◌&&◌, List, length, get_or, Option, Some, None, if◌then◌else◌}
 use Rattle.label_base.specs.Bounded.{greatest_below}
 use Rattle.label_base.specs.Kind.{same_kind}
-use Rattle.label_base.specs.Path.{at_or_below, strictly_below}
+use Rattle.file_paths.specs.Path.{at_or_below, strictly_below}
 use Rattle.label_base.specs.declared.kind.EntryKind.TheVariants.{Directory}
 use Rattle.find_records.specs.Record.{Record}
 use Rattle.find_records.specs.Places.{no_record}

@@ -1,6 +1,6 @@
 -- A record that is known by its number.
 use Rattle.std.specs.Prelude.{◌≡◌, ℕ, ◌-◌, ◌≤◌, List, length, get_or}
-use Rattle.label_base.specs.Path.{Path}
+use Rattle.file_paths.specs.Path.{Path}
 use Rattle.find_records.specs.Record.{Record}
 use Rattle.tree_model.specs.Numbered.{Numbered}
 use Rattle.find_records.specs.Places.{no_record}

@@ -1,7 +1,7 @@
 -- A tree with other labels, one for each group.
 use Rattle.std.specs.Prelude.{◌≡◌, ℕ, Bool, List, length, map, get_or}
 use Rattle.label_base.specs.Bounded.{all_numbers}
-use Rattle.label_base.specs.Path.{Path}
+use Rattle.file_paths.specs.Path.{Path}
 use Rattle.context_syntax.specs.declared.label.Label.{Label}
 use Rattle.context_syntax.specs.declared.label.Label.TheVariants.{Absent}
 use Rattle.find_records.specs.Labelled.{with_label}

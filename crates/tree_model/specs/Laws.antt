@@ -1,7 +1,7 @@
 -- What groups and absent operands are, beside how they are computed.
 use Rattle.std.specs.Prelude.{◌≡◌, ◌↔◌, ℕ, ◌<◌, List, [], length, get_or, None}
 use Rattle.std.specs.List.{AllPairs, Contains}
-use Rattle.label_base.specs.Path.{Path}
+use Rattle.file_paths.specs.Path.{Path}
 use Rattle.find_records.specs.Record.{Record}
 use Rattle.tree_model.specs.Extents.{entry_at}
 use Rattle.tree_model.specs.Groups.{group_of, groups_in}

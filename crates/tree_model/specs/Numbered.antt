@@ -4,7 +4,7 @@ use Rattle.std.specs.Cmp.{IsTotalOrder, then_total, on_total, nat_cmp_total}
 use Rattle.std.specs.Cmp.Lexicographic.{lists_total, nat_list_cmp_total}
 use Rattle.std.specs.Ordering.{nat_cmp, then_cmp, on}
 use Rattle.std.specs.declared.cmp.Ordering.{Ordering}
-use Rattle.label_base.specs.Path.{path_cmp}
+use Rattle.file_paths.specs.Path.{path_cmp}
 use Rattle.find_records.specs.Record.{Record}
 
 pub record Numbered : Type 0 where

@@ -2,7 +2,7 @@
 use Rattle.std.specs.Prelude.{ℕ, suc, Bool, false, not, is_some, ◌==◌, ◌&&◌, ◌||◌, List, [], ◌∷◌, length, map, get_or, Option, Some, None, if◌then◌else◌}
 use Rattle.std.specs.List.{list_any}
 use Rattle.label_base.specs.Bounded.{all_below, all_numbers, implies}
-use Rattle.label_base.specs.Path.{Path, at_or_below}
+use Rattle.file_paths.specs.Path.{Path, at_or_below}
 use Rattle.find_records.specs.Record.{Record}
 use Rattle.tree_model.specs.Extents.{entry_at, in_extent}
 use Rattle.tree_model.specs.Groups.{closed_at}

@@ -2,7 +2,7 @@
 use Rattle.std.specs.Prelude.{◌≡◌, ℕ, ◌<◌, ◌≤◌, ◌^◌, Bool, List, length, get_or, Option, Some, None}
 use Rattle.std.specs.List.{AllPairs, position}
 use Rattle.std.specs.declared.cmp.Ordering.TheVariants.{Less}
-use Rattle.label_base.specs.Path.{Path, path_cmp}
+use Rattle.file_paths.specs.Path.{Path, path_cmp}
 use Rattle.find_records.specs.Places.{no_record}
 use Rattle.find_records.specs.Record.{Record}
 use Rattle.tree_model.specs.Entries.{same_path}

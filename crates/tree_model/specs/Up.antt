@@ -1,7 +1,7 @@
 -- Places whose records' paths rise strictly.
 use Rattle.std.specs.Prelude.{ℕ, Bool, true, ◌&&◌, nat_lt, List, [], ◌∷◌, length}
 use Rattle.std.specs.Ordering.{is_lt}
-use Rattle.label_base.specs.Path.{path_cmp}
+use Rattle.file_paths.specs.Path.{path_cmp}
 use Rattle.find_records.specs.Record.{Record}
 use Rattle.tree_model.specs.Extents.{entry_at}
 

@@ -1,11 +1,11 @@
 ghost use Rattle.std.specs.Prelude.{◌≡◌, ◌<◌, [], IfSome, MatchOption, length};
-ghost use Rattle.label_base.specs.PathRef.{path_of};
+ghost use Rattle.file_paths.specs.PathRef.{path_of};
 ghost use Rattle.tree_model.specs.Extents.{parent_of};
 ghost use Rattle.tree_model.specs.Fronts.{IsOneBelow, directory_in};
 ghost use Rattle.tree_model.specs.Tree.{ByPath};
 
 use crate::sorted::Sorted;
-use label_base::PathRef;
+use file_paths::PathRef;
 
 // The path without its last name; above `/` there is none.
 fn above<'a>(path: &PathRef<'a>) -> Option<PathRef<'a>>

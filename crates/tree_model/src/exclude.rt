@@ -1,13 +1,13 @@
 ghost use Rattle.std.specs.Prelude.{◌≡◌, ◌&&◌, ◌<◌, nat_lt, length};
-ghost use Rattle.label_base.specs.Path.{at_or_below};
-ghost use Rattle.label_base.specs.PathRef.{path_of};
+ghost use Rattle.file_paths.specs.Path.{at_or_below};
+ghost use Rattle.file_paths.specs.PathRef.{path_of};
 ghost use Rattle.tree_model.specs.Extents.{EndsFrom, entry_at};
 ghost use Rattle.tree_model.specs.LiveLists.{IsCleared};
 ghost use Rattle.tree_model.specs.Tree.{ByPath};
 
 use crate::marks::fill;
 use crate::sorted::Sorted;
-use label_base::PathRef;
+use file_paths::PathRef;
 
 // Whether the index is an entry's, and that entry is at or below a path.
 #[tactic(auto, using(crate::proofs::KnownLemmas::entry_is))]

@@ -1,8 +1,9 @@
 //! The order that is likely: that of find(1), with the names in each directory sorted. Nothing is claimed
 //! of it, since what it gives is tested.
 
+use file_paths::PathKey;
 use find_records::Records;
-use label_base::{OutOfMemory, PathKey};
+use label_base::OutOfMemory;
 use std::alloc::Global;
 
 // No place.

@@ -1,5 +1,5 @@
 ghost use Rattle.std.specs.Prelude.{List};
-ghost use Rattle.label_base.specs.Path.{Path};
+ghost use Rattle.file_paths.specs.Path.{Path};
 ghost use Rattle.find_records.specs.Record.{Record};
 ghost use Rattle.tree_model.specs.Laws.{AreAbsent, GroupsAreInodes};
 ghost use Rattle.tree_model.specs.Selection.{absent_from};

@@ -6,8 +6,8 @@ ghost use Rattle.tree_model.specs.Runs.{same_place};
 ghost use Rattle.find_records.specs.Entry.{entry_of};
 ghost use Rattle.tree_model.specs.Known.{with_number};
 
+use file_paths::PathKey;
 use find_records::{Entry, Records};
-use label_base::PathKey;
 use std::cmp::Ordering;
 use std::marker::Model;
 

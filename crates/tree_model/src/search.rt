@@ -1,10 +1,10 @@
 ghost use Rattle.std.specs.Prelude.{◌≡◌, ◌<◌, ◌-◌, length};
-ghost use Rattle.label_base.specs.PathRef.{path_of};
+ghost use Rattle.file_paths.specs.PathRef.{path_of};
 ghost use Rattle.tree_model.specs.Search.{IsBetween, is_before, stands_at};
 ghost use Rattle.tree_model.specs.Tree.{ByPath, IsFrom};
 
+use file_paths::PathRef;
 use find_records::Records;
-use label_base::PathRef;
 
 // Whether the path of an entry is before this one.
 #[tactic(auto, using(crate::proofs::KnownLemmas::entry_is))]

@@ -9,7 +9,8 @@ use crate::exclude::clear_below;
 use crate::marks::all_dead;
 use crate::sorted::Sorted;
 use crate::tree::Tree;
-use label_base::{NormPath, OutOfMemory, Row};
+use file_paths::NormPath;
+use label_base::{OutOfMemory, Row};
 use std::alloc::Global;
 use std::marker::Model;
 

@@ -1,7 +1,7 @@
 ghost use Rattle.std.specs.Prelude.{◌≡◌, ◌↔◌, ◌<◌, ◌^◌, ◌-◌, IfOk, Some, length, slice_get};
 ghost use Rattle.std.specs.List.{Contains};
 ghost use Rattle.label_base.specs.Answers.{Answers};
-ghost use Rattle.label_base.specs.PathRef.{path_of};
+ghost use Rattle.file_paths.specs.PathRef.{path_of};
 ghost use Rattle.find_records.specs.Entry.{entry_of};
 ghost use Rattle.find_records.specs.Record.{Record};
 ghost use Rattle.find_records.specs.Labelled.{with_labels};
@@ -14,8 +14,9 @@ use crate::building::put_in_order;
 use crate::fault::TreeFault;
 use crate::search::{first_from, stands_at};
 use context_syntax::Label;
+use file_paths::PathRef;
 use find_records::{Entry, Records};
-use label_base::{EntryKind, OutOfMemory, PathRef, Row};
+use label_base::{EntryKind, OutOfMemory, Row};
 use std::alloc::Global;
 use std::marker::Model;
 

@@ -1,7 +1,8 @@
 use crate::{Choice, Tree, TreeFault, absent_have_no_entry, groups_are_inodes};
 use context_syntax::Label;
+use file_paths::NormPath;
 use find_records::{Records, Told};
-use label_base::{EntryKind, NormPath, Row};
+use label_base::{EntryKind, Row};
 use std::alloc::Global;
 use std::test::Fail;
 

@@ -1,7 +1,7 @@
 use Rattle.std.proofs.Common.{◌+◌, ◌∙◌, arith, rules}
 use Rattle.std.proofs.lemmas.Result.{err_from_is_err_and}
 use Rattle.std.proofs.lemmas.List.{length-take}
-use Rattle.label_base.proofs.Known.{Consumes-then, Consumes-keeps}
+use Rattle.input_output.proofs.Known.{Consumes-then, Consumes-keeps}
 use Rattle.find_records.proofs.Taking.{counts_end, taken_more, taken_nothing, told_end, told_fault, told_long, told_want}
 use Rattle.find_records.proofs.reading.read_records.Goals as goal
 

@@ -1,5 +1,5 @@
 use Rattle.std.proofs.Common.{arith}
-use Rattle.label_base.specs.PathRef.{normal_text}
+use Rattle.file_paths.specs.PathRef.{normal_text}
 use Rattle.find_records.proofs.RowLemmas.{told_is, told_within}
 use Rattle.find_records.proofs.records.row_of.Goals as goal
 

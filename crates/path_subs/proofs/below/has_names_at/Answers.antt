@@ -1,5 +1,5 @@
 use Rattle.std.proofs.Common.{◌∙◌, sym, arith}
-use Rattle.label_base.specs.PathRef.{path_of}
+use Rattle.file_paths.specs.PathRef.{path_of}
 use Rattle.path_subs.proofs.NamesAt.{other_name, same_name}
 use Rattle.path_subs.proofs.below.has_names_at.Goals as goal
 

@@ -1,7 +1,7 @@
 use Rattle.std.proofs.Common.{◌≡◌, ◌≤◌, length, drop}
 use Rattle.std.specs.List.{starts_with}
-use Rattle.label_base.specs.Path.{same_bytes}
-use Rattle.label_base.specs.PathRef.{path_of}
+use Rattle.label_base.specs.Text.{same_bytes}
+use Rattle.file_paths.specs.PathRef.{path_of}
 use Rattle.path_subs.proofs.below.has_names_at.Given as goal
 
 -- the names so far are the same

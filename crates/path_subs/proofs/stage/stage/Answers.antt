@@ -1,6 +1,6 @@
 use Rattle.std.proofs.Common.{◌∙◌, ap}
 use Rattle.std.specs.Prelude.{is_some}
-use Rattle.label_base.specs.PathRef.{path_of}
+use Rattle.file_paths.specs.PathRef.{path_of}
 use Rattle.path_subs.proofs.Covering.{is_some_covering}
 use Rattle.path_subs.proofs.stage.stage.Goals as goal
 

@@ -1,6 +1,6 @@
 use Rattle.std.proofs.Common.{◌<◌, ◌+◌, ◌∙◌, ap, sym, refl, length, take, arith}
 use Rattle.std.proofs.lemmas.List.{length-take-le}
-use Rattle.label_base.specs.PathRef.{path_of}
+use Rattle.file_paths.specs.PathRef.{path_of}
 use Rattle.path_subs.proofs.ListedLemmas.{end_next, end_within, found_all, found_next, found_none, front_is}
 use Rattle.path_subs.proofs.sub_list.last_covering.Goals as goal
 

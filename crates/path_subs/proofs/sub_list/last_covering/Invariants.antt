@@ -1,7 +1,7 @@
 use Rattle.std.proofs.Common.{◌≡◌, List, length, take}
 use Rattle.label_base.specs.Bounded.{greatest_below}
-use Rattle.label_base.specs.Path.{with_slashes}
-use Rattle.label_base.specs.PathRef.{path_of}
+use Rattle.file_paths.specs.Path.{with_slashes}
+use Rattle.file_paths.specs.PathRef.{path_of}
 use Rattle.path_subs.specs.Listed.{IsListed, covers_to, sub_at}
 use Rattle.path_subs.specs.Subs.{SubValue}
 use Rattle.path_subs.proofs.sub_list.last_covering.Given as goal

@@ -2,7 +2,8 @@ use Rattle.std.proofs.Common.{◌≡◌, ◌∙◌, ap, refl, cond}
 use Rattle.std.specs.Prelude.{Some}
 use Rattle.indexmap.specs.IndexMap.{insert_entry}
 use Rattle.label_base.specs.NumberUnder.{number_under}
-use Rattle.label_base.specs.Path.{path_text, same_bytes, with_slashes}
+use Rattle.label_base.specs.Text.{same_bytes}
+use Rattle.file_paths.specs.Path.{path_text, with_slashes}
 use Rattle.label_base.proofs.UnderLemmas.{under_more}
 use Rattle.path_subs.specs.Listed.{has_text}
 use Rattle.path_subs.proofs.ListedLemmas.{nonroot_text}

@@ -1,7 +1,7 @@
 use Rattle.std.proofs.Common.{◌∙◌, sym}
 use Rattle.std.specs.Prelude.{option_map}
 use Rattle.std.specs.Option.{option_copied}
-use Rattle.label_base.specs.PathRef.{path_of}
+use Rattle.file_paths.specs.PathRef.{path_of}
 use Rattle.context_syntax.specs.ContextRef.{context_lent}
 use Rattle.relabel_core.proofs.DumpLemmas.{none_written, whole_written}
 use Rattle.relabel_core.proofs.dump.add_section_of.Goals as goal

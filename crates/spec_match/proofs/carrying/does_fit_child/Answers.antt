@@ -1,5 +1,5 @@
 use Rattle.std.proofs.Common.{◌∷◌, ◌++◌, [], refl, sym}
-use Rattle.label_base.specs.Path.{path_text}
+use Rattle.file_paths.specs.Path.{path_text}
 use Rattle.spec_match.proofs.AnswerLemmas.{dead_fits}
 use Rattle.spec_match.proofs.carrying.does_fit_child.Goals as goal
 

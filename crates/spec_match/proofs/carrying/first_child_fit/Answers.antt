@@ -1,5 +1,5 @@
 use Rattle.std.proofs.Common.{◌<◌, ◌∙◌, ◌∷◌, ◌++◌, [], Some, add-one, ap, arith, get_or, length, map, subst, sym}
-use Rattle.label_base.specs.Path.{path_text}
+use Rattle.file_paths.specs.Path.{path_text}
 use Rattle.pattern_match.specs.States.{StandsFor}
 use Rattle.spec_match.specs.Alive.{no_alive}
 use Rattle.spec_match.specs.Remembering.{IsAnswer}

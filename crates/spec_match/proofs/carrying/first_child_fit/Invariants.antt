@@ -1,5 +1,5 @@
 use Rattle.std.proofs.Common.{◌∷◌, ◌++◌, []}
-use Rattle.label_base.specs.Path.{Path, path_text}
+use Rattle.file_paths.specs.Path.{Path, path_text}
 use Rattle.spec_match.specs.StatesFor.{AreStatesFor, patterns_of}
 use Rattle.spec_match.proofs.AnswerLemmas.{IsPassed}
 use Rattle.spec_match.specs.Relevant.{is_root_path}

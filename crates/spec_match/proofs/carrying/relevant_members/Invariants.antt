@@ -1,5 +1,5 @@
 use Rattle.std.proofs.Common.{◌≤◌, length}
-use Rattle.label_base.specs.Path.{Path}
+use Rattle.file_paths.specs.Path.{Path}
 use Rattle.spec_match.specs.Carrying.{IsAliveAt}
 use Rattle.spec_match.proofs.RelevantLemmas.{IsTried, low_at}
 use Rattle.spec_match.proofs.carrying.relevant_members.Given as goal

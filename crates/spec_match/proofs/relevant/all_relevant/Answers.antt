@@ -1,5 +1,5 @@
 use Rattle.std.proofs.Common.{arith, subst, sym}
-use Rattle.label_base.specs.PathRef.{path_of}
+use Rattle.file_paths.specs.PathRef.{path_of}
 use Rattle.spec_match.proofs.RelevantLemmas.{IsTried, all_tried, none_tried, tried_on}
 use Rattle.spec_match.proofs.ScratchLemmas.{states_own, states_set}
 use Rattle.spec_match.proofs.relevant.all_relevant.Goals as goal

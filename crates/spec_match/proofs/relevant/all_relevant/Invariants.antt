@@ -1,4 +1,4 @@
-use Rattle.label_base.specs.PathRef.{path_of}
+use Rattle.file_paths.specs.PathRef.{path_of}
 use Rattle.spec_match.specs.StatesFor.{AreStatesFor, patterns_of}
 use Rattle.spec_match.proofs.RelevantLemmas.{IsTried}
 use Rattle.spec_match.proofs.relevant.all_relevant.Given as goal

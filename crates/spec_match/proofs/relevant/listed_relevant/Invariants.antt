@@ -1,5 +1,5 @@
 use Rattle.std.proofs.Common.{◌≡◌, ◌≤◌, length}
-use Rattle.label_base.specs.Path.{Path, path_text}
+use Rattle.file_paths.specs.Path.{Path, path_text}
 use Rattle.spec_match.specs.Alive.{AreAlive, list_of}
 use Rattle.spec_match.specs.Relevant.{is_root_path}
 use Rattle.spec_match.specs.StatesFor.{AreStatesFor, patterns_of}

@@ -1,5 +1,5 @@
 use Rattle.std.proofs.Common.{sym, subst, arith}
-use Rattle.label_base.specs.PathRef.{path_of}
+use Rattle.file_paths.specs.PathRef.{path_of}
 use Rattle.tree_model.specs.Fronts.{IsOneBelow}
 use Rattle.tree_model.proofs.FrontTexts.{HasFront, has_front}
 use Rattle.tree_model.proofs.above.above.Goals as goal

@@ -1,6 +1,6 @@
 use Rattle.std.proofs.Common.{◌≡◌, ◌∙◌, ◌<◌, sym, subst}
 use Rattle.std.specs.Prelude.{IfSome}
-use Rattle.label_base.specs.PathRef.{path_of}
+use Rattle.file_paths.specs.PathRef.{path_of}
 use Rattle.tree_model.specs.Extents.{parent_of}
 use Rattle.tree_model.specs.Fronts.{IsOneBelow}
 use Rattle.tree_model.proofs.FrontLemmas.{above_none, search_ends, search_goes_on}

@@ -1,5 +1,5 @@
 use Rattle.std.proofs.Common.{◌≡◌, length}
-use Rattle.label_base.specs.PathRef.{path_of}
+use Rattle.file_paths.specs.PathRef.{path_of}
 use Rattle.tree_model.specs.Extents.{parent_of}
 use Rattle.tree_model.proofs.FrontLemmas.{nearest_above}
 use Rattle.tree_model.proofs.above.parent_by_path.Given as goal

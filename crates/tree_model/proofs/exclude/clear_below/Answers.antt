@@ -1,5 +1,5 @@
 use Rattle.std.proofs.Common.{◌∙◌, refl, sym, arith}
-use Rattle.label_base.specs.PathRef.{path_of}
+use Rattle.file_paths.specs.PathRef.{path_of}
 use Rattle.tree_model.proofs.ExcludeLemmas.{under_all, under_more, under_none, under_step, under_upto, under_within}
 use Rattle.tree_model.proofs.exclude.clear_below.Goals as goal
 

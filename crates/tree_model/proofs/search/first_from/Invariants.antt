@@ -1,5 +1,5 @@
 use Rattle.std.proofs.Common.{◌-◌}
-use Rattle.label_base.specs.PathRef.{path_of}
+use Rattle.file_paths.specs.PathRef.{path_of}
 use Rattle.tree_model.specs.Search.{IsBetween}
 use Rattle.tree_model.proofs.search.first_from.Given as goal
 

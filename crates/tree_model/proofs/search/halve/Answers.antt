@@ -1,5 +1,5 @@
 use Rattle.std.proofs.Common.{sym, arith}
-use Rattle.label_base.specs.PathRef.{path_of}
+use Rattle.file_paths.specs.PathRef.{path_of}
 use Rattle.tree_model.proofs.FindLemmas.{between_above, between_below}
 use Rattle.tree_model.proofs.search.halve.Goals as goal
 

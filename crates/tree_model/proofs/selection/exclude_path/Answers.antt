@@ -1,7 +1,7 @@
 use Rattle.std.proofs.Common.{◌∙◌, ◌+◌, ap, sym, length, take}
 use Rattle.std.specs.Prelude.{◌&&◌, not}
-use Rattle.label_base.specs.Path.{at_or_below}
-use Rattle.label_base.specs.PathRef.{path_of}
+use Rattle.file_paths.specs.Path.{at_or_below}
+use Rattle.file_paths.specs.PathRef.{path_of}
 use Rattle.tree_model.specs.Extents.{entry_at}
 use Rattle.tree_model.specs.Selection.{is_admitted, is_excluded}
 use Rattle.tree_model.proofs.SelectLemmas.{excluded_more, flags_cleared}

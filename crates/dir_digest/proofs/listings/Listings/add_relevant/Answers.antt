@@ -1,5 +1,5 @@
 use Rattle.std.proofs.Common.{rules, ◌≡◌, ◌∙◌, ◌++◌, subst, OnOk, true, false}
-use Rattle.label_base.specs.PathRef.{path_of}
+use Rattle.file_paths.specs.PathRef.{path_of}
 use Rattle.path_subs.specs.Subs.{plain}
 use Rattle.dir_digest.specs.Listings.{terms_in}
 use Rattle.dir_digest.proofs.SpelledLemmas.{all_relevant, found_relevant}

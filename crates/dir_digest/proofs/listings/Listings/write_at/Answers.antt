@@ -1,5 +1,5 @@
 use Rattle.std.proofs.Common.{rules}
-use Rattle.label_base.specs.PathRef.{path_of}
+use Rattle.file_paths.specs.PathRef.{path_of}
 use Rattle.dir_digest.specs.Listings.{terms_in}
 use Rattle.dir_digest.proofs.SpelledLemmas.{listing_pieces}
 use Rattle.dir_digest.proofs.listings.Listings.write_at.Goals as goal

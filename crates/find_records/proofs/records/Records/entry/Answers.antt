@@ -1,5 +1,5 @@
 use Rattle.std.proofs.Common.{◌≡◌, ◌∙◌, ap, sym, subst}
-use Rattle.label_base.specs.PathText.{IsNormal}
+use Rattle.file_paths.specs.PathText.{IsNormal}
 use Rattle.find_records.specs.Marks.{mark_of}
 use Rattle.find_records.specs.Rows.{text_in}
 use Rattle.find_records.proofs.RowLemmas.{entry_is, row_read, within_at}

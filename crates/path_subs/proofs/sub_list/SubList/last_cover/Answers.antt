@@ -1,6 +1,6 @@
 use Rattle.std.proofs.Common.{◌≡◌, ◌∙◌, ap, sym}
 use Rattle.std.specs.Prelude.{None, Some}
-use Rattle.label_base.specs.PathRef.{path_of}
+use Rattle.file_paths.specs.PathRef.{path_of}
 use Rattle.path_subs.specs.Listed.{last_covering}
 use Rattle.path_subs.specs.Subs.{covering}
 use Rattle.path_subs.proofs.ListedLemmas.{covered_by, covering_none, covering_some, index_within}

@@ -1,5 +1,5 @@
 use Rattle.std.proofs.Common.{◌≡◌, ◌∙◌, ◌∷◌, ◌++◌, [], map, subst, sym}
-use Rattle.label_base.specs.Path.{path_text}
+use Rattle.file_paths.specs.Path.{path_text}
 use Rattle.spec_match.specs.Carrying.{Carrying, IsCarriedOf, StandsAt}
 use Rattle.spec_match.specs.Remembering.{IsAnswer}
 use Rattle.spec_match.specs.Scratches.{IsScratchOf}

@@ -1,6 +1,6 @@
 use Rattle.std.proofs.Common.{refl, subst, sym, []}
 use Rattle.pattern_syntax.specs.Language.{Opens}
-use Rattle.label_base.specs.PathRef.{path_of}
+use Rattle.file_paths.specs.PathRef.{path_of}
 use Rattle.spec_match.proofs.RelevantLemmas.{dead_decides}
 use Rattle.spec_match.proofs.rule.Rule.can_decide.Goals as goal
 

@@ -1,5 +1,5 @@
 use Rattle.std.proofs.Common.{refl, sym, false, true, ◌∙◌}
-use Rattle.label_base.specs.Path.{path_text}
+use Rattle.file_paths.specs.Path.{path_text}
 use Rattle.pattern_match.proofs.Quotients.{below_test}
 use Rattle.pattern_match.proofs.Reading.{root_below, accepted_below, below_by}
 use Rattle.spec_match.proofs.RelevantLemmas.{accepts_tells, no_names, some_names}

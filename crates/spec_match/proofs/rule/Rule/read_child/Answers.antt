@@ -1,5 +1,5 @@
 use Rattle.std.proofs.Common.{◌∙◌, subst, sym}
-use Rattle.label_base.specs.Path.{path_text}
+use Rattle.file_paths.specs.Path.{path_text}
 use Rattle.pattern_match.specs.States.{StandsFor}
 use Rattle.pattern_syntax.specs.Language.{Opens}
 use Rattle.spec_match.proofs.CarryLemmas.{other_child, root_child}

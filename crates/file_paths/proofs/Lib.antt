@@ -1,0 +1,5 @@
+pub mod PathLemmas
+pub mod PathTexts
+pub mod PathMoves
+pub mod PathFronts
+pub mod PathLengths

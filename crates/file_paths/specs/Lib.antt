@@ -1,0 +1,4 @@
+pub mod Path
+pub mod PathFront
+pub mod PathRef
+pub mod PathText

@@ -1,0 +1,4 @@
+pub mod Reading
+pub mod Sink
+pub mod Source
+pub mod Store

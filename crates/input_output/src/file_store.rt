@@ -1,0 +1,158 @@
+ghost use Rattle.std.specs.Prelude.{◌≡◌, ◌⊎◌, ◌≤◌, ◌-◌, ◌<◌, ◌↔◌, ◌≢◌, IfOk, None, length, min};
+
+use crate::reading::{AllFault, read_all};
+use crate::sink::{WriteSink, write_all};
+use crate::source::ReadSource;
+use crate::store::{FileFault, SaveFault, Store};
+use label_base::Bytes;
+use std::alloc::Global;
+use std::fs;
+use std::fs::Files;
+use std::io::ErrorKind;
+use std::marker::Model;
+
+/// The files of the system. It tells no content, and counts each call that fails.
+///
+/// A name is a path as open(2) takes it. `NotThere` is the system's "no such file or directory" (ENOENT)
+/// and "file name too long" (ENAMETOOLONG), since no such file can exist. A read takes at most one byte
+/// more than its limit. A write makes the file anew, or shortens it to nothing first, so a write that
+/// fails may leave a part of the bytes.
+#[derive(Drop)]
+pub struct FileStore<'r, R> {
+    system: &'r R,
+    read_faults: u64,
+    write_faults: u64,
+}
+
+impl<'r, R> Model for FileStore<'r, R> {
+    ghost use Rattle.input_output.specs.Store.{StoreFaults};
+
+    ghost Value = { StoreFaults };
+
+    ghost view = { λ s. record { read_faults = s.read_faults; write_faults = s.write_faults } };
+}
+
+impl<'r, R: Files> FileStore<'r, R> {
+    /// A store that has not failed. Contracts see it as its counts of faults.
+    pub fn new(system: &'r R) -> FileStore<'r, R>
+        ensures { result ≡ record { read_faults = 0; write_faults = 0 } }
+    {
+        FileStore {
+            system,
+            read_faults: 0,
+            write_faults: 0,
+        }
+    }
+}
+
+// What a file's content is, or why there is none; `Failed` for every error but those with a name.
+fn content_of<R: Files>(
+    system: &R,
+    alloc: Global,
+    name: &str,
+    limit: usize,
+) -> Result<Bytes, FileFault>
+    ensures { IfOk result (λ bytes. length bytes ≤ limit) }
+{
+    let file = match fs::open(system, name) {
+        Ok(file) => file,
+        Err(error) => return Err(fault_of(error.kind())),
+    };
+    match read_all(alloc, &mut ReadSource::new(file), limit.min(usize::MAX - 1)) {
+        Ok(bytes) => Ok(bytes),
+        Err(AllFault::ReadFault) => Err(FileFault::Failed),
+        Err(AllFault::TooLong) => Err(FileFault::TooLong),
+        Err(AllFault::OutOfMemory) => Err(FileFault::OutOfMemory),
+    }
+}
+
+// Only "no such file or directory" and "file name too long" say that there is no file.
+fn fault_of(kind: ErrorKind) -> FileFault
+    ensures absent { (result ≡ FileFault.NotThere)
+        ↔ (kind ≡ ErrorKind.NotFound ⊎ kind ≡ ErrorKind.InvalidFilename) }
+    ensures opened { result ≢ FileFault.TooLong }
+{
+    match kind {
+        ErrorKind::NotFound | ErrorKind::InvalidFilename => FileFault::NotThere,
+        ErrorKind::OutOfMemory => FileFault::OutOfMemory,
+        _ => FileFault::Failed,
+    }
+}
+
+fn save<R: Files>(system: &R, name: &str, bytes: &[u8]) -> Result<(), SaveFault> {
+    match fs::create(system, name) {
+        Ok(file) => match write_all(&mut WriteSink::new(file), bytes) {
+            Ok(()) => Ok(()),
+            Err(_) => Err(SaveFault::Failed),
+        },
+        Err(error) => match error.kind() {
+            ErrorKind::OutOfMemory => Err(SaveFault::OutOfMemory),
+            _ => Err(SaveFault::Failed),
+        },
+    }
+}
+
+impl<'r, R: Files> Store for FileStore<'r, R> {
+    ghost files = { λ _. None };
+
+    ghost read_faults = { λ s. s.read_faults };
+
+    ghost write_faults = { λ s. s.write_faults };
+
+    fn read_file(&mut self, alloc: Global, name: &str, limit: usize) -> Result<Bytes, FileFault> {
+        let answer = content_of(self.system, alloc, name, limit);
+        if let Err(FileFault::Failed) = &answer {
+            self.read_faults = self.read_faults.saturating_add(1);
+        }
+        answer
+    }
+
+    fn write_file(&mut self, _alloc: Global, name: &str, bytes: &[u8]) -> Result<(), SaveFault> {
+        let answer = save(self.system, name, bytes);
+        if let Err(SaveFault::Failed) = &answer {
+            self.write_faults = self.write_faults.saturating_add(1);
+        }
+        answer
+    }
+}
+
+#[cfg(test)]
+mod tests {
+    use super::*;
+    use std::test::Fail;
+    use std::{env, process};
+
+    #[test]
+    fn a_file_of_the_system_is_written_and_read(rt: HostRuntime) -> Result<(), Fail> {
+        let id = process::id(rt.process());
+        let name = format!(in rt.alloc(); "label_base-{id}")?;
+        let path = env::temp_dir(&rt)?.join(rt.alloc(), name.as_str())?;
+        let mut store = FileStore::new(&rt);
+        store.write_file(rt.alloc(), path.as_str(), b"one and two")?;
+        store.write_file(rt.alloc(), path.as_str(), b"three")?;
+        let read = store.read_file(rt.alloc(), path.as_str(), 5);
+        let long = store.read_file(rt.alloc(), path.as_str(), 4).err();
+        fs::remove_file(&rt, path.as_str())?;
+        assert_eq!(rt; read?.as_slice(), b"three".as_slice());
+        assert_eq!(rt; long, Some(FileFault::TooLong));
+        Ok(())
+    }
+
+    #[test]
+    fn a_file_that_is_not_there(rt: HostRuntime) {
+        let mut store = FileStore::new(&rt);
+        let absent = store.read_file(rt.alloc(), "/dev/no such file", 9).err();
+        assert_eq!(rt; absent, Some(FileFault::NotThere));
+        let below_none = store.read_file(rt.alloc(), "/dev/null/a", 9).err();
+        assert_eq!(rt; below_none, Some(FileFault::Failed));
+    }
+
+    #[test]
+    fn no_file_has_so_long_a_name(rt: HostRuntime) -> Result<(), Fail> {
+        let name = "a".repeat(rt.alloc(), 5000)?;
+        let mut store = FileStore::new(&rt);
+        let absent = store.read_file(rt.alloc(), name.as_str(), 9).err();
+        assert_eq!(rt; absent, Some(FileFault::NotThere));
+        Ok(())
+    }
+}

@@ -1,0 +1,115 @@
+ghost use Rattle.std.specs.Prelude.{◌≡◌, ◌≤◌, ◌<◌, OnOk, OnErr, List, ℕ, Option, None, length};
+ghost use Rattle.std.specs.Io.KnownBytes.{Appends};
+ghost use Rattle.input_output.specs.Sink.{Puts, PutCounts, AppendsFront};
+ghost use Rattle.input_output.specs.Source.{Rose};
+
+use std::io::Write;
+use std::marker::Model;
+
+/// The answer of a sink.
+#[derive(Clone, Copy, Debug, PartialEq, Eq)]
+pub enum Put {
+    /// So many bytes were taken from the front, at least one.
+    Took(usize),
+    /// The call failed, and took nothing.
+    Failed,
+}
+
+/// What takes bytes in pieces, as write(2) does.
+pub trait Sink {
+    /// The bytes that it has taken, where it tells them.
+    ghost written: { Self → Option (List ℕ) };
+
+    /// How often it has failed. The count never falls, and stands still at its last value.
+    ghost faults: { Self → ℕ };
+
+    /// Takes some bytes from the front.
+    fn write(&mut self, bytes: &[u8]) -> Put
+        requires { 0 < length bytes.now }
+        ensures put { Puts (written self.old) (written self.new) result bytes.now }
+        ensures counts { PutCounts (faults self.old) (faults self.new) result };
+}
+
+/// A sink failed.
+#[derive(Clone, Copy, Debug, PartialEq, Eq)]
+pub struct WriteFailed;
+
+/// Writes all of the bytes. After a failure some front of them was written.
+pub fn write_all<O: Sink>(out: &mut O, bytes: &[u8]) -> Result<(), WriteFailed>
+    ensures ok { OnOk result (Appends (O.written out.old) (O.written out.new) bytes.now) }
+    ensures calm { OnOk result (O.faults out.new ≡ O.faults out.old) }
+    ensures err { OnErr result (AppendsFront (O.written out.old) (O.written out.new) bytes.now) }
+    ensures rose { OnErr result (Rose (O.faults out.old) (O.faults out.new)) }
+    ensures later { O.faults out.old ≤ O.faults out.new }
+{
+    let mut done = 0;
+    while done < bytes.len() {
+        match out.write(&bytes[done..]) {
+            Put::Took(count) => done += count,
+            Put::Failed => return Err(WriteFailed),
+        }
+    }
+    Ok(())
+}
+
+/// A sink over any writer. It tells no content, and counts each error and each write of no bytes.
+#[derive(Drop)]
+pub struct WriteSink<W> {
+    inner: W,
+    faults: u64,
+}
+
+impl<W> Model for WriteSink<W> {
+    ghost use Rattle.std.specs.Prelude.{ℕ};
+
+    ghost Value = { ℕ };
+
+    ghost view = { λ s. s.faults };
+}
+
+impl<W: Write> WriteSink<W> {
+    /// A sink that has not failed. Contracts see it as its count of faults.
+    pub fn new(inner: W) -> WriteSink<W>
+        ensures { result ≡ 0 }
+    {
+        WriteSink { inner, faults: 0 }
+    }
+}
+
+impl<W: Write> Sink for WriteSink<W> {
+    ghost written = { λ _. None };
+
+    ghost faults = { λ count. count };
+
+    fn write(&mut self, bytes: &[u8]) -> Put {
+        match self.inner.write(bytes) {
+            Ok(0) | Err(_) => {
+                self.faults = self.faults.saturating_add(1);
+                Put::Failed
+            }
+            Ok(count) => Put::Took(count),
+        }
+    }
+}
+
+#[cfg(test)]
+mod tests {
+    use super::*;
+
+    #[test]
+    fn a_writer_is_a_sink(rt: HostRuntime) {
+        let mut written = Vec::new(rt.alloc());
+        assert_eq!(rt;
+            write_all(&mut WriteSink::new(&mut written), b"abc"),
+            Ok(())
+        );
+        assert_eq!(rt; written.as_slice(), b"abc".as_slice());
+    }
+
+    #[test]
+    fn a_write_of_no_bytes_is_a_failure(rt: HostRuntime) {
+        let mut room = [0; 2];
+        let full = write_all(&mut WriteSink::new(room.as_mut_slice()), b"abc");
+        assert_eq!(rt; full, Err(WriteFailed));
+    }
+}

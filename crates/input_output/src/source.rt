@@ -1,0 +1,91 @@
+ghost use Rattle.std.specs.Prelude.{◌≡◌, ◌<◌, List, ℕ, Option, None, length};
+ghost use Rattle.input_output.specs.Source.{Takes, TakeCounts};
+
+use std::io::Read;
+use std::marker::Model;
+
+/// A count of faults stands still at this value.
+pub const LAST_COUNT: u64 = u64::MAX;
+
+/// The answer of a source.
+#[derive(Clone, Copy, Debug, PartialEq, Eq)]
+pub enum Take {
+    /// So many bytes stand at the front of the buffer, at least one.
+    Got(usize),
+    /// Nothing is left.
+    End,
+    /// The call failed, and took nothing.
+    Failed,
+}
+
+/// What gives bytes in pieces, as read(2) does.
+pub trait Source {
+    /// The bytes that it has left, where it tells them.
+    ghost left: { Self → Option (List ℕ) };
+
+    /// How often it has failed. The count never falls, and stands still at its last value.
+    ghost faults: { Self → ℕ };
+
+    /// Takes some bytes from the front of what is left into the front of the buffer.
+    fn read(&mut self, buf: &mut [u8]) -> Take
+        requires { 0 < length buf.old }
+        ensures took { Takes (left self.old) (left self.new) result buf.new }
+        ensures counts { TakeCounts (faults self.old) (faults self.new) result };
+}
+
+/// A source over any reader. It tells no content, and counts each error.
+#[derive(Drop)]
+pub struct ReadSource<R> {
+    inner: R,
+    faults: u64,
+}
+
+impl<R> Model for ReadSource<R> {
+    ghost use Rattle.std.specs.Prelude.{ℕ};
+
+    ghost Value = { ℕ };
+
+    ghost view = { λ s. s.faults };
+}
+
+impl<R: Read> ReadSource<R> {
+    /// A source that has not failed. Contracts see it as its count of faults.
+    pub fn new(inner: R) -> ReadSource<R>
+        ensures { result ≡ 0 }
+    {
+        ReadSource { inner, faults: 0 }
+    }
+}
+
+impl<R: Read> Source for ReadSource<R> {
+    ghost left = { λ _. None };
+
+    ghost faults = { λ count. count };
+
+    fn read(&mut self, buf: &mut [u8]) -> Take {
+        match self.inner.read(buf) {
+            Ok(0) => Take::End,
+            Ok(count) => Take::Got(count),
+            Err(_) => {
+                self.faults = self.faults.saturating_add(1);
+                Take::Failed
+            }
+        }
+    }
+}
+
+#[cfg(test)]
+mod tests {
+    use super::ReadSource;
+    use crate::reading::{AllFault, read_all};
+    use std::test::Fail;
+
+    #[test]
+    fn a_reader_is_a_source(rt: HostRuntime) -> Result<(), Fail> {
+        let all = read_all(rt.alloc(), &mut ReadSource::new(b"abc".as_slice()), 3)?;
+        assert_eq!(rt; all.as_slice(), b"abc".as_slice());
+        let long = read_all(rt.alloc(), &mut ReadSource::new(b"abc".as_slice()), 2).err();
+        assert_eq!(rt; long, Some(AllFault::TooLong));
+        Ok(())
+    }
+}

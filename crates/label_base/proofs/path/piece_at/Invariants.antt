@@ -1,8 +1,0 @@
-use Rattle.std.proofs.Common.{◌≡◌, drop}
-use Rattle.std.specs.List.{slice_split}
-use Rattle.label_base.specs.Path.{is_slash}
-use Rattle.label_base.proofs.path.piece_at.Given as goal
-
--- what is left has the pieces behind those that were passed
-abbrev pub invariant-loop-passed : goal.invariant-loop-passed
-invariant-loop-passed l = drop l.passed (slice_split is_slash l.text) ≡ slice_split is_slash l.rest
