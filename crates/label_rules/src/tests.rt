@@ -1,8 +1,8 @@
 ghost use Rattle.std.specs.Prelude.{◌<◌, ◌^◌, length};
 
 use crate::{
-    LabelAfter, Rules, Verdict, conflict_line, decide, does_give, given_at, given_by, given_in,
-    label_by, look_up, look_up_path, spec_at, verdict_line,
+    LabelAfter, Rules, conflict_line, decide, does_give, given_at, given_by, given_in, label_by,
+    look_up, look_up_path, spec_at, verdict_line,
 };
 use context_syntax::{Context, Label, TypeNames, read_customizable};
 use file_paths::{NormPath, PathRef};
@@ -54,15 +54,19 @@ fn index_of(alloc: Global, rules: &Rules, records: &Records) -> Result<Option<u3
     look_up(alloc, rules, &records.entry(0), &mut scratch)
 }
 
+fn is_kept_as_it_is(alloc: Global, rules: &Rules) -> Result<bool, Fail> {
+    let records = one_directory(alloc)?;
+    let index = index_of(alloc, rules, &records)?;
+    Ok(index == Some(1) && !does_give(rules, index))
+}
+
 #[test]
 fn an_entry_is_looked_up(rt: HostRuntime) -> Result<(), Fail> {
-    let records = one_directory(rt.alloc())?;
     let rules = rules_by(
         rt.alloc(),
         b"/opt u:r:o_t:s0\n/srv -d <<none>>\n/srv -- u:r:s_t:s0\n",
     )?;
-    let index = index_of(rt.alloc(), &rules, &records)?;
-    assert!(rt; index == Some(1) && !does_give(&rules, index));
+    assert!(rt; is_kept_as_it_is(rt.alloc(), &rules)?);
     Ok(())
 }
 
@@ -71,30 +75,56 @@ fn index_at(alloc: Global, rules: &Rules, path: &PathRef<'_>) -> Result<Option<u
     look_up_path(alloc, rules, path, Asked::Any, &mut scratch)
 }
 
+fn is_given_by_the_last(alloc: Global, rules: &Rules) -> Result<bool, Fail> {
+    let path = NormPath::read(alloc, b"/data")?;
+    let index = index_at(alloc, rules, &path.path())?;
+    let by_spec = spec_at(rules, index).and_then(given_by);
+    Ok(index == Some(1) && by_spec.is_some() && given_at(rules, index).is_some())
+}
+
 #[test]
 fn the_last_specification_gives_its_context(rt: HostRuntime) -> Result<(), Fail> {
-    let path = NormPath::read(rt.alloc(), b"/data")?;
     let rules = rules_by(rt.alloc(), b"/srv u:r:o_t:s0\n/srv -- u:r:s_t:s0\n")?;
-    let index = index_at(rt.alloc(), &rules, &path.path())?;
-    let by_spec = spec_at(&rules, index).and_then(given_by);
-    assert!(rt; index == Some(1) && by_spec.is_some() && given_at(&rules, index).is_some());
+    assert!(rt; is_given_by_the_last(rt.alloc(), &rules)?);
     Ok(())
 }
 
-fn is_change(verdict: &Verdict<'_>) -> bool {
-    given_in(verdict).is_some()
+// Whether a label gives way to `u:r:srv_t:s0`.
+fn is_replaced_by_policy(
+    alloc: Global,
+    found: &Label,
+    forced: bool,
+    types: &TypeNames,
+) -> Result<bool, Fail> {
+    let wanted = Context::read(alloc, b"u:r:srv_t:s0")?;
+    Ok(given_in(&decide(found, &wanted, forced, types)).is_some())
 }
 
 #[test]
-fn labels_are_decided(rt: HostRuntime) -> Result<(), Fail> {
-    let types = read_customizable(rt.alloc(), b"web_t\n")?;
-    let wanted = Context::read(rt.alloc(), b"u:r:srv_t:s0")?;
-    let same_kind = Label::read(rt.alloc(), b"w:r:srv_t:s0")?;
-    let chosen = Label::read(rt.alloc(), b"u:r:web_t:s0")?;
-    assert!(rt; is_change(&decide(&Label::Absent, &wanted, false, &types)));
-    assert!(rt; !is_change(&decide(&same_kind, &wanted, false, &types)));
-    assert!(rt; is_change(&decide(&same_kind, &wanted, true, &types)));
-    assert!(rt; !is_change(&decide(&chosen, &wanted, false, &types)));
+fn an_absent_label_gives_way(rt: HostRuntime) -> Result<(), Fail> {
+    let types = TypeNames::new(rt.alloc());
+    assert!(rt; is_replaced_by_policy(rt.alloc(), &Label::Absent, false, &types)?);
+    Ok(())
+}
+
+// Whether a label gives way where `web_t` is an administrator's.
+fn is_replaced(alloc: Global, found: &Label, forced: bool) -> Result<bool, Fail> {
+    let types = read_customizable(alloc, b"web_t\n")?;
+    is_replaced_by_policy(alloc, found, forced, &types)
+}
+
+#[test]
+fn a_label_of_the_same_type_gives_way_by_force(rt: HostRuntime) -> Result<(), Fail> {
+    let found = Label::read(rt.alloc(), b"w:r:srv_t:s0")?;
+    assert!(rt; !is_replaced(rt.alloc(), &found, false)?);
+    assert!(rt; is_replaced(rt.alloc(), &found, true)?);
+    Ok(())
+}
+
+#[test]
+fn a_customizable_type_stays(rt: HostRuntime) -> Result<(), Fail> {
+    let found = Label::read(rt.alloc(), b"u:r:web_t:s0")?;
+    assert!(rt; !is_replaced(rt.alloc(), &found, false)?);
     Ok(())
 }
 
