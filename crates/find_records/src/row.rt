@@ -4,7 +4,7 @@ ghost use Rattle.find_records.specs.Rows.{text_in};
 use label_base::EntryKind;
 
 // A record: the place and length of its path among the texts, and the number of its device and label.
-#[derive(Clone, Copy, Debug)]
+#[derive(Clone, Copy)]
 pub struct RecordRow {
     pub inode: u64,
     pub at: usize,

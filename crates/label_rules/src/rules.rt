@@ -3,7 +3,7 @@ use path_subs::Subs;
 use spec_match::RuleSet;
 
 /// What decides the labels of a tree.
-#[derive(Debug, Drop)]
+#[derive(Drop)]
 pub struct Rules {
     /// The specifications, in the order in which the last match decides.
     pub rules: RuleSet,

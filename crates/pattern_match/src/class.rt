@@ -6,7 +6,7 @@ ghost use Rattle.pattern_match.specs.Residuals.{is_some_list};
 use pattern_syntax::ByteSet;
 
 /// The bytes that one position of a pattern takes. Of a set, the byte 0 is left out: no text has it.
-#[derive(Clone, Copy, Debug)]
+#[derive(Clone, Copy)]
 pub enum Class {
     Byte(u8),
     Set(ByteSet),

@@ -9,7 +9,7 @@ use std::alloc::Global;
 use std::marker::Model;
 
 /// The position automaton of a part of a pattern, under construction.
-#[derive(Debug, Drop)]
+#[derive(Drop)]
 pub struct Fragment {
     positions: Vec<Position>,
     first: Vec<u32>,

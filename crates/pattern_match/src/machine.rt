@@ -18,7 +18,7 @@ use std::alloc::Global;
 use std::marker::Model;
 
 /// The automaton of a pattern, seen as the pattern. One that holds the empty text alone takes no memory for tables.
-#[derive(Debug, Drop)]
+#[derive(Drop)]
 pub struct Machine {
     nodes: Vec<Node>,
     is_bare: bool,

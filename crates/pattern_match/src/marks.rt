@@ -11,7 +11,7 @@ use std::alloc::Global;
 use std::marker::Model;
 
 /// The marked states of an automaton, seen as bits of words.
-#[derive(Debug, Drop)]
+#[derive(Drop)]
 pub struct Marks {
     marks: Vec<u64>,
     // Where the next marks are gathered.

@@ -21,7 +21,7 @@ use std::alloc::Global;
 use std::marker::Model;
 
 /// A pattern made ready for matching, seen as the pattern.
-#[derive(Debug, Drop)]
+#[derive(Drop)]
 pub struct Matcher {
     start: Bytes,
     // The automaton of what stands behind the literal start.

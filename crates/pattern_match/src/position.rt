@@ -8,7 +8,7 @@ use std::marker::Model;
 
 /// A state of an automaton under construction: the bytes that lead into it, whether a text may end behind it, and the
 /// numbers of the positions that may take the next byte.
-#[derive(Debug, Drop)]
+#[derive(Drop)]
 pub struct Position {
     class: Class,
     is_last: bool,

@@ -8,7 +8,7 @@ use std::alloc::Global;
 use std::marker::Model;
 
 /// What a matcher knows behind a text: how many bytes of the pattern's literal start were read, and then the marks of its automaton.
-#[derive(Debug, Drop)]
+#[derive(Drop)]
 pub struct States {
     pub(crate) seen: usize,
     pub(crate) marks: Marks,

@@ -18,7 +18,7 @@ use crate::item::Item;
 use crate::refusal::Refusal;
 
 /// A part of a set: an item, or a range.
-#[derive(Clone, Copy, Debug, PartialEq, Eq)]
+#[derive(Clone, Copy)]
 pub(crate) struct Part {
     set: ByteSet,
     /// The byte that may be the low end of a range behind this part.

@@ -19,7 +19,7 @@ use std::alloc::Global;
 
 /// What is read of a choice, by its positions, counted up to one more than a pattern may have: its
 /// sides before the last bar, the sequence since, and the piece that a repeat may follow.
-#[derive(Clone, Copy, Debug, PartialEq, Eq)]
+#[derive(Clone, Copy)]
 pub(crate) struct Level {
     sides: Option<u32>,
     sequence: u32,
@@ -40,7 +40,7 @@ impl Level {
 
 /// The nodes so far, in postfix order, behind an empty sequence, but for those that join a level's
 /// parts; the innermost choice, and those around it.
-#[derive(Debug, Drop)]
+#[derive(Drop)]
 pub(crate) struct Builder {
     nodes: Vec<Node>,
     level: Level,

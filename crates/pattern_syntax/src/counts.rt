@@ -8,7 +8,7 @@ use crate::limits::MOST_TIMES;
 
 /// The numbers of a repeat in braces, and its length with the braces. Numbers above the greatest
 /// are all as one.
-#[derive(Clone, Copy, Debug, PartialEq, Eq)]
+#[derive(Clone, Copy)]
 pub(crate) struct Counts {
     pub least: u32,
     pub most: Option<u32>,

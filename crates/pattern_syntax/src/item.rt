@@ -1,7 +1,7 @@
 use crate::byte_set::ByteSet;
 
 /// What an escape or an item of a bracket set stands for.
-#[derive(Clone, Copy, Debug, PartialEq, Eq)]
+#[derive(Clone, Copy)]
 pub(crate) enum Item {
     /// This byte.
     One(u8),

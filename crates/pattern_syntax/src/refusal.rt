@@ -1,5 +1,5 @@
 /// Why a token can't be read.
-#[derive(Clone, Copy, Debug, PartialEq, Eq)]
+#[derive(Clone, Copy)]
 pub enum Refusal {
     /// It is no pattern.
     Syntax,

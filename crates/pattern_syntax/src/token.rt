@@ -1,7 +1,7 @@
 use crate::byte_set::ByteSet;
 
 /// A token of a pattern.
-#[derive(Clone, Copy, Debug, PartialEq, Eq)]
+#[derive(Clone, Copy)]
 pub(crate) enum Token {
     /// This byte.
     Byte(u8),

@@ -2,8 +2,8 @@
 use Rattle.std.specs.Prelude.{true, false, [], ◌∷◌, None}
 use Rattle.std.specs.FinMap as map_of
 use Rattle.input_output.specs.Store.{Files}
-use Rattle.tree_model.specs.declared.options.Options.{Options}
-use Rattle.tree_model.specs.declared.selection.Choice.{Choice}
+use Rattle.file_paths.specs.declared.options.Options.{Options}
+use Rattle.file_paths.specs.declared.choice.Choice.{Choice}
 use Rattle.sample_tree.specs.declared.records.TheConstants.{SPECS}
 use Rattle.tool_words.specs.declared.command.RelabelWords.{RelabelWords}
 use Rattle.policy_files.specs.declared.sample.TheConstants.{SAMPLE_FILE}

@@ -17,7 +17,7 @@ use std::alloc::Global;
 use tool_words::Command;
 
 /// What the files say that a command reads.
-#[derive(Debug, Drop)]
+#[derive(Drop)]
 pub struct Policy {
     pub rules: Rules,
     /// The dump that holds the stored digests.

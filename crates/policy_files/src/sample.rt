@@ -1,11 +1,10 @@
 ghost use Rattle.std.specs.Prelude.{◌≡◌, IfOk};
 ghost use Rattle.policy_files.specs.SampleWords.{sample_choice, sample_options, sample_words};
 
-use file_paths::NormPath;
+use file_paths::{Choice, NormPath, Options};
 use label_base::{Name, OutOfMemory, Row};
 use std::alloc::Global;
 use tool_words::RelabelWords;
-use tree_model::{Choice, Options};
 
 /// The name of the base file of a sample, which stands in memory alone.
 pub const SAMPLE_FILE: &str = "file_contexts";

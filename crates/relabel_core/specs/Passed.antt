@@ -3,7 +3,7 @@ use Rattle.std.specs.Prelude.{◌≡◌, ℕ, ◌<◌, ◌≤◌, Bool, true, fa
 use Rattle.std.specs.BTreeMap.{BTreeMap}
 use Rattle.label_base.specs.Bounded.{any_below}
 use Rattle.tree_model.specs.Extents.{in_extent}
-use Rattle.tree_model.specs.declared.options.Options.{Options}
+use Rattle.file_paths.specs.declared.options.Options.{Options}
 use Rattle.relabel_core.specs.Stored.{digests_in, told_before}
 use Rattle.relabel_core.specs.Walk.{Walk, count, digest_now, is_current, is_renewed, is_skipped, is_skipped_first, is_whole, skippable, skips}
 use Rattle.relabel_core.specs.declared.passed.Skip.{Skip}

@@ -15,7 +15,7 @@ use Rattle.find_records.specs.Record.{Record}
 use Rattle.tree_model.specs.Extents.{entry_at, in_extent, is_directory}
 use Rattle.tree_model.specs.Groups.{group_of, label_in}
 use Rattle.tree_model.specs.Selection.{whole_at}
-use Rattle.tree_model.specs.declared.options.Options.{Options}
+use Rattle.file_paths.specs.declared.options.Options.{Options}
 use Rattle.report_text.specs.Message.{MessageValue, NoDefault, Skipped, Absent, NoMatches}
 use Rattle.label_rules.specs.LookUp.{given_at, given_by, index_for}
 use Rattle.label_rules.specs.Lines.{conflict_line, verdict_line}

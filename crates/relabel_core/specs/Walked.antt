@@ -6,8 +6,8 @@ use Rattle.find_records.specs.Record.{Record}
 use Rattle.tree_model.specs.Groups.{groups_in}
 use Rattle.tree_model.specs.Selection.{SelectedValue, selected_by}
 use Rattle.tree_model.specs.Tree.{ByPath}
-use Rattle.tree_model.specs.declared.options.Options.{Options}
-use Rattle.tree_model.specs.declared.selection.Choice.{Choice}
+use Rattle.file_paths.specs.declared.options.Options.{Options}
+use Rattle.file_paths.specs.declared.choice.Choice.{Choice}
 use Rattle.relabel_core.specs.Numbers.{found_in}
 use Rattle.relabel_core.specs.Stored.{digests_of}
 use Rattle.relabel_core.specs.Walk.{StoredDigests, Walk, can_win, deciding}

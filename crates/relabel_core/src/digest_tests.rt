@@ -1,8 +1,8 @@
 use crate::test_walks::{Given, NOTHING, PLAIN, answer};
+use file_paths::Options;
 use label_base::Bytes;
 use std::alloc::Global;
 use std::test::Fail;
-use tree_model::Options;
 
 // The digests of these tests were made by another program, from the format of listings.
 

@@ -8,11 +8,11 @@ ghost use Rattle.relabel_core.specs.Walked.{walk_of};
 
 use crate::input::WalkInput;
 use dir_digest::{Listings, Mode};
+use file_paths::Options;
 use label_base::{Bytes, OutOfMemory};
 use label_rules::Rules;
 use spec_match::Scratch;
 use std::alloc::Global;
-use tree_model::Options;
 
 /// What the look-ups and the listings of a walk are made in, again and again.
 #[derive(Drop)]

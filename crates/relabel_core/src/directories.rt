@@ -14,10 +14,10 @@ use crate::input::WalkInput;
 use crate::passed::{Passed, Skip};
 use crate::stored::is_directory;
 use dir_digest::Listings;
+use file_paths::Options;
 use label_base::OutOfMemory;
 use std::alloc::Global;
 use std::collections::BTreeMap;
-use tree_model::Options;
 
 fn skips(options: &Options) -> bool
     ensures { result ≡ (options.now.digests && not options.now.ignore_digests) }

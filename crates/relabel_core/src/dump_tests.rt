@@ -1,9 +1,10 @@
 use crate::test_walks::{Given, NOTHING, PLAIN, answer, stored_of, tree_of};
 use crate::{Stored, VOID_DIGEST};
+use file_paths::Options;
 use label_base::{Bytes, OutOfMemory, Row};
 use std::alloc::Global;
 use std::test::Fail;
-use tree_model::{Options, Tree};
+use tree_model::Tree;
 
 // A directory, and a file in it whose label changes.
 const SRV: Given<'static> = Given {

@@ -4,10 +4,10 @@ ghost use Rattle.relabel_core.specs.Stored.{digests_of};
 ghost use Rattle.relabel_core.specs.Walked.{IsFit, walk_for, walk_of};
 
 use crate::stored::Stored;
-use file_paths::NormPath;
+use file_paths::{Choice, NormPath, Options};
 use label_base::Row;
 use label_rules::Rules;
-use tree_model::{Choice, Options, Selected, Tree};
+use tree_model::{Selected, Tree};
 
 /// What a walk goes over, and by what.
 #[derive(Clone, Copy)]

@@ -13,7 +13,7 @@ use tree_model::Tree;
 
 /// The digests that are stored for the directories of a tree, by the indices of their entries. It takes memory for these
 /// alone.
-#[derive(Debug, Drop)]
+#[derive(Drop)]
 pub struct Stored {
     kept: BTreeMap<u32, Bytes>,
 }

@@ -4,7 +4,7 @@ ghost use Rattle.relabel_core.specs.Walked.{IsFit};
 
 use crate::{DigestAfter, Stored, WalkInput, Walked, next_labels, walk, walk_input};
 use context_syntax::read_customizable;
-use file_paths::NormPath;
+use file_paths::{Choice, NormPath, Options};
 use find_records::{RecordLimits, read_records};
 use input_output::MemSource;
 use label_base::{Bytes, OutOfMemory, Part, Row, Steps};
@@ -17,7 +17,7 @@ use std::alloc::Global;
 use std::marker::Brand;
 use std::sync::ledger::{Blank, Ledger};
 use std::test::Fail;
-use tree_model::{Choice, Options, Tree};
+use tree_model::Tree;
 
 // What a test walks over, and by what.
 #[derive(Clone, Copy)]

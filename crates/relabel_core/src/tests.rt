@@ -1,9 +1,9 @@
 use crate::one_pass_is_walk;
 use crate::test_walks::{Digest, Given, NOTHING, PLAIN, Told, answer};
+use file_paths::Options;
 use label_base::Bytes;
 use std::alloc::Global;
 use std::test::Fail;
-use tree_model::Options;
 
 // `-n -v -F`.
 const FORCED: Options = Options {

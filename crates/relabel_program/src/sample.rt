@@ -12,6 +12,7 @@ ghost use Rattle.relabel_program.specs.declared.sample.LineKind.TheVariants as k
 ghost use Rattle.relabel_program.specs.Sample.{first_walk, has_line_of, is_of, labels_after, lines_of, number_line, sample_summary, sample_walk, summary_of, summary_text, told_by_sample, walk_after};
 
 use crate::told::{End, Told};
+use file_paths::Choice;
 use label_base::{Bytes, OutOfMemory, Row};
 use policy_files::{Policy, sample_choice, sample_options};
 use relabel_core::{
@@ -19,7 +20,7 @@ use relabel_core::{
 };
 use report_text::Message;
 use std::alloc::Global;
-use tree_model::{Choice, Tree};
+use tree_model::Tree;
 
 // What stands before the numbers of the summary.
 const ENTRIES: &str = "entries ";
@@ -37,7 +38,7 @@ const RELABELLED_AGAIN: &str = "relabelled again ";
 const LINE_END: &str = "\n";
 
 /// The lines of entries that a summary counts.
-#[derive(Clone, Copy, Debug)]
+#[derive(Clone, Copy)]
 pub enum LineKind {
     /// A label changes.
     Relabelled,
@@ -48,7 +49,7 @@ pub enum LineKind {
 }
 
 /// What is counted of two walks over a sample.
-#[derive(Clone, Copy, Debug)]
+#[derive(Clone, Copy)]
 pub struct Summary {
     pub entries: u32,
     pub relabelled: u32,

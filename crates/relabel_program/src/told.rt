@@ -17,7 +17,7 @@ use tool_words::{Command, LookupWords, RelabelWords};
 use tree_model::Tree;
 
 /// How a run ends that writes its report.
-#[derive(Clone, Copy, Debug, PartialEq, Eq)]
+#[derive(Clone, Copy)]
 pub enum End {
     /// Nothing was amiss.
     Done,
@@ -28,7 +28,7 @@ pub enum End {
 }
 
 /// A text that goes to a file.
-#[derive(Debug, Drop)]
+#[derive(Drop)]
 pub struct Saved {
     /// The name of the file.
     pub name: Name,
@@ -36,7 +36,7 @@ pub struct Saved {
 }
 
 /// What a command tells.
-#[derive(Debug, Drop)]
+#[derive(Drop)]
 pub struct Told {
     /// The lines of the report.
     pub report: Bytes,

@@ -18,7 +18,7 @@ use Rattle.find_records.specs.Record.{Record}
 use Rattle.tree_model.specs.Extents.{entry_at, in_extent, is_directory}
 use Rattle.tree_model.specs.Groups.{group_of, label_in}
 use Rattle.tree_model.specs.Selection.{whole_at}
-use Rattle.tree_model.specs.declared.options.Options.{Options}
+use Rattle.file_paths.specs.declared.options.Options.{Options}
 use Rattle.skip_runs.specs.Relabel as runs
 use Rattle.skip_runs.specs.Relabel.{Decision, Nothing, Give, Kinds, Tree}
 use Rattle.label_rules.specs.Decide.{label_by, verdict_for}

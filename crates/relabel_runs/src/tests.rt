@@ -1,6 +1,6 @@
 use crate::{next_walk, none_is_skipped, one_more_run_keeps_labels, skipping_keeps_labels};
 use context_syntax::TypeNames;
-use file_paths::NormPath;
+use file_paths::{Choice, NormPath, Options};
 use find_records::{RecordLimits, read_records};
 use input_output::MemSource;
 use label_base::{Bytes, OutOfMemory, Part, Row};
@@ -11,7 +11,7 @@ use spec_match::RuleSet;
 use spec_reader::read_specs;
 use std::alloc::Global;
 use std::test::Fail;
-use tree_model::{Choice, Options, Tree};
+use tree_model::Tree;
 
 // `-D`.
 const DIGESTING: Options = Options {

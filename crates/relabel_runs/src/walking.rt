@@ -5,11 +5,12 @@ ghost use Rattle.relabel_core.specs.Stored.{digests_of};
 ghost use Rattle.relabel_core.specs.Walked.{walk_for};
 ghost use Rattle.relabel_runs.specs.Laws.{KeepsLabels};
 
+use file_paths::{Choice, Options};
 use label_base::OutOfMemory;
 use label_rules::Rules;
 use relabel_core::{Stored, Walked, walk_input, walk_uncounted};
 use std::alloc::Global;
-use tree_model::{Choice, Options, Selected, Tree};
+use tree_model::{Selected, Tree};
 
 /// Walks over a tree that other runs may have left as it is, with the digests that they stored: the labels that it
 /// leaves are those that all of them and this walk leave with skipping off.

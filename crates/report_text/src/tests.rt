@@ -1,7 +1,7 @@
 use crate::lines::{add_line, line, report};
 use crate::message::Message;
 use context_syntax::{Context, ContextRef, Label};
-use file_paths::NormPath;
+use file_paths::{NormPath, PathRef};
 use label_base::{Bytes, EntryKind, OutOfMemory};
 use std::alloc::Global;
 use std::test::Fail;
@@ -12,166 +12,177 @@ fn is_line(alloc: Global, message: &Message<'_>, wanted: &[u8]) -> Result<bool, 
     Ok(text.as_slice() == wanted)
 }
 
-#[test]
-fn a_change(rt: HostRuntime) -> Result<(), Fail> {
-    let alloc = rt.alloc();
-    let path = NormPath::read(alloc, b"/a\\b\n")?;
-    let from = Label::read(alloc, b"a\x7f")?;
+// Whether a change from a label to a whole context is told so.
+fn is_change_from<'x>(
+    alloc: Global,
+    path: PathRef<'x>,
+    from: &'x Label,
+    wanted: &[u8],
+) -> Result<bool, Fail> {
     let wants = Context::read(alloc, b"v:r:w")?;
-    let to = ContextRef::whole(&wants);
-    let path = path.path();
     let relabel = Message::Relabel {
         path,
-        from: &from,
-        to,
+        from,
+        to: ContextRef::whole(&wants),
         dry: false,
     };
-    assert!(rt;
-        is_line(
-            alloc,
-            &relabel,
-            b"Relabeled /a\\134b\\012 from a\\177 to v:r:w\n"
-        )?
-    );
+    Ok(is_line(alloc, &relabel, wanted)?)
+}
+
+fn is_change(alloc: Global, path: &PathRef<'_>, from: &[u8], wanted: &[u8]) -> Result<bool, Fail> {
+    let from = Label::read(alloc, from)?;
+    is_change_from(alloc, *path, &from, wanted)
+}
+
+#[test]
+fn a_change(rt: HostRuntime) -> Result<(), Fail> {
+    let path = NormPath::read(rt.alloc(), b"/a\\b\n")?;
+    let wanted = b"Relabeled /a\\134b\\012 from a\\177 to v:r:w\n".as_slice();
+    assert!(rt; is_change(rt.alloc(), &path.path(), b"a\x7f", wanted)?);
     Ok(())
+}
+
+// Whether a change to one context with the type of another is told as one that would be made.
+fn would_be_made(alloc: Global, rest: &Context, wanted: &[u8]) -> Result<bool, Fail> {
+    let kind = Context::read(alloc, b"v:r:w")?;
+    let path = NormPath::root(alloc);
+    let relabel = Message::Relabel {
+        path: path.path(),
+        from: &Label::Absent,
+        to: ContextRef { rest, kind: &kind },
+        dry: true,
+    };
+    Ok(is_line(alloc, &relabel, wanted)?)
 }
 
 #[test]
 fn a_change_that_would_be_made(rt: HostRuntime) -> Result<(), Fail> {
-    let alloc = rt.alloc();
-    let path = NormPath::root(alloc);
-    let rest = Context::read(alloc, b"u:r:t:s0")?;
-    let kind = Context::read(alloc, b"v:r:w")?;
-    let path = path.path();
-    let to = ContextRef {
-        rest: &rest,
-        kind: &kind,
-    };
-    let relabel = Message::Relabel {
-        path,
-        from: &Label::Absent,
-        to,
-        dry: true,
-    };
-    assert!(rt;
-        is_line(
-            alloc,
-            &relabel,
-            b"Would relabel / from <no context> to u:r:w:s0\n"
-        )?
-    );
+    let rest = Context::read(rt.alloc(), b"u:r:t:s0")?;
+    let wanted = b"Would relabel / from <no context> to u:r:w:s0\n".as_slice();
+    assert!(rt; would_be_made(rt.alloc(), &rest, wanted)?);
     Ok(())
 }
 
-#[test]
-fn lines_of_a_walk(rt: HostRuntime) -> Result<(), Fail> {
-    let alloc = rt.alloc();
-    let (path, other) = (NormPath::read(alloc, b"/a")?, NormPath::root(alloc));
-    let context = Context::read(alloc, b"u:r:t")?;
+fn is_customized(alloc: Global, path: &PathRef<'_>, wanted: &[u8]) -> Result<bool, Fail> {
+    let label = Context::read(alloc, b"u:r:t")?;
     let customized = Message::Customized {
-        path: path.path(),
-        label: &context,
+        path: *path,
+        label: &label,
     };
-    assert!(rt;
-        is_line(
-            alloc,
-            &customized,
-            b"/a not reset as customized by admin to u:r:t\n"
-        )?
-    );
+    Ok(is_line(alloc, &customized, wanted)?)
+}
+
+#[test]
+fn a_customized_label(rt: HostRuntime) -> Result<(), Fail> {
+    let path = NormPath::read(rt.alloc(), b"/a")?;
+    let wanted = b"/a not reset as customized by admin to u:r:t\n".as_slice();
+    assert!(rt; is_customized(rt.alloc(), &path.path(), wanted)?);
+    Ok(())
+}
+
+// Whether a conflict between a path and the root is told so.
+fn is_conflict(alloc: Global, first: &PathRef<'_>, wanted: &[u8]) -> Result<bool, Fail> {
+    let used = Context::read(alloc, b"u:r:t")?;
+    let root = NormPath::root(alloc);
     let conflict = Message::Conflict {
-        first: path.path(),
-        second: other.path(),
-        used: &context,
+        first: *first,
+        second: root.path(),
+        used: &used,
     };
-    assert!(rt;
-        is_line(
-            alloc,
-            &conflict,
-            b"conflicting specifications for /a and /, using u:r:t.\n"
-        )?
-    );
+    Ok(is_line(alloc, &conflict, wanted)?)
+}
+
+#[test]
+fn a_conflict(rt: HostRuntime) -> Result<(), Fail> {
+    let path = NormPath::read(rt.alloc(), b"/a")?;
+    let wanted = b"conflicting specifications for /a and /, using u:r:t.\n".as_slice();
+    assert!(rt; is_conflict(rt.alloc(), &path.path(), wanted)?);
     Ok(())
 }
 
 #[test]
-fn specifications_without_a_match(rt: HostRuntime) -> Result<(), Fail> {
-    let alloc = rt.alloc();
-    let context = Context::read(alloc, b"u:r:t")?;
+fn a_specification_without_a_match(rt: HostRuntime) -> Result<(), Fail> {
+    let context = Context::read(rt.alloc(), b"u:r:t")?;
     let typed = Message::NoMatches {
         text: b"/x\\.y".as_slice(),
         kind: Some(EntryKind::Block),
         context: Some(&context),
     };
-    assert!(rt;
-        is_line(
-            alloc,
-            &typed,
-            b"Warning! No matches for (/x\\.y, -b, u:r:t)\n"
-        )?
-    );
+    let wanted = b"Warning! No matches for (/x\\.y, -b, u:r:t)\n".as_slice();
+    assert!(rt; is_line(rt.alloc(), &typed, wanted)?);
+    Ok(())
+}
+
+#[test]
+fn a_specification_without_context_or_match(rt: HostRuntime) -> Result<(), Fail> {
     let untyped = Message::NoMatches {
         text: b"/proc".as_slice(),
         kind: None,
         context: None,
     };
-    assert!(rt;
-        is_line(
-            alloc,
-            &untyped,
-            b"Warning! No matches for (/proc, <<none>>)\n"
-        )?
-    );
+    let wanted = b"Warning! No matches for (/proc, <<none>>)\n".as_slice();
+    assert!(rt; is_line(rt.alloc(), &untyped, wanted)?);
     Ok(())
+}
+
+fn is_found(alloc: Global, path: &PathRef<'_>, wanted: &[u8]) -> Result<bool, Fail> {
+    let context = Context::read(alloc, b"u:r:t")?;
+    let found = Message::Found {
+        path: *path,
+        context: Some(&context),
+        bare: false,
+    };
+    Ok(is_line(alloc, &found, wanted)?)
+}
+
+fn is_bare(alloc: Global, path: &PathRef<'_>, wanted: &[u8]) -> Result<bool, OutOfMemory> {
+    let bare = Message::Found {
+        path: *path,
+        context: None,
+        bare: true,
+    };
+    is_line(alloc, &bare, wanted)
+}
+
+fn differs(alloc: Global, path: &PathRef<'_>, wanted: &[u8]) -> Result<bool, Fail> {
+    let wants = Context::read(alloc, b"u:r:t")?;
+    let differs = Message::Differs {
+        path: *path,
+        has: &Label::Absent,
+        wants: &wants,
+    };
+    Ok(is_line(alloc, &differs, wanted)?)
 }
 
 #[test]
 fn lines_of_a_look_up(rt: HostRuntime) -> Result<(), Fail> {
     let alloc = rt.alloc();
     let path = NormPath::read(alloc, b"/a")?;
-    let context = Context::read(alloc, b"u:r:t")?;
-    let found = Message::Found {
-        path: path.path(),
-        context: Some(&context),
-        bare: false,
-    };
-    assert!(rt; is_line(alloc, &found, b"/a\tu:r:t\n")?);
-    let bare = Message::Found {
-        path: path.path(),
-        context: None,
-        bare: true,
-    };
-    assert!(rt; is_line(alloc, &bare, b"<<none>>\n")?);
-    let differs = Message::Differs {
-        path: path.path(),
-        has: &Label::Absent,
-        wants: &context,
-    };
-    assert!(rt;
-        is_line(
-            alloc,
-            &differs,
-            b"/a has context <no context>, should be u:r:t\n"
-        )?
-    );
+    assert!(rt; is_found(alloc, &path.path(), b"/a\tu:r:t\n")?);
+    assert!(rt; is_bare(alloc, &path.path(), b"<<none>>\n")?);
+    let wanted = b"/a has context <no context>, should be u:r:t\n".as_slice();
+    assert!(rt; differs(alloc, &path.path(), wanted)?);
     Ok(())
 }
 
-#[test]
-fn lines_of_paths_alone(rt: HostRuntime) -> Result<(), Fail> {
-    let path = NormPath::root(rt.alloc());
-    let path = path.path();
+fn is_report(alloc: Global, path: &PathRef<'_>, wanted: &[u8]) -> Result<bool, OutOfMemory> {
+    let path = *path;
     let messages = [
         Message::NoDefault { path },
         Message::Skipped { path },
         Message::Absent { path },
         Message::Verified { path },
     ];
-    let mut text = report(rt.alloc(), messages.as_slice())?;
-    add_line(rt.alloc(), &Message::NoRecord { path }, &mut text)?;
-    assert_eq!(rt;
-        text.as_slice(),
-        b"Warning no default label for /\nSkipping restorecon on directory(/)\nno record for /\n/ verified.\n/ has no record\n".as_slice()
-    );
+    let mut text = report(alloc, messages.as_slice())?;
+    add_line(alloc, &Message::NoRecord { path }, &mut text)?;
+    Ok(text.as_slice() == wanted)
+}
+
+#[test]
+fn lines_of_paths_alone(rt: HostRuntime) -> Result<(), Fail> {
+    let path = NormPath::root(rt.alloc());
+    let wanted =
+        b"Warning no default label for /\nSkipping restorecon on directory(/)\nno record for /\n/ verified.\n/ has no record\n".as_slice();
+    assert!(rt; is_report(rt.alloc(), &path.path(), wanted)?);
     Ok(())
 }

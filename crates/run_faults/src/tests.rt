@@ -2,12 +2,12 @@ use crate::{
     Cause, FileNames, LimitKind, asks_kept, is_soft, read_entries, refusal_line, status,
     takes_records,
 };
+use file_paths::{Choice, Options};
 use input_output::MemSource;
 use label_base::{Bytes, Name, OutOfMemory, Part, Row};
 use std::alloc::Global;
 use std::test::Fail;
 use tool_words::{Command, RelabelWords};
-use tree_model::{Choice, Options};
 
 // `-n`.
 const DRY: Options = Options {

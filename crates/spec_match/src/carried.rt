@@ -16,7 +16,7 @@ use std::sync::ledger::Ledger;
 
 /// What is carried down a tree to a directory: which specifications of a [`RuleSet`] are alive behind its path, with the
 /// states of their patterns. It stands for a path, which isn't kept, and what lies directly below is looked up by its name.
-#[derive(Debug, Drop)]
+#[derive(Drop)]
 pub struct Carried {
     // Alive behind the path's text, which for `/` is a slash.
     alive: Members,

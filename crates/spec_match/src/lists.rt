@@ -9,14 +9,14 @@ use std::alloc::Global;
 use std::marker::Model;
 
 /// Where a list stands among the members.
-#[derive(Clone, Copy, Debug)]
+#[derive(Clone, Copy)]
 pub struct Span {
     start: usize,
     len: usize,
 }
 
 /// Lists of specifications that are alive, and one that is being written, in memory that was reserved for them.
-#[derive(Debug, Drop)]
+#[derive(Drop)]
 pub struct Lists {
     members: Members,
     spans: Vec<Span>,

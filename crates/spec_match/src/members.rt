@@ -8,7 +8,7 @@ use std::marker::Model;
 
 /// A specification that is alive, where its marks stand among the words, how many bytes of its literal start were read, and
 /// which byte that wants next, where one is lacking. By that byte most members are dropped when a list is stepped.
-#[derive(Clone, Copy, Debug)]
+#[derive(Clone, Copy)]
 pub struct Member {
     index: u32,
     start: u32,
@@ -43,7 +43,7 @@ impl Member {
 }
 
 /// Specifications with the states of their patterns, in memory that was reserved for them.
-#[derive(Debug, Drop)]
+#[derive(Drop)]
 pub struct Members {
     words: Vec<u64>,
     members: Vec<Member>,

@@ -10,7 +10,7 @@ use pattern_syntax::Pattern;
 use std::alloc::Global;
 
 /// How it is tested whether a pattern's language holds a text.
-#[derive(Debug, Drop)]
+#[derive(Drop)]
 pub enum PatternTest {
     /// The language is one text, the pattern's literal start, to which a text is compared.
     ByStart,

@@ -18,7 +18,7 @@ use spec_reader::Spec;
 use std::alloc::Global;
 
 /// A specification and the test of its pattern.
-#[derive(Debug, Drop)]
+#[derive(Drop)]
 pub struct Rule {
     pub spec: Spec,
     test: PatternTest,

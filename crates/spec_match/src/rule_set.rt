@@ -37,7 +37,7 @@ const MOST_WHOLE_MEMBERS: usize = 262_144;
 const MOST_WHOLE_WORDS: usize = 262_144;
 
 /// A list of specifications in which the last match is looked for, seen as that list.
-#[derive(Debug, Drop)]
+#[derive(Drop)]
 pub struct RuleSet {
     pub(crate) rules: Vec<Rule>,
     // Where those are found whose literal start a text begins with.

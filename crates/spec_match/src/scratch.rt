@@ -3,7 +3,7 @@ use std::marker::Model;
 
 /// What look-ups in one [`RuleSet`](crate::RuleSet) work in, so that they take no memory: the states in which its patterns
 /// are matched, and what earlier look-ups found out.
-#[derive(Debug, Drop)]
+#[derive(Drop)]
 pub struct Scratch {
     // It stands apart, so that a scratch is a word to whoever owns it.
     pub(crate) room: Box<Workspace>,

@@ -20,7 +20,7 @@ const MODULUS: u64 = 4_294_967_291;
 
 /// Specifications by the bytes that every text of their pattern begins with, so that a text that begins otherwise needn't
 /// be compared to them: for each bucket of hashes its specifications, from the last one back.
-#[derive(Debug, Drop)]
+#[derive(Drop)]
 pub struct Starts {
     // For each bucket one more than the index of its last specification, or 0.
     pub(crate) heads: Vec<u32>,

@@ -33,7 +33,7 @@ const LONGEST_TRAIL: usize = 4096;
 
 /// Which list of specifications each byte leads to from which, and what is answered where, as far as earlier look-ups found
 /// out. All memory is reserved when it is made.
-#[derive(Debug, Drop)]
+#[derive(Drop)]
 pub struct Table {
     // Whether lists end at the first specification that covers whatever follows.
     pub(crate) cuts: bool,

@@ -14,7 +14,7 @@ use std::alloc::Global;
 const CHUNK: usize = 16;
 
 /// The text that was read last, and the number of the list behind each of its bytes.
-#[derive(Debug, Drop)]
+#[derive(Drop)]
 pub struct Trail {
     pub(crate) text: Vec<u8>,
     // As many numbers as are ever kept.
@@ -24,7 +24,7 @@ pub struct Trail {
 }
 
 /// How many bytes of a text were read, and the number of the list behind them.
-#[derive(Clone, Copy, Debug)]
+#[derive(Clone, Copy)]
 pub struct Reached {
     pub at: usize,
     pub list: usize,

@@ -22,7 +22,7 @@ use pattern_match::States;
 use std::alloc::Global;
 
 /// The states in which patterns are matched, and what earlier look-ups found out.
-#[derive(Debug, Drop)]
+#[derive(Drop)]
 pub struct Workspace {
     pub(crate) states: Vec<States>,
     pub(crate) table: Table,

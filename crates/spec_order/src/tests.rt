@@ -3,28 +3,58 @@ ghost use Rattle.std.specs.Prelude.{◌<◌, ◌^◌, length};
 use crate::order::ordered;
 use label_base::{Part, Row};
 use spec_reader::{Spec, SpecFault, read_specs};
+use std::alloc::Global;
 use std::test::Fail;
 
-fn specs_of(rt: &HostRuntime, part: Part, text: &[u8]) -> Result<Row<Spec>, SpecFault>
+fn specs_of(alloc: Global, part: Part, text: &[u8]) -> Result<Row<Spec>, SpecFault>
     requires { length text.now < 2 ^ 32 }
 {
-    read_specs(rt.alloc(), text, part, 9)
+    read_specs(alloc, text, part, 9)
+}
+
+// Each function from here inwards reads one file.
+fn ordered_before(
+    alloc: Global,
+    base: Row<Spec>,
+    home: Row<Spec>,
+    local: &[u8],
+) -> Result<Row<Spec>, Fail>
+    requires { length local.now < 2 ^ 32 }
+{
+    let local = specs_of(alloc, Part::Local, local)?;
+    Ok(ordered(alloc, base, home, local)?)
+}
+
+fn ordered_around(
+    alloc: Global,
+    base: Row<Spec>,
+    home: &[u8],
+    local: &[u8],
+) -> Result<Row<Spec>, Fail>
+    requires home { length home.now < 2 ^ 32 }
+    requires local { length local.now < 2 ^ 32 }
+{
+    let home = specs_of(alloc, Part::Homedirs, home)?;
+    ordered_before(alloc, base, home, local)
+}
+
+fn ordered_of(alloc: Global, base: &[u8], home: &[u8], local: &[u8]) -> Result<Row<Spec>, Fail>
+    requires base { length base.now < 2 ^ 32 }
+    requires home { length home.now < 2 ^ 32 }
+    requires local { length local.now < 2 ^ 32 }
+{
+    let base = specs_of(alloc, Part::Base, base)?;
+    ordered_around(alloc, base, home, local)
 }
 
 #[test]
 fn puts_exact_texts_last(rt: HostRuntime) -> Result<(), Fail> {
-    let base = specs_of(
-        &rt,
-        Part::Base,
+    let specs = ordered_of(
+        rt.alloc(),
         b"/etc/foo\\.conf <<none>>\n/etc/.* <<none>>",
-    )?;
-    let home = specs_of(
-        &rt,
-        Part::Homedirs,
         b"/home/[^/]+ -d <<none>>\n/home -d <<none>>",
+        b"/usr/bin/.* <<none>>",
     )?;
-    let local = specs_of(&rt, Part::Local, b"/usr/bin/.* <<none>>")?;
-    let specs = ordered(rt.alloc(), base, home, local)?;
     assert_eq!(rt; specs.len(), 5);
     for (i, want) in [
         (0, "/etc/.*"),

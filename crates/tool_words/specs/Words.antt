@@ -7,8 +7,8 @@ use Rattle.std.specs.String.{string_bytes}
 use Rattle.std.specs.declared.alloc.Global.{Global}
 use Rattle.file_paths.specs.Path.{Path, path_read}
 use Rattle.file_paths.specs.declared.path_fault.PathWhy.{PathWhy}
-use Rattle.tree_model.specs.declared.options.Options.{Options}
-use Rattle.tree_model.specs.declared.selection.Choice.{Choice}
+use Rattle.file_paths.specs.declared.options.Options.{Options}
+use Rattle.file_paths.specs.declared.choice.Choice.{Choice}
 use Rattle.tool_words.specs.Items.{Item, items_of}
 use Rattle.tool_words.specs.Tools.{base_letter, tool_named}
 use Rattle.tool_words.specs.Values.{count_named, first_wrong, kind_named, workers_named}

@@ -15,9 +15,9 @@ use crate::letters::{
 use crate::tool::{Tool, base_letter};
 use crate::usage::{Usage, UsageWhy};
 use crate::values::{count_named, kind_named, workers_named};
+use file_paths::{Choice, Options};
 use label_base::{EntryKind, Name, OutOfMemory};
 use std::alloc::Global;
-use tree_model::{Choice, Options};
 
 /// The file of specifications where the words name none.
 pub const DEFAULT_BASE: &str = "/etc/selinux/targeted/contexts/files/file_contexts";

@@ -1,6 +1,5 @@
-use file_paths::NormPath;
+use file_paths::{Choice, NormPath, Options};
 use label_base::{EntryKind, Name, Row};
-use tree_model::{Choice, Options};
 
 /// What setfiles(8) or restorecon(8) is asked for.
 #[derive(Debug, Drop)]

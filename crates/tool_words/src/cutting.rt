@@ -18,7 +18,7 @@ pub const DASH: u8 = b'-';
 pub const END: &str = "--";
 
 /// What the next word may be.
-#[derive(Clone, Copy, Debug)]
+#[derive(Clone, Copy)]
 pub enum Expects {
     /// Options, the end of the options, or an operand.
     Any,
@@ -29,7 +29,7 @@ pub enum Expects {
 }
 
 /// What is ahead while words are read.
-#[derive(Clone, Copy, Debug)]
+#[derive(Clone, Copy)]
 pub struct Ahead {
     pub expects: Expects,
     /// Whether no operand stands before the next word.

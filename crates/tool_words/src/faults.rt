@@ -15,7 +15,7 @@ use label_base::{Fault, Row};
 use std::alloc::Global;
 
 /// The paths among what the words say.
-#[derive(Debug, Drop)]
+#[derive(Drop)]
 pub struct Paths {
     pub operands: Row<NormPath>,
     pub excluded: Row<NormPath>,

@@ -2,7 +2,7 @@ use crate::usage::UsageWhy;
 use std::marker::Model;
 
 /// What a letter, or a word that isn't among the options, says.
-#[derive(Clone, Copy, Debug)]
+#[derive(Clone, Copy)]
 pub enum Says {
     /// This letter stands there, and takes no value.
     Flag(u8),
@@ -15,7 +15,7 @@ pub enum Says {
 }
 
 /// What the words say, one thing at a time.
-#[derive(Debug, Drop)]
+#[derive(Drop)]
 pub struct Item<'a> {
     pub says: Says,
     /// The index of the word in which it stands.

@@ -28,7 +28,7 @@ const MATCHPATHCON_VALUED: &[u8] = b"fm";
 const SAMPLE_LETTERS: &[u8] = b"";
 
 /// The tools.
-#[derive(Clone, Copy, Debug, PartialEq, Eq)]
+#[derive(Clone, Copy)]
 pub enum Tool {
     Setfiles,
     Restorecon,
@@ -37,7 +37,7 @@ pub enum Tool {
 }
 
 /// What a letter is to a tool.
-#[derive(Clone, Copy, Debug, PartialEq, Eq)]
+#[derive(Clone, Copy)]
 pub enum Letter {
     /// An option without a value.
     Alone,

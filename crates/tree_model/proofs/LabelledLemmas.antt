@@ -25,7 +25,7 @@ use Rattle.tree_model.specs.Links.{inode_of, same_inode}
 use Rattle.tree_model.specs.Selection.{absent_from, admits_found, is_admitted, is_excluded, is_live, selected_by, stays_on, whole_at}
 use Rattle.tree_model.specs.Tree.{ByPath, IsTree, find_in}
 use Rattle.tree_model.specs.declared.groups.Groups.{Groups}
-use Rattle.tree_model.specs.declared.selection.Choice.{Choice}
+use Rattle.file_paths.specs.declared.choice.Choice.{Choice}
 use Rattle.tree_model.proofs.DeadLemmas.{number_at}
 
 -- ---- numbers

@@ -6,8 +6,8 @@ ghost use Rattle.tree_model.specs.Selection.{admits};
 ghost use Rattle.tree_model.specs.Tree.{ByPath};
 
 use crate::marks::fill;
-use crate::selection::Choice;
 use crate::sorted::Sorted;
+use file_paths::Choice;
 
 // Whether two entries lie on one device.
 #[tactic(auto, using(crate::proofs::KnownLemmas::entry_is))]

@@ -1,4 +1,4 @@
-//! The tree of the entries that records tell, and what a walk over it is asked for.
+//! The tree of the entries that records tell, and which of them a choice of paths means.
 #![tactic(auto)]
 
 mod above;
@@ -14,7 +14,6 @@ mod jobs;
 mod laws;
 mod marks;
 mod numbered;
-mod options;
 mod same;
 mod search;
 mod selection;
@@ -23,8 +22,7 @@ mod tree;
 
 pub use fault::TreeFault;
 pub use laws::{absent_have_no_entry, groups_are_inodes};
-pub use options::Options;
-pub use selection::{Choice, Selected};
+pub use selection::Selected;
 pub use tree::Tree;
 
 #[cfg(test)]

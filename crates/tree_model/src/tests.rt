@@ -1,6 +1,6 @@
-use crate::{Choice, Tree, TreeFault, absent_have_no_entry, groups_are_inodes};
+use crate::{Tree, TreeFault, absent_have_no_entry, groups_are_inodes};
 use context_syntax::Label;
-use file_paths::NormPath;
+use file_paths::{Choice, NormPath};
 use find_records::{Records, Told};
 use label_base::{EntryKind, Row};
 use std::alloc::Global;
