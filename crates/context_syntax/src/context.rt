@@ -1,5 +1,5 @@
 ghost use Rattle.std.specs.Cmp.{partial_equiv_from_equiv};
-ghost use Rattle.std.specs.Prelude.{◌≡◌, ◌++◌, ◌↔◌, IfOk, IsTrue, OnErr, OnOk};
+ghost use Rattle.std.specs.Prelude.{◌≡◌, ◌++◌, ◌↔◌, true, IfOk, IsTrue, OnErr, OnOk};
 ghost use Rattle.std.specs.List.{list_all};
 ghost use Rattle.std.specs.Option.{option_copied};
 ghost use Rattle.label_base.specs.Answers.{Finds};
@@ -113,6 +113,33 @@ fn copy_of_range(alloc: Global, range: Option<&[u8]>) -> Result<Option<Bytes>, O
     }
 }
 
+// The context of these parts, each copied.
+fn copied(
+    alloc: Global,
+    user: &[u8],
+    role: &[u8],
+    kind: &[u8],
+    range: Option<&[u8]>,
+) -> Result<Context, OutOfMemory>
+    requires user { is_word user.now ≡ true }
+    requires role { is_word role.now ≡ true }
+    requires kind { is_word kind.now ≡ true }
+    requires range { is_range (option_copied range) ≡ true }
+    ensures { IfOk result (λ context. context ≡ record {
+      user = user.now;
+      role = role.now;
+      kind = kind.now;
+      range = option_copied range.entry;
+    }) }
+{
+    Ok(Context {
+        user: Bytes::copy_of(alloc, user)?,
+        role: Bytes::copy_of(alloc, role)?,
+        kind: Bytes::copy_of(alloc, kind)?,
+        range: copy_of_range(alloc, range)?,
+    })
+}
+
 fn is_same_range(range: &Option<Bytes>, other: &Option<Bytes>) -> bool
     ensures { result ≡ same_option range.now other.now }
 {
@@ -155,12 +182,7 @@ impl Context {
         {
             return Err(ContextFault::NoContext);
         }
-        Ok(Context {
-            user: Bytes::copy_of(alloc, user)?,
-            role: Bytes::copy_of(alloc, role)?,
-            kind: Bytes::copy_of(alloc, kind)?,
-            range: copy_of_range(alloc, range)?,
-        })
+        Ok(copied(alloc, user, role, kind, range)?)
     }
 
     #[tactic(auto, using(crate::proofs::Spelling::read_back, crate::proofs::Spelling::spells_itself))]
@@ -183,12 +205,13 @@ impl Context {
     pub fn with_kind_of(&self, alloc: Global, other: &Context) -> Result<Context, OutOfMemory>
         ensures { IfOk result (λ made. made ≡ with_kind_of self.now other.now) }
     {
-        Ok(Context {
-            user: Bytes::copy_of(alloc, self.user.as_slice())?,
-            role: Bytes::copy_of(alloc, self.role.as_slice())?,
-            kind: Bytes::copy_of(alloc, other.kind.as_slice())?,
-            range: copy_of_range(alloc, self.range.as_ref().map(|r| r.as_slice()))?,
-        })
+        copied(
+            alloc,
+            self.user.as_slice(),
+            self.role.as_slice(),
+            other.kind.as_slice(),
+            self.range.as_ref().map(|r| r.as_slice()),
+        )
     }
 
     /// A copy.

@@ -72,6 +72,24 @@ fn add_spelling(spelled: &mut IndexSet<Vec<u8>>, key: Vec<u8>) -> Result<(usize,
     Ok(added)
 }
 
+// Adds a spelling behind the others, unless it is there, by its bytes.
+fn add_bytes(
+    alloc: Global,
+    spelled: &mut IndexSet<Vec<u8>>,
+    bytes: &[u8],
+) -> Result<(usize, bool), OutOfMemory>
+    ensures added { IfOk result (λ added. spellings spelled.new.keys ≡ (if added.1
+        then spellings spelled.old.keys ++ bytes.now ∷ []
+        else spellings spelled.old.keys)) }
+    ensures found { IfOk result (λ added.
+        slice_get (spellings spelled.new.keys) added.0 ≡ Some bytes.now) }
+    ensures distinct { IfOk result (λ added. IsDistinct bytes_eq (spellings spelled.new.keys)) }
+    ensures err { OnErr result (spellings spelled.new.keys ≡ spellings spelled.old.keys) }
+{
+    let key = Vec::from_slice(alloc, bytes)?;
+    add_spelling(spelled, key)
+}
+
 // What is kept of the bytes that spell a label: of the spellings of no label, that without bytes.
 fn kept_spelling<'a>(label: &Label, bytes: &'a [u8]) -> &'a [u8]
     requires { label.now ≡ label_of bytes.now }
@@ -114,10 +132,9 @@ fn add_label(
     ensures few { length labels.new.items ≤ length labels.old.items + 1 }
     ensures err { OnErr result (labels.new.items ≡ labels.old.items) }
 {
-    let label = Label::read(alloc, bytes)?;
-    let key = Vec::from_slice(alloc, kept_spelling(&label, bytes))?;
     labels.reserve(1)?;
-    let (number, is_new) = add_spelling(spelled, key)?;
+    let label = Label::read(alloc, bytes)?;
+    let (number, is_new) = add_bytes(alloc, spelled, kept_spelling(&label, bytes))?;
     keep_label(labels, is_new, label);
     Ok(number)
 }

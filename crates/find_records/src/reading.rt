@@ -1,6 +1,10 @@
-ghost use Rattle.std.specs.Prelude.{◌≡◌, ◌↔◌, ◌<◌, ◌≤◌, ◌+◌, ◌-◌, ◌^◌, length, vec_len, IfOk};
-ghost use Rattle.find_records.specs.Grammar.{Means, records_of};
+ghost use Rattle.std.specs.Prelude.{◌≡◌, ◌↔◌, ◌<◌, ◌≤◌, ◌+◌, ◌-◌, ◌^◌, ℕ, List, [], Result, Err, length, vec_len, IfOk, IfErr};
+ghost use Rattle.label_base.specs.Answers.{Answers};
+ghost use Rattle.find_records.specs.Cause.{records_cause};
+ghost use Rattle.find_records.specs.Grammar.{Means, records_from, records_of};
 ghost use Rattle.find_records.specs.Reading.{RecordsTold, RecordsCounts};
+ghost use Rattle.find_records.specs.Record.{Record};
+ghost use Rattle.find_records.specs.SoFar.{IsSound, meant_with};
 
 use crate::fault::RecordsFault;
 use crate::records::Records;
@@ -30,6 +34,49 @@ fn buffer(alloc: Global) -> Result<Vec<u8>, OutOfMemory>
     Ok(vec![in alloc; 0; PIECE]?)
 }
 
+// Takes a source to its end, piece by piece into the same room.
+fn take_pieces<I: Source>(
+    alloc: Global,
+    source: &mut I,
+    limits: RecordLimits,
+    buf: &mut [u8],
+    so_far: &mut SoFar,
+) -> Result<(), RecordsFault>
+    requires limits { limits.bytes < 2 ^ 64 - 1 }
+    requires room { 0 < length buf.old }
+    requires sound { IsSound so_far.old }
+    requires most { so_far.old.most ≡ limits.records }
+    requires nothing { (rest : List ℕ) →
+        meant_with so_far.old rest ≡ records_from limits.records 1 rest }
+    ensures sound { IfOk result (λ _. IsSound so_far.new) }
+    ensures most { IfOk result (λ _. so_far.new.most ≡ limits.records) }
+    ensures told { IfOk result (λ _. (answer : Result (List Record) RecordsFault)
+        → Answers (λ records. records) records_cause answer (meant_with so_far.new [])
+        → RecordsTold (I.left source.old) (I.left source.new) limits answer) }
+    ensures counts { IfOk result (λ _. (answer : Result (List Record) RecordsFault)
+        → Answers (λ records. records) records_cause answer (meant_with so_far.new [])
+        → RecordsCounts (I.faults source.old) (I.faults source.new) answer) }
+    ensures fault { IfErr result (λ fault.
+        RecordsTold (I.left source.old) (I.left source.new) limits (Err fault)) }
+    ensures rose { IfErr result (λ fault.
+        RecordsCounts (I.faults source.old) (I.faults source.new) (Err fault)) }
+{
+    let mut taken = 0u64;
+    'pieces: while taken <= limits.bytes {
+        let room = (limits.bytes - taken + 1).min(buf.len() as u64) as usize;
+        let piece = &mut buf[..room];
+        match source.read(piece) {
+            Take::Got(count) => {
+                so_far.take(alloc, &piece[..count])?;
+                taken += count as u64;
+            }
+            Take::End => return Ok(()),
+            Take::Failed => return Err(RecordsFault::ReadFault),
+        }
+    }
+    Err(RecordsFault::TooLong)
+}
+
 /// Reads a source to its end, and the records that it has, each ended by a NUL, as
 /// `find -printf '%y %D %i %Z %p\0'` writes them (find(1)).
 ///
@@ -48,20 +95,8 @@ pub fn read_records<I: Source>(
 {
     let mut buf = buffer(alloc)?;
     let mut so_far = SoFar::new(alloc, limits.records);
-    let mut taken = 0u64;
-    'pieces: while taken <= limits.bytes {
-        let room = (limits.bytes - taken + 1).min(buf.len() as u64) as usize;
-        let piece = &mut buf[..room];
-        match source.read(piece) {
-            Take::Got(count) => {
-                so_far.take(alloc, &piece[..count])?;
-                taken += count as u64;
-            }
-            Take::End => return so_far.end(),
-            Take::Failed => return Err(RecordsFault::ReadFault),
-        }
-    }
-    Err(RecordsFault::TooLong)
+    take_pieces(alloc, source, limits, buf.as_mut_slice(), &mut so_far)?;
+    so_far.end()
 }
 
 /// A law on all bytes: what [`read_records`] reads of them is what the grammar of find(1) says, each

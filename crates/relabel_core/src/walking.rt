@@ -5,7 +5,7 @@ ghost use Rattle.relabel_core.specs.Walk.{count, deciding, one_if, walked, walke
 ghost use Rattle.relabel_core.specs.Walked.{AreNoted, IsFit, walk_of};
 ghost use Rattle.relabel_core.specs.Answer.{walk_in};
 
-use crate::digesting::buffers_for;
+use crate::digesting::{Buffers, buffers_for};
 use crate::directories::pass_directories;
 use crate::input::WalkInput;
 use crate::numbers::{enter_if, no_numbers, number_of};
@@ -154,15 +154,44 @@ fn note_entries_counted<L: Ledger>(
     Ok(noted)
 }
 
+fn walk_within<'a>(
+    alloc: Global,
+    input: &WalkInput<'a>,
+    buffers: &mut Buffers,
+) -> Result<Walked<'a>, OutOfMemory>
+    requires fit { IsFit input.now }
+    requires own { IsScratchOf input.now.rules.now.rules buffers.old.scratch }
+    ensures { IfOk result (λ walked. walk_in walked ≡ walk_of input.now) }
+{
+    let passed = pass_directories(alloc, input, buffers)?;
+    let noted = note_entries(alloc, input, &passed, &mut buffers.scratch)?;
+    Ok(Walked::of_noted(input, passed, noted.decided, noted.winners))
+}
+
+fn walk_within_counted<'a, L: Ledger>(
+    alloc: Global,
+    input: &WalkInput<'a>,
+    buffers: &mut Buffers,
+    steps: &mut Steps<L>,
+) -> Result<Walked<'a>, OutOfMemory>
+    requires fit { IsFit input.now }
+    requires own { IsScratchOf input.now.rules.now.rules buffers.old.scratch }
+    ensures walk { IfOk result (λ walked. walk_in walked ≡ walk_of input.now) }
+    ensures count { steps.new
+        ≤ steps.old + walked_below (walk_of input.now) (length input.now.tree.now) }
+{
+    let passed = pass_directories(alloc, input, buffers)?;
+    let noted = note_entries_counted(alloc, input, &passed, &mut buffers.scratch, steps)?;
+    Ok(Walked::of_noted(input, passed, noted.decided, noted.winners))
+}
+
 /// Walks over a tree, and counts no steps.
 pub fn walk_uncounted<'a>(alloc: Global, input: &WalkInput<'a>) -> Result<Walked<'a>, OutOfMemory>
     requires { IsFit input.now }
     ensures { IfOk result (λ walked. walk_in walked ≡ walk_of input.now) }
 {
     let mut buffers = buffers_for(alloc, input.rules)?;
-    let passed = pass_directories(alloc, input, &mut buffers)?;
-    let noted = note_entries(alloc, input, &passed, &mut buffers.scratch)?;
-    Ok(Walked::of_noted(input, passed, noted.decided, noted.winners))
+    walk_within(alloc, input, &mut buffers)
 }
 
 /// Walks over a tree: finds the directories that are skipped, looks each other entry up that the run is asked for, and notes
@@ -179,7 +208,5 @@ pub fn walk<'a, L: Ledger>(
         ≤ steps.old + walked_below (walk_of input.now) (length input.now.tree.now) }
 {
     let mut buffers = buffers_for(alloc, input.rules)?;
-    let passed = pass_directories(alloc, input, &mut buffers)?;
-    let noted = note_entries_counted(alloc, input, &passed, &mut buffers.scratch, steps)?;
-    Ok(Walked::of_noted(input, passed, noted.decided, noted.winners))
+    walk_within_counted(alloc, input, &mut buffers, steps)
 }

@@ -158,12 +158,12 @@ impl Table {
         };
         Ok(Table {
             cuts,
-            lists: Lists::new(alloc, lists, members, words)?,
             next: Vec::with_capacity(alloc, steps)?,
             answers: Vec::with_capacity(alloc, answers)?,
             stays: Vec::with_capacity(alloc, lists)?,
             slots: vec![in alloc; 0u32; slots]?,
             trail: Trail::new(alloc, LONGEST_TRAIL)?,
+            lists: Lists::new(alloc, lists, members, words)?,
             tried: 0,
             look_ups: 0,
             is_full: true,

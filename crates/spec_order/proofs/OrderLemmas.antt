@@ -1,5 +1,5 @@
 -- The order keeps each specification.
-use Rattle.std.proofs.Common.{◌≡◌, ◌∙◌, refl, ap, ◌+◌, suc, Bool, true, false, cond, List, [], ◌∷◌, ◌++◌, length, length-append, arith}
+use Rattle.std.proofs.Common.{◌≡◌, ◌∙◌, refl, ap, suc, Bool, true, false, cond, List, [], ◌∷◌, ◌++◌, length, length-append, arith}
 use Rattle.std.specs.Prelude.{filter, not}
 use Rattle.spec_order.specs.Order.{in_order, is_exact_spec, is_pattern_spec}
 use Rattle.spec_reader.specs.SpecValue.{SpecValue}

@@ -100,6 +100,27 @@ fn key_of(records: &Records, parent: u32, place: u32) -> Option<PathKey<'_>> {
     Some(path.key())
 }
 
+// The entries of a directory, in the order of their names.
+fn names_in<'r>(
+    alloc: Global,
+    records: &'r Records,
+    next: &[u32],
+    parent: u32,
+    first: u32,
+) -> Result<Vec<(PathKey<'r>, u32)>, OutOfMemory> {
+    let mut names = Vec::new(alloc);
+    let mut place = first;
+    'names: for _ in 0..records.len() {
+        let Some(key) = key_of(records, parent, place) else {
+            break;
+        };
+        names.push((key, place))?;
+        place = at(next, place);
+    }
+    names.sort_unstable();
+    Ok(names)
+}
+
 // Puts the entries of a directory on the pile, the first one last.
 fn pile(
     alloc: Global,
@@ -115,20 +136,45 @@ fn pile(
         }
         return Ok(());
     }
-    let mut names = Vec::new(alloc);
-    let mut place = first;
-    'names: for _ in 0..records.len() {
-        let Some(key) = key_of(records, parent, place) else {
-            break;
-        };
-        names.push((key, place))?;
-        place = at(next, place);
-    }
-    names.sort_unstable();
+    let names = names_in(alloc, records, next, parent, first)?;
     'sorted: for name in names.as_slice().iter().rev() {
         piled.push(name.1)?;
     }
     Ok(())
+}
+
+// Puts the entries of a tree in order, where each place is given with the next one of its directory, and
+// each directory with its first entry.
+fn put_below(
+    alloc: Global,
+    records: &Records,
+    next: &[u32],
+    first: &[u32],
+    piled: &mut Vec<u32>,
+) -> Result<Vec<u32>, OutOfMemory> {
+    let mut order = Vec::with_capacity(alloc, records.len() as usize)?;
+    'places: for _ in 0..records.len() {
+        let Some(place) = piled.pop() else {
+            break;
+        };
+        order.push(place)?;
+        let inside = at(first, place);
+        pile(alloc, records, next, place, inside, piled)?;
+    }
+    Ok(order)
+}
+
+// The order of a tree's entries, from those of no directory on.
+fn order_from(
+    alloc: Global,
+    records: &Records,
+    next: &[u32],
+    first: &[u32],
+    top: u32,
+) -> Result<Vec<u32>, OutOfMemory> {
+    let mut piled = Vec::new(alloc);
+    pile(alloc, records, next, NONE, top, &mut piled)?;
+    put_below(alloc, records, next, first, &mut piled)
 }
 
 // The order of a tree's entries, where each place is given with that of its directory.
@@ -138,18 +184,7 @@ fn order_below(
     mut next: Vec<u32>,
 ) -> Result<Vec<u32>, OutOfMemory> {
     let (first, top) = first_ones(alloc, records.len(), next.as_mut_slice())?;
-    let mut order = Vec::with_capacity(alloc, records.len() as usize)?;
-    let mut piled = Vec::new(alloc);
-    pile(alloc, records, next.as_slice(), NONE, top, &mut piled)?;
-    'places: for _ in 0..records.len() {
-        let Some(place) = piled.pop() else {
-            break;
-        };
-        order.push(place)?;
-        let inside = at(first.as_slice(), place);
-        pile(alloc, records, next.as_slice(), place, inside, &mut piled)?;
-    }
-    Ok(order)
+    order_from(alloc, records, next.as_slice(), first.as_slice(), top)
 }
 
 /// The order in which the records stand.

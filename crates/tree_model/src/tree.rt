@@ -8,6 +8,7 @@ ghost use Rattle.tree_model.specs.Entries.{tree_of};
 ghost use Rattle.tree_model.specs.Extents.{extent_of, in_extent, parent_of};
 ghost use Rattle.tree_model.specs.Groups.{closed_at, group_of, groups_in, label_in, names_in};
 ghost use Rattle.tree_model.specs.Jobs.{shape_of};
+ghost use Rattle.tree_model.specs.Kept.{IsKept};
 ghost use Rattle.tree_model.specs.Labelled.{DifferInLabels, labelled};
 ghost use Rattle.tree_model.specs.Selection.{selected_by};
 ghost use Rattle.tree_model.specs.Tree.{ByPath, tree_cause, find_in};
@@ -49,6 +50,18 @@ impl Model for Tree {
     ghost invariant = { λ t. IsKept t.sorted t.ends.items t.groups };
 }
 
+// Where the extent of each entry ends, and the groups of entries by their inodes.
+fn ends_and_groups(alloc: Global, sorted: &Sorted) -> Result<(Vec<u32>, Groups), OutOfMemory>
+    requires { ByPath sorted.now }
+    ensures { IfOk result (λ made. IsKept sorted.now made.0.items made.1) }
+{
+    // First of all that is made, since what numbers the inodes takes most room and is dropped then.
+    let numbering = number_groups(alloc, sorted)?;
+    let ends = all_ends(alloc, sorted)?;
+    let groups = make_groups(alloc, sorted, numbering, ends.as_slice())?;
+    Ok((ends, groups))
+}
+
 impl Tree {
     /// The tree of records, as find(1) finds them: in the order of their paths, and each record once,
     /// however often it is given. There must be fewer than 2^32 of them.
@@ -62,10 +75,7 @@ impl Tree {
         ensures same { IfOk result (λ tree. (r : Record) → Contains tree r ↔ Contains records r) }
     {
         let sorted = Sorted::new(alloc, records)?;
-        // First of all that is made, since what numbers the inodes takes most room and is dropped then.
-        let numbering = number_groups(alloc, &sorted)?;
-        let ends = all_ends(alloc, &sorted)?;
-        let groups = make_groups(alloc, &sorted, numbering, ends.as_slice())?;
+        let (ends, groups) = ends_and_groups(alloc, &sorted)?;
         Ok(Tree {
             sorted,
             ends,
@@ -91,10 +101,12 @@ impl Tree {
     {
         let _count = self.groups();
         let numbers = self.groups.group_of.as_slice();
+        let ends = Vec::from_slice(alloc, self.ends.as_slice())?;
+        let groups = self.groups.copy(alloc)?;
         Ok(Tree {
             sorted: self.sorted.with_labels(alloc, numbers, labels)?,
-            ends: Vec::from_slice(alloc, self.ends.as_slice())?,
-            groups: self.groups.copy(alloc)?,
+            ends,
+            groups,
         })
     }
 

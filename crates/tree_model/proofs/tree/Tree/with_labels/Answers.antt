@@ -29,10 +29,10 @@ invariant_of-result c =
     let s = c.self.inside in
     let same = c.as_slice-numbers.ensures.value in
     let count = group_count s.sorted _ _ _ _ _ c.self.invariant.groups_are in
-    subst (λ es. IsKept es c.in_ok-from_slice.field-0.items c.in_ok-copy.field-0) (sym c.in_ok-with_labels.ensures)
-    (with_kept c.args.labels.now c.as_slice-numbers.result.now s.sorted (ap length same ∙ count) s.ends.items c.in_ok-from_slice.field-0.items s.groups c.in_ok-copy.field-0
-    (c.in_ok-from_slice.ensures.items ∙ c.as_slice.ensures.value)
-    c.in_ok-copy.ensures.total c.in_ok-copy.ensures.group_of c.in_ok-copy.ensures.names c.in_ok-copy.ensures.starts c.in_ok-copy.ensures.closed c.self.invariant)
+    subst (λ es. IsKept es c.in_ok-ends.ends.items c.in_ok-groups.groups) (sym c.in_ok-with_labels.ensures)
+    (with_kept c.args.labels.now c.as_slice-numbers.result.now s.sorted (ap length same ∙ count) s.ends.items c.in_ok-ends.ends.items s.groups c.in_ok-groups.groups
+    (c.in_ok-ends.ensures.items ∙ c.as_slice.ensures.value)
+    c.in_ok-groups.ensures.total c.in_ok-groups.ensures.group_of c.in_ok-groups.ensures.names c.in_ok-groups.ensures.starts c.in_ok-groups.ensures.closed c.self.invariant)
 
 pub returns-clause-value : goal.returns-clause-value
 returns-clause-value c =

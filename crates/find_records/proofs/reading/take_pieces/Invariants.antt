@@ -1,7 +1,7 @@
-use Rattle.std.proofs.Common.{◌+◌, ◌-◌, ◌≡◌, ◌<◌, ◌≤◌, vec_len}
+use Rattle.std.proofs.Common.{◌+◌, ◌-◌, ◌≡◌, ◌<◌, ◌≤◌, length}
 use Rattle.find_records.specs.SoFar.{IsSound}
 use Rattle.find_records.proofs.Taking.{IsTaken}
-use Rattle.find_records.proofs.reading.read_records.Given as goal
+use Rattle.find_records.proofs.reading.take_pieces.Given as goal
 
 -- the bytes so far were taken from the front, and what is read of them with the rest is what all mean
 abbrev pub invariant-pieces : goal.invariant-pieces
@@ -11,7 +11,7 @@ invariant-pieces g l = record {
   sound : IsSound l.so_far;
   most : l.so_far.most ≡ l.limits.records;
   small : l.taken ≤ l.limits.bytes + 1;
-  room : 0 < vec_len l.buf;
+  room : 0 < length l.buf;
 }
 
 abbrev pub decreases-pieces : goal.decreases-pieces
