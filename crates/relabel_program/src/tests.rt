@@ -95,49 +95,6 @@ fn input_of(alloc: Global, records: &[u8], failing: u64) -> Result<MemSource, Ou
     Ok(MemSource::new(bytes, 10, failing_at(alloc, failing)?))
 }
 
-// Runs over these records, and whether they are left as they were.
-fn run_input(
-    alloc: Global,
-    words: &[String],
-    records: &[u8],
-    failing: u64,
-    store: &mut MemStore,
-    out: &mut MemSink,
-) -> Result<(Outcome, bool), OutOfMemory>
-    requires { length words.now < 2 ^ 31 }
-{
-    let mut input = input_of(alloc, records, failing)?;
-    let outcome = plain(alloc, words, store, &mut input, out);
-    Ok((outcome, input.left() == records))
-}
-
-fn run_words(
-    alloc: Global,
-    words: &[String],
-    files: &[(&str, &[u8])],
-    records: &[u8],
-    failing: &Failing,
-) -> Result<Ran, OutOfMemory>
-    requires { length words.now < 2 ^ 31 }
-{
-    let mut store = store_of(alloc, files, failing.store)?;
-    let mut out = MemSink::new(alloc, 10, failing_at(alloc, failing.out)?);
-    let (outcome, is_unread) = run_input(
-        alloc,
-        words,
-        records,
-        failing.input,
-        &mut store,
-        &mut out,
-    )?;
-    Ok(Ran {
-        outcome,
-        store,
-        out,
-        is_unread,
-    })
-}
-
 fn run(
     alloc: Global,
     words: &[&str],
@@ -145,8 +102,18 @@ fn run(
     records: &[u8],
     failing: &Failing,
 ) -> Result<Ran, OutOfMemory> {
+    let mut store = store_of(alloc, files, failing.store)?;
+    let mut input = input_of(alloc, records, failing.input)?;
+    let mut out = MemSink::new(alloc, 10, failing_at(alloc, failing.out)?);
     let words = words_of(alloc, words)?;
-    run_words(alloc, words.as_slice(), files, records, failing)
+    let outcome = plain(alloc, words.as_slice(), &mut store, &mut input, &mut out);
+    let is_unread = input.left() == records;
+    Ok(Ran {
+        outcome,
+        store,
+        out,
+        is_unread,
+    })
 }
 
 // A run of the first example with one of its calls failing.
