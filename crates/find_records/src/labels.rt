@@ -59,21 +59,7 @@ fn number_in(spelled: &IndexSet<Vec<u8>>, last: u32, bytes: &[u8]) -> Option<usi
 }
 
 // Adds a spelling behind the others, unless it is there: where it stands, and whether it is new.
-fn add_spelling(spelled: &mut IndexSet<Vec<u8>>, key: Vec<u8>) -> Result<(usize, bool), OutOfMemory>
-    ensures added { IfOk result (λ added. spellings spelled.new.keys ≡ (if added.1
-        then spellings spelled.old.keys ++ key.items ∷ []
-        else spellings spelled.old.keys)) }
-    ensures found { IfOk result (λ added.
-        slice_get (spellings spelled.new.keys) added.0 ≡ Some key.items) }
-    ensures distinct { IsDistinct bytes_eq (spellings spelled.new.keys) }
-    ensures err { OnErr result (spellings spelled.new.keys ≡ spellings spelled.old.keys) }
-{
-    let added = spelled.insert_full(key)?;
-    Ok(added)
-}
-
-// Adds a spelling behind the others, unless it is there, by its bytes.
-fn add_bytes(
+fn add_spelling(
     alloc: Global,
     spelled: &mut IndexSet<Vec<u8>>,
     bytes: &[u8],
@@ -87,7 +73,8 @@ fn add_bytes(
     ensures err { OnErr result (spellings spelled.new.keys ≡ spellings spelled.old.keys) }
 {
     let key = Vec::from_slice(alloc, bytes)?;
-    add_spelling(spelled, key)
+    let added = spelled.insert_full(key)?;
+    Ok(added)
 }
 
 // What is kept of the bytes that spell a label: of the spellings of no label, that without bytes.
@@ -134,7 +121,7 @@ fn add_label(
 {
     labels.reserve(1)?;
     let label = Label::read(alloc, bytes)?;
-    let (number, is_new) = add_bytes(alloc, spelled, kept_spelling(&label, bytes))?;
+    let (number, is_new) = add_spelling(alloc, spelled, kept_spelling(&label, bytes))?;
     keep_label(labels, is_new, label);
     Ok(number)
 }

@@ -1,4 +1,4 @@
-ghost use Rattle.std.specs.Prelude.{◌≡◌, ◌↔◌, ◌<◌, ◌≤◌, ◌+◌, ◌-◌, ◌^◌, ℕ, List, [], Result, Err, length, vec_len, IfOk, IfErr};
+ghost use Rattle.std.specs.Prelude.{◌≡◌, ◌↔◌, ◌<◌, ◌≤◌, ◌-◌, ◌^◌, ℕ, List, [], Result, Err, length, vec_len, IfOk, IfErr};
 ghost use Rattle.label_base.specs.Answers.{Answers};
 ghost use Rattle.find_records.specs.Cause.{records_cause};
 ghost use Rattle.find_records.specs.Grammar.{Means, records_from, records_of};

@@ -154,6 +154,7 @@ fn note_entries_counted<L: Ledger>(
     Ok(noted)
 }
 
+// Walks in these buffers, and counts no steps.
 fn walk_within<'a>(
     alloc: Global,
     input: &WalkInput<'a>,
@@ -168,6 +169,7 @@ fn walk_within<'a>(
     Ok(Walked::of_noted(input, passed, noted.decided, noted.winners))
 }
 
+// The same, with at most one step for each entry that is looked up.
 fn walk_within_counted<'a, L: Ledger>(
     alloc: Global,
     input: &WalkInput<'a>,

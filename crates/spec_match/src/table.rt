@@ -163,6 +163,7 @@ impl Table {
             stays: Vec::with_capacity(alloc, lists)?,
             slots: vec![in alloc; 0u32; slots]?,
             trail: Trail::new(alloc, LONGEST_TRAIL)?,
+            // Last of what may fail, since it has most to drop.
             lists: Lists::new(alloc, lists, members, words)?,
             tried: 0,
             look_ups: 0,

@@ -12,8 +12,8 @@ fn specs_of(alloc: Global, part: Part, text: &[u8]) -> Result<Row<Spec>, SpecFau
     read_specs(alloc, text, part, 9)
 }
 
-// Each function from here inwards reads one file.
-fn ordered_before(
+// Each of the next three functions reads one file and owns what it reads.
+fn ordered_with_local(
     alloc: Global,
     base: Row<Spec>,
     home: Row<Spec>,
@@ -25,7 +25,7 @@ fn ordered_before(
     Ok(ordered(alloc, base, home, local)?)
 }
 
-fn ordered_around(
+fn ordered_with_home(
     alloc: Global,
     base: Row<Spec>,
     home: &[u8],
@@ -35,21 +35,21 @@ fn ordered_around(
     requires local { length local.now < 2 ^ 32 }
 {
     let home = specs_of(alloc, Part::Homedirs, home)?;
-    ordered_before(alloc, base, home, local)
+    ordered_with_local(alloc, base, home, local)
 }
 
-fn ordered_of(alloc: Global, base: &[u8], home: &[u8], local: &[u8]) -> Result<Row<Spec>, Fail>
+fn ordered_texts(alloc: Global, base: &[u8], home: &[u8], local: &[u8]) -> Result<Row<Spec>, Fail>
     requires base { length base.now < 2 ^ 32 }
     requires home { length home.now < 2 ^ 32 }
     requires local { length local.now < 2 ^ 32 }
 {
     let base = specs_of(alloc, Part::Base, base)?;
-    ordered_around(alloc, base, home, local)
+    ordered_with_home(alloc, base, home, local)
 }
 
 #[test]
 fn puts_exact_texts_last(rt: HostRuntime) -> Result<(), Fail> {
-    let specs = ordered_of(
+    let specs = ordered_texts(
         rt.alloc(),
         b"/etc/foo\\.conf <<none>>\n/etc/.* <<none>>",
         b"/home/[^/]+ -d <<none>>\n/home -d <<none>>",

@@ -101,7 +101,7 @@ fn key_of(records: &Records, parent: u32, place: u32) -> Option<PathKey<'_>> {
 }
 
 // The entries of a directory, in the order of their names.
-fn names_in<'r>(
+fn sorted_names<'r>(
     alloc: Global,
     records: &'r Records,
     next: &[u32],
@@ -136,15 +136,15 @@ fn pile(
         }
         return Ok(());
     }
-    let names = names_in(alloc, records, next, parent, first)?;
+    let names = sorted_names(alloc, records, next, parent, first)?;
     'sorted: for name in names.as_slice().iter().rev() {
         piled.push(name.1)?;
     }
     Ok(())
 }
 
-// Puts the entries of a tree in order, where each place is given with the next one of its directory, and
-// each directory with its first entry.
+// Puts what is on the pile in order, each directory before what is in it. Each place is given with the next one
+// of its directory, and each directory with its first entry.
 fn put_below(
     alloc: Global,
     records: &Records,

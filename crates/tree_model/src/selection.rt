@@ -9,7 +9,7 @@ use crate::exclude::clear_below;
 use crate::marks::all_dead;
 use crate::sorted::Sorted;
 use crate::tree::Tree;
-use file_paths::{Choice, NormPath};
+use file_paths::Choice;
 use label_base::{OutOfMemory, Row};
 use std::alloc::Global;
 use std::marker::Model;
