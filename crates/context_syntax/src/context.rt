@@ -17,7 +17,7 @@ pub(crate) const COLON: u8 = b':';
 
 /// A security context, as restorecon(8) and file_contexts(5) write it: `user:role:type`, or `user:role:type:range`.
 /// Each part is in the grammar of its place, so there is one spelling for each value.
-#[derive(Debug, Drop)]
+#[derive(Debug)]
 pub struct Context {
     /// One or more of the ASCII letters and digits, `_`, `.` and `-`.
     pub user: Bytes,
@@ -27,6 +27,17 @@ pub struct Context {
     pub kind: Bytes,
     /// The level or range, if there is one: one or more printing bytes other than blanks, `"` and `\`.
     pub range: Option<Bytes>,
+}
+
+impl Drop for Context {
+    fn drop(self) {
+        let Context {
+            user: _,
+            role: _,
+            kind: _,
+            range: _,
+        } = self;
+    }
 }
 
 impl Model for Context {

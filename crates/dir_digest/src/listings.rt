@@ -22,7 +22,6 @@ use std::alloc::Global;
 
 /// What makes the listings of directories. All that they have in common is spelled once, so that a listing costs no
 /// more than the specifications that are relevant for its own directory.
-#[derive(Drop)]
 pub struct Listings<'a> {
     mode: Mode,
     types: &'a TypeNames,
@@ -33,6 +32,19 @@ pub struct Listings<'a> {
     // The fields of each specification.
     specs: Row<Bytes>,
     ghost spelled: { AreSpelled (terms_of mode types.now subs.now rules.now) shared specs },
+}
+
+impl Drop for Listings<'_> {
+    fn drop(self) {
+        let Listings {
+            mode: _,
+            types: _,
+            subs: _,
+            rules: _,
+            shared: _,
+            specs: _,
+        } = self;
+    }
 }
 
 fn shared_of(

@@ -23,12 +23,21 @@ use std::alloc::Global;
 use std::marker::Model;
 
 /// Records, seen as their list. A record costs no allocation of its own.
-#[derive(Drop)]
 pub struct Records {
     // The texts of all paths, one behind the other.
     texts: Vec<u8>,
     marks: Marks,
     rows: Vec<RecordRow>,
+}
+
+impl Drop for Records {
+    fn drop(self) {
+        let Records {
+            texts: _,
+            marks: _,
+            rows: _,
+        } = self;
+    }
 }
 
 impl Model for Records {
@@ -188,9 +197,14 @@ impl Records {
             return Ok(self);
         }
         let laid = lay(alloc, self.texts.as_slice(), self.rows.as_slice(), places)?;
+        let Records {
+            texts: _,
+            marks,
+            rows: _,
+        } = self;
         Ok(Records {
             texts: laid.texts,
-            marks: self.marks,
+            marks,
             rows: laid.rows,
         })
     }

@@ -3,7 +3,6 @@ use path_subs::Subs;
 use spec_match::RuleSet;
 
 /// What decides the labels of a tree.
-#[derive(Drop)]
 pub struct Rules {
     /// The specifications, in the order in which the last match decides.
     pub rules: RuleSet,
@@ -11,4 +10,14 @@ pub struct Rules {
     pub subs: Subs,
     /// The customizable types.
     pub types: TypeNames,
+}
+
+impl Drop for Rules {
+    fn drop(self) {
+        let Rules {
+            rules: _,
+            subs: _,
+            types: _,
+        } = self;
+    }
 }

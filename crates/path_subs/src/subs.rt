@@ -11,12 +11,21 @@ use label_base::OutOfMemory;
 use std::alloc::Global;
 
 /// The substitutions of a policy. Each stage is applied at most once.
-#[derive(Debug, Drop)]
+#[derive(Debug)]
 pub struct Subs {
     /// The lines of file_contexts.subs.
     pub first: SubList,
     /// The lines of file_contexts.subs_dist, which change what the first stage gives.
     pub second: SubList,
+}
+
+impl Drop for Subs {
+    fn drop(self) {
+        let Subs {
+            first: _,
+            second: _,
+        } = self;
+    }
 }
 
 fn copy_of(alloc: Global, path: &PathRef<'_>) -> Result<NormPath, OutOfMemory>

@@ -21,11 +21,19 @@ use std::alloc::Global;
 use std::marker::Model;
 
 /// A pattern made ready for matching, seen as the pattern.
-#[derive(Drop)]
 pub struct Matcher {
     start: Bytes,
     // The automaton of what stands behind the literal start.
     machine: Machine,
+}
+
+impl Drop for Matcher {
+    fn drop(self) {
+        let Matcher {
+            start: _,
+            machine: _,
+        } = self;
+    }
 }
 
 impl Model for Matcher {

@@ -14,11 +14,17 @@ use std::alloc::Global;
 use std::marker::Model;
 
 /// A pattern of a file_contexts specification, seen as a tree.
-#[derive(Debug, Drop)]
+#[derive(Debug)]
 pub struct Pattern {
     // The bytes that each text of its language begins with, and the nodes behind them.
     start: Bytes,
     rest: Vec<Node>,
+}
+
+impl Drop for Pattern {
+    fn drop(self) {
+        let Pattern { start: _, rest: _ } = self;
+    }
 }
 
 impl Model for Pattern {

@@ -17,11 +17,16 @@ use std::alloc::Global;
 use tool_words::Command;
 
 /// What the files say that a command reads.
-#[derive(Drop)]
 pub struct Policy {
     pub rules: Rules,
     /// The dump that holds the stored digests.
     pub kept: Dump,
+}
+
+impl Drop for Policy {
+    fn drop(self) {
+        let Policy { rules: _, kept: _ } = self;
+    }
 }
 
 // Reads the file of stored digests.

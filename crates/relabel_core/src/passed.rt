@@ -21,12 +21,17 @@ pub enum Skip {
 
 /// What is found of the directories before any entry is looked up: which entries are skipped, and the digests that are made
 /// anew.
-#[derive(Drop)]
 pub struct Passed {
     // For each entry; nothing where no digests are asked for.
     pub(crate) skips: Vec<Skip>,
     // By the indices of the directories.
     pub(crate) made: BTreeMap<u32, [u8; 20]>,
+}
+
+impl Drop for Passed {
+    fn drop(self) {
+        let Passed { skips: _, made: _ } = self;
+    }
 }
 
 impl Passed {

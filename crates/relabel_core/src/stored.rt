@@ -13,9 +13,14 @@ use tree_model::Tree;
 
 /// The digests that are stored for the directories of a tree, by the indices of their entries. It takes memory for these
 /// alone.
-#[derive(Drop)]
 pub struct Stored {
     kept: BTreeMap<u32, Bytes>,
+}
+
+impl Drop for Stored {
+    fn drop(self) {
+        let Stored { kept: _ } = self;
+    }
 }
 
 // Keeps a digest of a directory, in the place of the one that is kept of it.

@@ -17,7 +17,6 @@ use report_text::Message;
 /// What a walk over a tree answers. It lends the tree and the rules, and keeps two numbers of its own: for each entry the
 /// specification that decides it, and for each group of names of one inode its winner. Labels and lines are made from these,
 /// entry by entry.
-#[derive(Drop)]
 pub struct Walked<'a> {
     pub(crate) input: WalkInput<'a>,
     // For each entry the index of its specification.
@@ -28,6 +27,17 @@ pub struct Walked<'a> {
     ghost fit: { IsFit input },
     ghost were_passed: { ArePassed (walk_of input) passed.skips.items passed.made },
     ghost noted: { AreNoted (walk_of input) (length input.tree.now) decided.items winners.items },
+}
+
+impl Drop for Walked<'_> {
+    fn drop(self) {
+        let Walked {
+            input: _,
+            decided: _,
+            winners: _,
+            passed: _,
+        } = self;
+    }
 }
 
 fn is_at(found: Option<u32>, e: u32) -> bool

@@ -36,13 +36,22 @@ pub struct Saved {
 }
 
 /// What a command tells.
-#[derive(Drop)]
 pub struct Told {
     /// The lines of the report.
     pub report: Bytes,
     pub end: End,
     /// The dump, where one is asked for.
     pub saved: Option<Saved>,
+}
+
+impl Drop for Told {
+    fn drop(self) {
+        let Told {
+            report: _,
+            end: _,
+            saved: _,
+        } = self;
+    }
 }
 
 fn walk_end(errors: u32) -> End

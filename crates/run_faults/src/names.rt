@@ -18,7 +18,7 @@ const CUSTOMIZABLE_TYPES: &str = "/etc/selinux/targeted/contexts/customizable_ty
 
 /// The names of the files that a command reads: the base file of a policy and those that stand beside it, as
 /// selabel_file(5) has them, and the file of stored digests, which has no name where none is asked for.
-#[derive(Debug, Drop)]
+#[derive(Debug)]
 pub struct FileNames {
     pub base: Name,
     pub homedirs: Name,
@@ -26,6 +26,19 @@ pub struct FileNames {
     pub subs: Name,
     pub subs_dist: Name,
     pub kept: Name,
+}
+
+impl Drop for FileNames {
+    fn drop(self) {
+        let FileNames {
+            base: _,
+            homedirs: _,
+            local: _,
+            subs: _,
+            subs_dist: _,
+            kept: _,
+        } = self;
+    }
 }
 
 fn joined(alloc: Global, base: &str, suffix: &str) -> Result<Name, OutOfMemory>

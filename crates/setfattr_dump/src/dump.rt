@@ -19,10 +19,16 @@ pub struct Attr {
 }
 
 /// A file and attributes of it, in the order in which they stand.
-#[derive(Debug, Drop)]
+#[derive(Debug)]
 pub struct Section {
     pub name: NormPath,
     pub attrs: Row<Attr>,
+}
+
+impl Drop for Section {
+    fn drop(self) {
+        let Section { name: _, attrs: _ } = self;
+    }
 }
 
 /// Sections in the order in which they stand. Several may have the same name.

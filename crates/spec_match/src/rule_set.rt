@@ -37,11 +37,19 @@ const MOST_WHOLE_MEMBERS: usize = 262_144;
 const MOST_WHOLE_WORDS: usize = 262_144;
 
 /// A list of specifications in which the last match is looked for, seen as that list.
-#[derive(Drop)]
 pub struct RuleSet {
     pub(crate) rules: Vec<Rule>,
     // Where those are found whose literal start a text begins with.
     starts: Starts,
+}
+
+impl Drop for RuleSet {
+    fn drop(self) {
+        let RuleSet {
+            rules: _,
+            starts: _,
+        } = self;
+    }
 }
 
 impl Model for RuleSet {

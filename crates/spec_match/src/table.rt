@@ -33,7 +33,6 @@ const LONGEST_TRAIL: usize = 4096;
 
 /// Which list of specifications each byte leads to from which, and what is answered where, as far as earlier look-ups found
 /// out. All memory is reserved when it is made.
-#[derive(Drop)]
 pub struct Table {
     // Whether lists end at the first specification that covers whatever follows.
     pub(crate) cuts: bool,
@@ -54,6 +53,24 @@ pub struct Table {
     is_full: bool,
     // At how many look-ups all may be forgotten, if it is full.
     due: u64,
+}
+
+impl Drop for Table {
+    fn drop(self) {
+        let Table {
+            cuts: _,
+            lists: _,
+            next: _,
+            answers: _,
+            stays: _,
+            slots: _,
+            trail: _,
+            tried: _,
+            look_ups: _,
+            is_full: _,
+            due: _,
+        } = self;
+    }
 }
 
 // Copies of a value behind the others, for which there is room.

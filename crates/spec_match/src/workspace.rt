@@ -22,7 +22,6 @@ use pattern_match::States;
 use std::alloc::Global;
 
 /// The states in which patterns are matched, and what earlier look-ups found out.
-#[derive(Drop)]
 pub struct Workspace {
     pub(crate) states: Vec<States>,
     pub(crate) table: Table,
@@ -30,6 +29,17 @@ pub struct Workspace {
     pub(crate) whole: Table,
     // How many specifications were tried by themselves.
     pub(crate) tried: u64,
+}
+
+impl Drop for Workspace {
+    fn drop(self) {
+        let Workspace {
+            states: _,
+            table: _,
+            whole: _,
+            tried: _,
+        } = self;
+    }
 }
 
 impl Workspace {

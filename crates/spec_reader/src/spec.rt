@@ -13,7 +13,7 @@ pub enum Decision {
 }
 
 /// One specification of a file_contexts file. Its pattern is what its text reads as, and its kind isn't `Other`.
-#[derive(Debug, Drop)]
+#[derive(Debug)]
 pub struct Spec {
     /// The pattern field as it stands in the line.
     pub text: Bytes,
@@ -25,6 +25,19 @@ pub struct Spec {
     pub part: Part,
     /// The line's number, from 1.
     pub line: u32,
+}
+
+impl Drop for Spec {
+    fn drop(self) {
+        let Spec {
+            text: _,
+            pattern: _,
+            kind: _,
+            decision: _,
+            part: _,
+            line: _,
+        } = self;
+    }
 }
 
 impl Model for Spec {

@@ -2,7 +2,7 @@ use file_paths::{Choice, NormPath, Options};
 use label_base::{EntryKind, Name, Row};
 
 /// What setfiles(8) or restorecon(8) is asked for.
-#[derive(Debug, Drop)]
+#[derive(Debug)]
 pub struct RelabelWords {
     /// The name of the file of specifications.
     pub base: Name,
@@ -21,8 +21,22 @@ pub struct RelabelWords {
     pub output: Option<Name>,
 }
 
+impl Drop for RelabelWords {
+    fn drop(self) {
+        let RelabelWords {
+            base: _,
+            choice: _,
+            options: _,
+            workers: _,
+            soft_errors: _,
+            kept: _,
+            output: _,
+        } = self;
+    }
+}
+
 /// What matchpathcon(8) is asked for.
-#[derive(Debug, Drop)]
+#[derive(Debug)]
 pub struct LookupWords {
     /// The name of the file of specifications.
     pub base: Name,
@@ -34,6 +48,18 @@ pub struct LookupWords {
     pub verify: bool,
     /// The paths, in the order of the words.
     pub paths: Row<NormPath>,
+}
+
+impl Drop for LookupWords {
+    fn drop(self) {
+        let LookupWords {
+            base: _,
+            asked: _,
+            bare: _,
+            verify: _,
+            paths: _,
+        } = self;
+    }
 }
 
 /// What the words ask for.

@@ -181,7 +181,6 @@ pub fn list_names(alloc: Global, chains: &Chains, groups: &[u32]) -> Result<Name
 }
 
 /// What a tree keeps of its groups.
-#[derive(Drop)]
 pub struct Groups {
     /// How many there are.
     pub total: u32,
@@ -193,6 +192,18 @@ pub struct Groups {
     pub starts: Vec<u32>,
     /// For each entry whether its extent is closed.
     pub closed: Vec<bool>,
+}
+
+impl Drop for Groups {
+    fn drop(self) {
+        let Groups {
+            total: _,
+            group_of: _,
+            names: _,
+            starts: _,
+            closed: _,
+        } = self;
+    }
 }
 
 impl Groups {

@@ -15,13 +15,23 @@ use std::alloc::Global;
 use std::marker::Model;
 
 /// The entries of a tree that are meant: they are live.
-#[derive(Debug, Drop)]
+#[derive(Debug)]
 pub struct Selected {
     // For each entry up to the last that isn't live the least index from it on of one that isn't.
     dead: Vec<u32>,
     // How many entries there are: those behind these words are live.
     count: u32,
     absent: Row<u32>,
+}
+
+impl Drop for Selected {
+    fn drop(self) {
+        let Selected {
+            dead: _,
+            count: _,
+            absent: _,
+        } = self;
+    }
 }
 
 impl Model for Selected {

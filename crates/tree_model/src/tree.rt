@@ -30,12 +30,21 @@ use std::marker::Model;
 use walk_steps::Shape;
 
 /// The entries of a tree, seen as their list in the order of their paths.
-#[derive(Drop)]
 pub struct Tree {
     sorted: Sorted,
     // The extent of each entry.
     ends: Vec<u32>,
     groups: Groups,
+}
+
+impl Drop for Tree {
+    fn drop(self) {
+        let Tree {
+            sorted: _,
+            ends: _,
+            groups: _,
+        } = self;
+    }
 }
 
 impl Model for Tree {
