@@ -29,6 +29,7 @@ pub struct Context {
     pub range: Option<Bytes>,
 }
 
+// By hand: one call for an owner, where a derived drop is a step for each field.
 impl Drop for Context {
     fn drop(self) {
         let Context {

@@ -34,6 +34,7 @@ pub struct Listings<'a> {
     ghost spelled: { AreSpelled (terms_of mode types.now subs.now rules.now) shared specs },
 }
 
+// By hand: one call for an owner, where a derived drop is a step for each field.
 impl Drop for Listings<'_> {
     fn drop(self) {
         let Listings {

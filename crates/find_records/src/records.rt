@@ -30,6 +30,7 @@ pub struct Records {
     rows: Vec<RecordRow>,
 }
 
+// By hand: one call for an owner, where a derived drop is a step for each field.
 impl Drop for Records {
     fn drop(self) {
         let Records {

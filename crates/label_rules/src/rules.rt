@@ -12,6 +12,7 @@ pub struct Rules {
     pub types: TypeNames,
 }
 
+// By hand: one call for an owner, where a derived drop is a step for each field.
 impl Drop for Rules {
     fn drop(self) {
         let Rules {

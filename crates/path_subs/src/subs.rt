@@ -19,6 +19,7 @@ pub struct Subs {
     pub second: SubList,
 }
 
+// By hand: one call for an owner, where a derived drop is a step for each field.
 impl Drop for Subs {
     fn drop(self) {
         let Subs {

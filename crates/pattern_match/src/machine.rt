@@ -18,6 +18,7 @@ use std::alloc::Global;
 use std::marker::Model;
 
 /// The automaton of a pattern, seen as the pattern. One that holds the empty text alone takes no memory for tables.
+#[derive(Drop)]
 pub struct Machine {
     nodes: Vec<Node>,
     is_bare: bool,
@@ -30,20 +31,6 @@ pub struct Machine {
     accept: Vec<u64>,
     // The bytes that lead to each state.
     classes: Vec<Class>,
-}
-
-impl Drop for Machine {
-    fn drop(self) {
-        let Machine {
-            nodes: _,
-            is_bare: _,
-            rows: _,
-            width: _,
-            follow: _,
-            accept: _,
-            classes: _,
-        } = self;
-    }
 }
 
 impl Model for Machine {

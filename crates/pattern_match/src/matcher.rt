@@ -27,6 +27,7 @@ pub struct Matcher {
     machine: Machine,
 }
 
+// By hand: one call for an owner, where a derived drop is a step for each field.
 impl Drop for Matcher {
     fn drop(self) {
         let Matcher {

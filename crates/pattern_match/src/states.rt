@@ -8,15 +8,10 @@ use std::alloc::Global;
 use std::marker::Model;
 
 /// What a matcher knows behind a text: how many bytes of the pattern's literal start were read, and then the marks of its automaton.
+#[derive(Drop)]
 pub struct States {
     pub(crate) seen: usize,
     pub(crate) marks: Marks,
-}
-
-impl Drop for States {
-    fn drop(self) {
-        let States { seen: _, marks: _ } = self;
-    }
 }
 
 impl Model for States {

@@ -21,6 +21,7 @@ pub struct Pattern {
     rest: Vec<Node>,
 }
 
+// By hand: one call for an owner, where a derived drop is a step for each field.
 impl Drop for Pattern {
     fn drop(self) {
         let Pattern { start: _, rest: _ } = self;

@@ -23,6 +23,7 @@ pub struct Policy {
     pub kept: Dump,
 }
 
+// By hand: one call for an owner, where a derived drop is a step for each field.
 impl Drop for Policy {
     fn drop(self) {
         let Policy { rules: _, kept: _ } = self;

@@ -28,6 +28,7 @@ pub struct Passed {
     pub(crate) made: BTreeMap<u32, [u8; 20]>,
 }
 
+// By hand: one call for an owner, where a derived drop is a step for each field.
 impl Drop for Passed {
     fn drop(self) {
         let Passed { skips: _, made: _ } = self;

@@ -17,6 +17,7 @@ pub struct Stored {
     kept: BTreeMap<u32, Bytes>,
 }
 
+// By hand: one call for an owner, where a derived drop is a step for each field.
 impl Drop for Stored {
     fn drop(self) {
         let Stored { kept: _ } = self;

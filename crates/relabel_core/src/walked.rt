@@ -29,6 +29,7 @@ pub struct Walked<'a> {
     ghost noted: { AreNoted (walk_of input) (length input.tree.now) decided.items winners.items },
 }
 
+// By hand: one call for an owner, where a derived drop is a step for each field.
 impl Drop for Walked<'_> {
     fn drop(self) {
         let Walked {

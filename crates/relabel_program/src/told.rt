@@ -44,6 +44,7 @@ pub struct Told {
     pub saved: Option<Saved>,
 }
 
+// By hand: one call for an owner, where a derived drop is a step for each field.
 impl Drop for Told {
     fn drop(self) {
         let Told {

@@ -28,6 +28,7 @@ pub struct FileNames {
     pub kept: Name,
 }
 
+// By hand: one call for an owner, where a derived drop is a step for each field.
 impl Drop for FileNames {
     fn drop(self) {
         let FileNames {

@@ -25,6 +25,7 @@ pub struct Section {
     pub attrs: Row<Attr>,
 }
 
+// By hand: one call for an owner, where a derived drop is a step for each field.
 impl Drop for Section {
     fn drop(self) {
         let Section { name: _, attrs: _ } = self;

@@ -16,21 +16,12 @@ pub struct Span {
 }
 
 /// Lists of specifications that are alive, and one that is being written, in memory that was reserved for them.
+#[derive(Drop)]
 pub struct Lists {
     members: Members,
     spans: Vec<Span>,
     // How many members are in lists that are complete.
     done: usize,
-}
-
-impl Drop for Lists {
-    fn drop(self) {
-        let Lists {
-            members: _,
-            spans: _,
-            done: _,
-        } = self;
-    }
 }
 
 impl Model for Lists {

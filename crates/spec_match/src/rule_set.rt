@@ -43,6 +43,7 @@ pub struct RuleSet {
     starts: Starts,
 }
 
+// By hand: one call for an owner, where a derived drop is a step for each field.
 impl Drop for RuleSet {
     fn drop(self) {
         let RuleSet {

@@ -31,6 +31,7 @@ pub struct Workspace {
     pub(crate) tried: u64,
 }
 
+// By hand: one call for an owner, where a derived drop is a step for each field.
 impl Drop for Workspace {
     fn drop(self) {
         let Workspace {

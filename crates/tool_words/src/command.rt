@@ -21,6 +21,7 @@ pub struct RelabelWords {
     pub output: Option<Name>,
 }
 
+// By hand: one call for an owner, where a derived drop is a step for each field.
 impl Drop for RelabelWords {
     fn drop(self) {
         let RelabelWords {
@@ -50,6 +51,7 @@ pub struct LookupWords {
     pub paths: Row<NormPath>,
 }
 
+// By hand: one call for an owner, where a derived drop is a step for each field.
 impl Drop for LookupWords {
     fn drop(self) {
         let LookupWords {

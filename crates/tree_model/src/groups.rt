@@ -194,6 +194,7 @@ pub struct Groups {
     pub closed: Vec<bool>,
 }
 
+// By hand: one call for an owner, where a derived drop is a step for each field.
 impl Drop for Groups {
     fn drop(self) {
         let Groups {

@@ -24,6 +24,7 @@ pub struct Selected {
     absent: Row<u32>,
 }
 
+// By hand: one call for an owner, where a derived drop is a step for each field.
 impl Drop for Selected {
     fn drop(self) {
         let Selected {

@@ -37,6 +37,7 @@ pub struct Tree {
     groups: Groups,
 }
 
+// By hand: one call for an owner, where a derived drop is a step for each field.
 impl Drop for Tree {
     fn drop(self) {
         let Tree {
