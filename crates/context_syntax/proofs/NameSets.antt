@@ -4,7 +4,7 @@ use Rattle.std.specs.Prelude.{Option, Some, None, map as list_map, is_some, is_o
 use Rattle.std.specs.List.{list_any, list_all, dedup, AllByRecursion}
 use Rattle.std.specs.List.Sorted.{IsStrictlySortedBy, IsSorted, IsSortedBy, IsBinarySearchResult, IsSearchInRange}
 use Rattle.std.specs.Str.{bytes_eq}
-use Rattle.std.specs.Cmp.{eq_by_cmp_equiv}
+use Rattle.std.specs.Cmp.{eq_by_cmp_equiv, both_ways}
 use Rattle.std.specs.Cmp.Lexicographic.{slice_cmp, nat_list_cmp_total, nat_list_eq_equiv, texts_ties, same_text}
 use Rattle.std.specs.Ordering.{nat_cmp, eq_by_cmp, is_eq, is_lt, ordering_reverse}
 use Rattle.std.specs.declared.cmp.Ordering.{Ordering}
@@ -59,16 +59,11 @@ tied_same x y e = same_text x y (sym (texts_ties x y ∙ e))
 equal_same : (x y : List ℕ) → bytes_eq x y ≡ true → x ≡ y
 equal_same x y e = same_text x y (sym e)
 
-one_way : (a b : Bool) → (a ≡ true → b ≡ true) → (b ≡ true → a ≡ true) → a ≡ b
-one_way true b f g = sym (f refl)
-one_way false true f g = g refl
-one_way false false f g = refl
-
 -- leaving repeats out leaves the set
 dedup_any : (xs : List (List ℕ)) (name : List ℕ) → list_any (eq_by_cmp byte_order name) (dedup bytes_eq xs) ≡ list_any (eq_by_cmp byte_order name) xs
 dedup_any xs name =
     let equiv = eq_by_cmp_equiv nat_list_cmp_total in
-    one_way _ _
+    both_ways _ _
     (λ t. list_any-from_Contains equiv name xs (Contains-from_dedup bytes_eq xs name (Contains-from_any tied_same name (dedup bytes_eq xs) t)))
     (λ t. list_any-from_Contains equiv name (dedup bytes_eq xs) (Contains-dedup nat_list_eq_equiv equal_same xs name (Contains-from_any tied_same name xs t)))
 

@@ -3,17 +3,11 @@ use Rattle.std.proofs.Common.{◌≡◌, ◌∙◌, ap, sym, refl, subst, ℕ, �
 use Rattle.std.specs.Prelude.{Option, Some, None, ◌&&◌, not}
 use Rattle.std.specs.List.{list_all}
 use Rattle.std.proofs.lemmas.Bool.Decides.{nat_tests}
+use Rattle.std.proofs.lemmas.Option.{cond_some}
+use Rattle.std.specs.Cmp.{first_so, second_so}
 use Rattle.label_base.specs.Cut.{front, behind}
 use Rattle.context_syntax.specs.declared.context.TheConstants.{COLON}
 use Rattle.context_syntax.specs.Context.{ContextValue, IsContext, Spells, is_word, is_word_byte, is_range, is_colon, range_text, context_text, context_of, with_user, with_role, with_kind}
-
-and_first : (x y : Bool) → (x && y) ≡ true → x ≡ true
-and_first true y h = refl
-and_first false y h = h
-
-and_second : (x y : Bool) → (x && y) ≡ true → y ≡ true
-and_second true y h = h
-and_second false y h = cc
 
 -- a colon stands in no word
 no_colon : (b : ℕ) → is_word_byte b ≡ true → is_colon b ≡ false
@@ -22,29 +16,29 @@ no_colon b h = grind (arith, nat_tests)
 front_word : (word rest : List ℕ) → list_all is_word_byte word ≡ true → front is_colon (word ++ COLON ∷ rest) ≡ word
 front_word [] rest h = refl
 front_word (b ∷ bs) rest h =
-    let here = no_colon b (and_first (is_word_byte b) (list_all is_word_byte bs) h) in
-    rw here (ap (λ ys. b ∷ ys) (front_word bs rest (and_second (is_word_byte b) (list_all is_word_byte bs) h)))
+    let here = no_colon b (first_so (is_word_byte b) (list_all is_word_byte bs) h) in
+    rw here (ap (λ ys. b ∷ ys) (front_word bs rest (second_so (is_word_byte b) (list_all is_word_byte bs) h)))
 
 behind_word : (word rest : List ℕ) → list_all is_word_byte word ≡ true → behind is_colon (word ++ COLON ∷ rest) ≡ Some rest
 behind_word [] rest h = refl
 behind_word (b ∷ bs) rest h =
-    let here = no_colon b (and_first (is_word_byte b) (list_all is_word_byte bs) h) in
-    rw here (behind_word bs rest (and_second (is_word_byte b) (list_all is_word_byte bs) h))
+    let here = no_colon b (first_so (is_word_byte b) (list_all is_word_byte bs) h) in
+    rw here (behind_word bs rest (second_so (is_word_byte b) (list_all is_word_byte bs) h))
 
 front_last : (word : List ℕ) → list_all is_word_byte word ≡ true → front is_colon (word ++ []) ≡ word
 front_last [] h = refl
 front_last (b ∷ bs) h =
-    let here = no_colon b (and_first (is_word_byte b) (list_all is_word_byte bs) h) in
-    rw here (ap (λ ys. b ∷ ys) (front_last bs (and_second (is_word_byte b) (list_all is_word_byte bs) h)))
+    let here = no_colon b (first_so (is_word_byte b) (list_all is_word_byte bs) h) in
+    rw here (ap (λ ys. b ∷ ys) (front_last bs (second_so (is_word_byte b) (list_all is_word_byte bs) h)))
 
 behind_last : (word : List ℕ) → list_all is_word_byte word ≡ true → behind is_colon (word ++ []) ≡ None
 behind_last [] h = refl
 behind_last (b ∷ bs) h =
-    let here = no_colon b (and_first (is_word_byte b) (list_all is_word_byte bs) h) in
-    rw here (behind_last bs (and_second (is_word_byte b) (list_all is_word_byte bs) h))
+    let here = no_colon b (first_so (is_word_byte b) (list_all is_word_byte bs) h) in
+    rw here (behind_last bs (second_so (is_word_byte b) (list_all is_word_byte bs) h))
 
 word_bytes : (word : List ℕ) → is_word word ≡ true → list_all is_word_byte word ≡ true
-word_bytes word h = and_second (not (length word == 0)) (list_all is_word_byte word) h
+word_bytes word h = second_so (not (length word == 0)) (list_all is_word_byte word) h
 
 front_kind : (kind : List ℕ) (range : Option (List ℕ)) → list_all is_word_byte kind ≡ true → front is_colon (kind ++ range_text range) ≡ kind
 front_kind kind None h = front_last kind h
@@ -102,10 +96,6 @@ range_joined : (rest : List ℕ) (range : Option (List ℕ)) → behind is_colon
 range_joined rest None h = whole is_colon rest h ∙ sym (append-nil (front is_colon rest))
 range_joined rest (Some r) h = joined is_colon rest COLON colon_is r h
 
-chosen : {A : Type 0} (v : Bool) (x c : A) → cond v (Some x) None ≡ Some c → (v ≡ true) × (x ≡ c)
-chosen true x c h = (refl, cc)
-chosen false x c h = cc
-
 -- the value that passed the tests has parts in the grammar
 kind_sound : (made c : ContextValue) → with_kind made.user made.role made.kind made.range ≡ Some c → (made ≡ c) × IsContext made
 kind_sound made c h =
@@ -113,10 +103,10 @@ kind_sound made c h =
     let role = is_word made.role in
     let kind = is_word made.kind in
     let range = is_range made.range in
-    let found = chosen (user && role && kind && range) made c h in
-    let words = and_first (user && role && kind) range found.0 in
-    let pair = and_first (user && role) kind words in
-    (found.1, record { user = and_first user role pair; role = and_second user role pair; kind = and_second (user && role) kind words; range = and_second (user && role && kind) range found.0 })
+    let found = cond_some (user && role && kind && range) made c h in
+    let words = first_so (user && role && kind) range found.0 in
+    let pair = first_so (user && role) kind words in
+    (found.1, record { user = first_so user role pair; role = second_so user role pair; kind = second_so (user && role) kind words; range = second_so (user && role && kind) range found.0 })
 
 spells_made : (rest : List ℕ) (made c : ContextValue) → with_kind made.user made.role made.kind made.range ≡ Some c → rest ≡ context_text made → Spells rest c
 spells_made rest made c h text =

@@ -12,7 +12,7 @@ use Rattle.file_paths.proofs.PathLemmas.{names_back}
 use Rattle.label_base.specs.declared.kind.EntryKind.{EntryKind}
 use Rattle.label_base.specs.declared.kind.EntryKind.TheVariants.{Regular, Directory, Link, Pipe, Socket, Block, Char, Other}
 use Rattle.context_syntax.specs.Context.{ContextValue, IsContext, context_of, context_text, is_range, is_range_byte, is_word, is_word_byte, range_text}
-use Rattle.context_syntax.proofs.Spelling.{complete, spells_itself}
+use Rattle.context_syntax.proofs.Spelling.{read_back}
 use Rattle.path_subs.specs.Subs.{SubValue}
 use Rattle.spec_reader.specs.SpecValue.{is_spec_kind}
 use Rattle.spec_reader.specs.TypeField.{kind_of}
@@ -23,7 +23,7 @@ use Rattle.dir_digest.specs.ListingBytes.{AreCounted, AreTypes, Fields, IsDecisi
 use Rattle.dir_digest.specs.Spelled.{ended}
 use Rattle.dir_digest.specs.declared.fields.TheConstants.{LISTING_MARK}
 
-head_is : {X : Type 0} (x y : X) (xs ys : List X) → x ∷ xs ≡ y ∷ ys → x ≡ y
+pub head_is : {X : Type 0} (x y : X) (xs ys : List X) → x ∷ xs ≡ y ∷ ys → x ≡ y
 head_is x y xs ys e = cc
 
 tail_is : {X : Type 0} (x y : X) (xs ys : List X) → x ∷ xs ≡ y ∷ ys → xs ≡ ys
@@ -243,9 +243,6 @@ kind_back (Some Other) h = cc
 kind_same : (a b : Option EntryKind) → is_spec_kind a ≡ true → is_spec_kind b ≡ true → kind_field a ≡ kind_field b → a ≡ b
 kind_same a b ha hb e = sym (kind_back a ha) ∙ ap kind_of e ∙ kind_back b hb
 
-context_back : (c : ContextValue) → IsContext c → context_of (context_text c) ≡ Some c
-context_back c h = complete (context_text c) c (spells_itself c h)
-
 -- the decision that a field says
 said_by : Option ContextValue → Decision
 said_by None = Leave
@@ -254,7 +251,7 @@ said_by (Some c) = Give c
 decision_back : (d : Decision) → IsDecision d → said_by (context_of (decision_field d)) ≡ d
 unfolding said_by
 decision_back Leave h = refl
-decision_back (Give c) h = ap said_by (context_back c h)
+decision_back (Give c) h = ap said_by (read_back c h)
 
 decision_same : (a b : Decision) → IsDecision a → IsDecision b → decision_field a ≡ decision_field b → a ≡ b
 decision_same a b ha hb e = sym (decision_back a ha) ∙ ap (λ text. said_by (context_of text)) e ∙ decision_back b hb

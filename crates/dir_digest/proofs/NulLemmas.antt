@@ -3,6 +3,7 @@ use Rattle.std.proofs.Common.{◌≡◌, ◌∙◌, ap, sym, refl, subst, ℕ, z
 use Rattle.std.specs.List.{starts_with}
 use Rattle.std.proofs.lemmas.Bool.{and_parts, cond_both, or_from}
 use Rattle.std.proofs.lemmas.Bool.Decides.{Decides-eqb}
+use Rattle.dir_digest.proofs.ListingLemmas.{head_is}
 use Rattle.pattern_syntax.specs.Classes.{either, outside, is_alnum, is_digit, is_text_byte}
 use Rattle.pattern_syntax.specs.ByteSet.{bytes_with, no_bytes}
 use Rattle.pattern_syntax.specs.Escapes.{Class, Item, One, class_of_letter, control_escape, control_of_letter, escape_at, hexadecimal_at, hexadecimal_byte, hexadecimal_digit, letter_escape, plain_escape}
@@ -298,9 +299,6 @@ set_good (b ∷ bs) =
     (λ e. set_one (b ∷ bs) (parts_from true None no_bytes 0 0 (b ∷ bs)) (parts_good true None no_bytes 0 0 (b ∷ bs) tt))
 
 -- ---- repeats
-
-head_is : {X : Type 0} (x y : X) (xs ys : List X) → x ∷ xs ≡ y ∷ ys → x ≡ y
-head_is x y xs ys e = cc
 
 front_more : (n : ℕ) (text : List ℕ) (b : ℕ) (bs : List ℕ) → drop n text ≡ b ∷ bs → (b == 0) ≡ false → Front n text → Front (suc n) text
 front_more zero [] b bs e z f = tt

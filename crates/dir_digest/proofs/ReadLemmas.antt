@@ -1,9 +1,9 @@
 -- The listings of accepted files are those of which the bytes tell the fields.
-use Rattle.std.proofs.Common.{◌≡◌, ◌∙◌, sym, refl, subst, ℕ, zero, suc, ◌+◌, ◌<◌, ◌≤◌, Bool, true, false, cond, List, [], ◌∷◌, ◌++◌, drop, length, map, filter, Option, Some, None, IfSome, slice_get, arith}
+use Rattle.std.proofs.Common.{◌≡◌, refl, subst, ℕ, zero, suc, ◌+◌, ◌<◌, ◌≤◌, Bool, true, false, cond, List, [], ◌∷◌, drop, length, map, filter, Option, Some, None, IfSome, slice_get, arith}
 use Rattle.std.specs.List.{AllByRecursion, last_or}
-use Rattle.std.proofs.lemmas.Bool.{and_from, and_parts}
-use Rattle.std.proofs.lemmas.List.{drop_all, length-map}
-use Rattle.std.proofs.lemmas.List.Folds.{list_all-append}
+use Rattle.std.proofs.lemmas.Bool.{and_parts}
+use Rattle.std.proofs.lemmas.List.{length-map}
+use Rattle.file_paths.proofs.PathMoves.{are_both}
 use Rattle.file_paths.specs.Path.{Path, are_names, is_name}
 use Rattle.path_subs.specs.Subs.{SubValue, by_last, by_sub, covering, covers, plain, substituted}
 use Rattle.spec_reader.specs.SpecValue.{SpecValue}
@@ -47,10 +47,6 @@ pub each_next : {A : Type 0} (P : A → Type 0) (xs : List A) (i : ℕ) → i < 
     → (AllByRecursion P (drop i xs) → AllByRecursion P xs) → AllByRecursion P (drop (i + 1) xs) → AllByRecursion P xs
 each_next P xs i l h enough rest = enough (each_from P xs i l h rest)
 
--- nothing is behind the last
-pub each_all : {A : Type 0} (P : A → Type 0) (xs : List A) (i : ℕ) → length xs ≤ i → (AllByRecursion P (drop i xs) → AllByRecursion P xs) → AllByRecursion P xs
-each_all P xs i l enough = enough (subst (AllByRecursion P) (sym (drop_all i xs l)) tt)
-
 -- ---- substituted paths are names
 
 behind_names : (n : ℕ) (path : Path) → are_names path ≡ true → are_names (drop n path) ≡ true
@@ -58,12 +54,9 @@ behind_names zero path h = h
 behind_names (suc n) [] h = h
 behind_names (suc n) (name ∷ path) h = behind_names n path (and_parts (is_name name) (are_names path) h).1
 
-joined_names : (a b : Path) → are_names a ≡ true → are_names b ≡ true → are_names (a ++ b) ≡ true
-joined_names a b h k = list_all-append is_name a b ∙ and_from (are_names a) (are_names b) h k
-
 by_sub_names : (path : Path) (o : Option SubValue) → IfSome o IsSub → are_names path ≡ true → are_names (by_sub path o) ≡ true
 by_sub_names path None s h = h
-by_sub_names path (Some sub) s h = joined_names sub.target (drop (length sub.source) path) s.1 (behind_names (length sub.source) path h)
+by_sub_names path (Some sub) s h = are_both sub.target (drop (length sub.source) path) s.1 (behind_names (length sub.source) path h)
 
 by_last_names : (subs : List SubValue) (path : Path) → AllByRecursion IsSub subs → are_names path ≡ true → are_names (by_last subs path) ≡ true
 by_last_names subs path s h =

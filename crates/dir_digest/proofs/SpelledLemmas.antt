@@ -47,7 +47,7 @@ picked_step : (texts : List (List ℕ)) (n : ℕ) (spec : SpecValue) (indices : 
 picked_step texts n spec indices rest true e h = ap₂ (λ a b. a ++ b) e h
 picked_step texts n spec indices rest false e h = h
 
-map_cond : {A B : Type 0} (f : A → B) (b : Bool) (x : A) (xs : List A) → map f (cond b (x ∷ xs) xs) ≡ cond b (f x ∷ map f xs) (map f xs)
+pub map_cond : {A B : Type 0} (f : A → B) (b : Bool) (x : A) (xs : List A) → map f (cond b (x ∷ xs) xs) ≡ cond b (f x ∷ map f xs) (map f xs)
 map_cond f true x xs = refl
 map_cond f false x xs = refl
 

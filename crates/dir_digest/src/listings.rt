@@ -1,4 +1,4 @@
-ghost use Rattle.std.specs.Prelude.{◌≡◌, ◌++◌, ◌∷◌, ◌<◌, IfOk, IfSome, OnOk, Some, decimal, get_or, length, [], map, option_map, slice_get};
+ghost use Rattle.std.specs.Prelude.{◌≡◌, ◌++◌, ◌<◌, IfOk, IfSome, OnOk, Some, decimal, get_or, length, [], map, option_map, slice_get};
 ghost use Rattle.std.specs.List.{flat_map};
 ghost use Rattle.file_paths.specs.PathRef.{path_of};
 ghost use Rattle.context_syntax.specs.TypeNames.{in_order};
@@ -126,7 +126,7 @@ fn add_found(
 
 impl<'a> Listings<'a> {
     ghost use Rattle.dir_digest.specs.Listings.{terms_in};
-    ghost use Rattle.dir_digest.specs.Terms.{Terms, digest_on, listing_on};
+    ghost use Rattle.dir_digest.specs.Terms.{digest_on, listing_on};
 
     /// Spells what all listings have in common. Whatever the types, substitutions and specifications are, their types
     /// keep what accepted files are, so that the laws on listings hold of these.

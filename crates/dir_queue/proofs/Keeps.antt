@@ -1,5 +1,5 @@
 -- Each step keeps the rule of the queue.
-use Rattle.std.proofs.Common.{◌≡◌, ◌≢◌, ℕ, zero, suc, ◌+◌, ◌<◌, ◌≤◌, Bool, false, true≢false, cond, eq-eqb, ne_eqb, List, [], ◌∷◌, ◌++◌, set, length, refl, sym, ap, subst, ◌∙◌, inl, inr, ⊎_elim, arith, sum_by}
+use Rattle.std.proofs.Common.{◌≡◌, ◌≢◌, ℕ, zero, suc, ◌+◌, ◌<◌, ◌≤◌, false, true≢false, List, [], ◌∷◌, ◌++◌, set, length, refl, sym, ap, subst, ◌∙◌, inl, inr, ⊎_elim, arith, sum_by}
 use mathlib.Core.Option.{some, some-injective, some-ne-none}
 use mathlib.Core.Logic.{dite}
 use native.Mathlib.Decide.{dec_le, ℕ_discrete}
@@ -10,33 +10,21 @@ use Rattle.dir_queue.specs.declared.rule.Job.{Job}
 use Rattle.dir_queue.specs.declared.rule.QueueView.{QueueView}
 use Rattle.label_base.proofs.SumLemmas.{sum_set, one_of, only, two_of, someone}
 use Rattle.std.proofs.lemmas.List.Sums.{sum_by_push}
+use Rattle.walk_steps.proofs.ListLemmas.{times_append, hit_same, hit_other}
 use Rattle.walk_steps.specs.Lists.{hit, times}
 use Rattle.dir_queue.specs.Passes.{not_set_up, fresh, spent, with_given, with_taken, for_one_less, for_one, joined, parent_in, MayOffer, HoldsEachOnce}
 use Rattle.dir_queue.specs.Rule.{waiting, all_taken, all_given, Fits, NothingLost, IsKept, IsSetUp, NothingWaits, IsOfferOf, HasRoom, IsTakeOf, Accounts}
 use Rattle.dir_queue.proofs.Room.{room}
 
-abbrev count_if : Bool → ℕ
-count_if b = cond b 1 0
-
-pub times_append : (j : ℕ) (xs ys : List ℕ) → times j (xs ++ ys) ≡ times j xs + times j ys
-times_append j [] ys = omega arith
-times_append j (x ∷ xs) ys = let r = times_append j xs ys in omega (arith, r)
-
 queued_snoc : (j : ℕ) (xs : List Job) (x : Job) → waiting j (xs ++ x ∷ []) ≡ waiting j xs + hit x.number j
 queued_snoc j [] x = omega arith
 queued_snoc j (y ∷ ys) x = let r = queued_snoc j ys x in omega (arith, r)
 
-pub is_one : (i j : ℕ) → i ≡ j → hit i j ≡ 1
-is_one i j e = ap count_if (eq-eqb i j e)
-
-pub is_zero : (i j : ℕ) → i ≢ j → hit i j ≡ 0
-is_zero i j ne = ap count_if (ne_eqb i j ne)
-
 pub root_one : (j : ℕ) → j ≡ 0 → hit 0 j ≡ 1
-root_one j e = is_one 0 j (sym e)
+root_one j e = hit_same 0 j (sym e)
 
 root_zero : (j : ℕ) → j ≢ 0 → hit 0 j ≡ 0
-root_zero j ne = is_zero 0 j (λ e. ne (sym e))
+root_zero j ne = hit_other 0 j (λ e. ne (sym e))
 
 fit_of : (parents : List ℕ) (passes : ℕ) (v : QueueView) → v.is_new ≡ false → (v.stands_for ≡ 0 → (v.taken ≡ []) × (v.given ≡ [])) → (0 < v.stands_for → (v.parents ≡ parents) × (v.passes ≡ passes))
     → ((j : ℕ) → 0 < times j v.given → 0 < times (parent_in parents j) v.taken) → Fits parents passes v
@@ -83,7 +71,7 @@ starts n seat x first some_passes items views room_here (inl t) at = (w, subst (
     run = record {
       whole = omega arith;
       fits = λ p v e. subst (Fits parents passes) (at_first w v p e).1 mine;
-      placed = λ j. dite (ℕ_discrete j 0) (λ (z : j ≡ 0). let a = is_one x.number j (first ∙ sym z) in let b = root_one j z in omega (arith, a, b)) (λ (z : j ≢ 0). let a = is_zero x.number j (λ e. z (sym e ∙ first)) in let b = root_zero j z in omega (arith, a, b));
+      placed = λ j. dite (ℕ_discrete j 0) (λ (z : j ≡ 0). let a = hit_same x.number j (first ∙ sym z) in let b = root_one j z in omega (arith, a, b)) (λ (z : j ≢ 0). let a = hit_other x.number j (λ e. z (sym e ∙ first)) in let b = root_zero j z in omega (arith, a, b));
       once = λ j. dite (ℕ_discrete j 0) (λ (z : j ≡ 0). let b = root_one j z in omega (arith, b)) (λ (z : j ≢ 0). let b = root_zero j z in omega (arith, b));
       inside = λ j h. absurd (omega arith);
     }
@@ -164,14 +152,14 @@ offers n seat v x begun live may items views room_here h at = (w, inr (v.parents
       whole = (let a = sum_set (λ u. u.stands_for) views seat v w at in let b = r.whole in omega (arith, a, b));
       fits = fit_set v.parents v.passes views seat w (fit_of v.parents v.passes w begun (λ z. absurd (omega arith)) (λ _. (refl, refl)) (λ j e. dite (ℕ_discrete x.number j)
           (λ (same : x.number ≡ j). subst (λ (k : ℕ). 0 < times (parent_in v.parents k) v.taken) same may.parent)
-          (λ (ne : x.number ≢ j). (r.fits seat v at).under j (let a = times_append j v.given (x.number ∷ []) in let b = is_zero x.number j ne in omega (arith, a, b, e))))) r.fits;
+          (λ (ne : x.number ≢ j). (r.fits seat v at).under j (let a = times_append j v.given (x.number ∷ []) in let b = hit_other x.number j ne in omega (arith, a, b, e))))) r.fits;
       placed = λ j. let a = given j in let b = taken j in let c = r.placed j in let d = queued_snoc j items x in omega (arith, a, b, c, d);
       once = λ j. dite (ℕ_discrete x.number j)
-          (λ (e : x.number ≡ j). let a = given j in let b = is_one x.number j e in let c : all_given j views ≡ 0 = ap (λ (k : ℕ). all_given k views) (sym e) ∙ nobody in let d = root_zero j (λ z. let p = may.positive in omega (arith, e, z, p)) in omega (arith, a, b, c, d))
-          (λ (ne : x.number ≢ j). let a = given j in let b = is_zero x.number j ne in let c = r.once j in omega (arith, a, b, c));
+          (λ (e : x.number ≡ j). let a = given j in let b = hit_same x.number j e in let c : all_given j views ≡ 0 = ap (λ (k : ℕ). all_given k views) (sym e) ∙ nobody in let d = root_zero j (λ z. let p = may.positive in omega (arith, e, z, p)) in omega (arith, a, b, c, d))
+          (λ (ne : x.number ≢ j). let a = given j in let b = hit_other x.number j ne in let c = r.once j in omega (arith, a, b, c));
       inside = λ j k. dite (ℕ_discrete x.number j)
           (λ (e : x.number ≡ j). let p = may.within in omega (arith, e, p))
-          (λ (ne : x.number ≢ j). r.inside j (let a = given j in let b = is_zero x.number j ne in omega (arith, a, b, k)));
+          (λ (ne : x.number ≢ j). r.inside j (let a = given j in let b = hit_other x.number j ne in omega (arith, a, b, k)));
     }
 
 pub rooms : (seat : ℕ) (v : QueueView) → v.is_new ≡ false → 0 < v.stands_for → Learns IsKept seat v (HasRoom v)
@@ -213,7 +201,7 @@ takes seat v begun live x items views h at = (w, inr (v.parents, v.passes, run),
     w = with_taken v x.number
 
     here : hit x.number x.number ≡ 1
-    here = is_one x.number x.number refl
+    here = hit_same x.number x.number refl
 
     taken : (j : ℕ) → all_taken j (set views seat w) ≡ all_taken j views + hit x.number j
     taken j = let a = sum_set (λ u. times j u.taken) views seat v w at in let b = times_append j v.taken (x.number ∷ []) in omega (arith, a, b)

@@ -1,5 +1,6 @@
 -- What one take or offer more leaves as it was.
 use Rattle.std.proofs.Common.{◌≡◌, ◌≢◌, ℕ, ◌<◌, ◌≤◌, Option, Some, None, List, [], ◌∷◌, ◌++◌, refl, sym, ap, subst, arith, ◌∙◌}
+use Rattle.walk_steps.proofs.ListLemmas.{times_append, hit_same, hit_other}
 use mathlib.Core.Logic.{dite}
 use native.Mathlib.Decide.{dec_le}
 use Rattle.walk_steps.specs.declared.shape.Shape.{Shape}
@@ -7,13 +8,12 @@ use Rattle.walk_steps.specs.Lists.{times}
 use Rattle.dir_queue.specs.declared.rule.QueueView.{QueueView}
 use Rattle.dir_queue.specs.Passes.{parent_in, ParentsAreTaken}
 use Rattle.dir_queue.specs.Answers.{Takes}
-use Rattle.dir_queue.proofs.Keeps.{times_append, is_one, is_zero}
 
 pub given_else : (given : List ℕ) (child other : ℕ) → other ≢ child → times other (given ++ child ∷ []) ≡ times other given
-given_else given child other ne = let a = times_append other given (child ∷ []) in let z = is_zero child other (λ e. ne (sym e)) in omega (arith, a, z)
+given_else given child other ne = let a = times_append other given (child ∷ []) in let z = hit_other child other (λ e. ne (sym e)) in omega (arith, a, z)
 
 pub just_taken : (taken : List ℕ) (job : ℕ) → 0 < times job (taken ++ job ∷ [])
-just_taken taken job = let a = times_append job taken (job ∷ []) in let o = is_one job job refl in omega (arith, a, o)
+just_taken taken job = let a = times_append job taken (job ∷ []) in let o = hit_same job job refl in omega (arith, a, o)
 
 pub still_taken : (shape : Shape) (v w : QueueView) (r : Option ℕ) (job : ℕ) → Takes shape v w r → 0 < times job v.taken → 0 < times job w.taken
 still_taken shape v w None job t h = subst (λ (u : QueueView). 0 < times job u.taken) (sym t) h

@@ -1,5 +1,6 @@
 -- A pass took the parent of each job that it gave.
 use Rattle.std.proofs.Common.{◌≡◌, ◌≢◌, ℕ, ◌<◌, ◌≤◌, List, [], ◌∷◌, sym, subst, arith, Result, Ok, Err, Option, Some, None, MatchResult, MatchOption}
+use Rattle.walk_steps.proofs.ListLemmas.{times_append, hit_other}
 use Rattle.crossbeam_queue.specs.Fifo.{Held}
 use Rattle.dir_queue.specs.declared.rule.Job.{Job}
 use Rattle.dir_queue.specs.Rule.{IsOfferOf, HasRoom, IsTakeOf, Accounts}
@@ -7,16 +8,12 @@ use mathlib.Core.Logic.{dite}
 use native.Mathlib.Decide.{dec_le, ℕ_discrete}
 use Rattle.walk_steps.specs.Lists.{times}
 use Rattle.dir_queue.specs.declared.rule.QueueView.{QueueView}
-use Rattle.dir_queue.specs.Passes.{fresh, with_given, with_taken, joined, parent_in, MayOffer, ParentsAreTaken}
-use Rattle.dir_queue.proofs.Keeps.{times_append, is_zero}
-
-pub fresh_under : (parents : List ℕ) (passes n : ℕ) → ParentsAreTaken (fresh parents passes n)
-fresh_under parents passes n job h = absurd (omega arith)
+use Rattle.dir_queue.specs.Passes.{with_given, with_taken, joined, parent_in, MayOffer, ParentsAreTaken}
 
 pub given_under : (v : QueueView) (job : ℕ) → MayOffer v job → ParentsAreTaken v → ParentsAreTaken (with_given v job)
 given_under v job may under j h = dite (ℕ_discrete job j)
     (λ (e : job ≡ j). subst (λ (k : ℕ). 0 < times (parent_in v.parents k) v.taken) e may.parent)
-    (λ (ne : job ≢ j). under j (let a = times_append j v.given (job ∷ []) in let z = is_zero job j ne in omega (arith, a, z, h)))
+    (λ (ne : job ≢ j). under j (let a = times_append j v.given (job ∷ []) in let z = hit_other job j ne in omega (arith, a, z, h)))
 
 pub taken_under : (v : QueueView) (job : ℕ) → ParentsAreTaken v → ParentsAreTaken (with_taken v job)
 taken_under v job under j h = let p = under j h in let a = times_append (parent_in v.parents j) v.taken (job ∷ []) in omega (arith, p, a)

@@ -4,6 +4,7 @@ use denote.RattleType.{RattleType}
 use denote.Struct.Struct.{Struct}
 use denote.Struct.Owning.{shape}
 use Rattle.std.proofs.Crossing.{crosses}
+use Rattle.label_base.proofs.Sending.{row_sync}
 use Rattle.std.specs.declared.alloc.Allocator.{Ghosts}
 use Rattle.atomic_table.specs.declared.shared.TableRule as Rule
 use Rattle.atomic_table.specs.contracts.shared.Shared as Shared
@@ -29,9 +30,6 @@ lease_sync T A g s f = record { shared = λ d b o ν q. part_keyless (SendLease.
 
 pub job_send : IsSend Job.the_row
 job_send = search sendable depth 20
-
-row_sync : (T : RattleType) → IsSync T → IsSync (Row.the_row T)
-row_sync T s = search (sendable, crosses) depth 40
 
 pub shape_sync : IsSync Shape.the_row
 shape_sync = search (sendable, crosses, row_sync) depth 40

@@ -1,5 +1,6 @@
 -- What a pass that stands for all passes knows.
 use Rattle.std.proofs.Common.{◌≡◌, ◌≢◌, ℕ, zero, suc, ◌+◌, ◌<◌, ◌≤◌, List, [], ◌∷◌, length, refl, ap, subst, arith}
+use Rattle.walk_steps.proofs.ListLemmas.{times_append, hit_same}
 use mathlib.Core.Logic.{dite}
 use native.Mathlib.Decide.{ℕ_discrete}
 use Rattle.crossbeam_queue.specs.Fifo.{Held}
@@ -12,7 +13,7 @@ use Rattle.dir_queue.specs.declared.rule.QueueView.{QueueView}
 use Rattle.dir_queue.specs.Passes.{parent_in, HoldsEachOnce, AllIsTaken}
 use Rattle.dir_queue.specs.Rule.{IsTakeOf, Accounted, Accounts}
 use Rattle.dir_queue.specs.Answers.{one_worker}
-use Rattle.dir_queue.proofs.Keeps.{root_one, times_append, is_one}
+use Rattle.dir_queue.proofs.Keeps.{root_one}
 
 pub accounted_each : (v : QueueView) (items : List Job) → Accounted v items → HoldsEachOnce v
 accounted_each v items a = record {
@@ -31,7 +32,7 @@ pub empty_is_all : (v : QueueView) → Accounted v [] → AllIsTaken v
 empty_is_all v a j h = let p = a.placed j in omega (arith, p, h)
 
 pub take_is_not_all : (v : QueueView) (x : Job) (w : QueueView) → IsTakeOf v x w → v.stands_for ≡ v.passes → ¬ AllIsTaken v
-take_is_not_all v x w t whole all = let mine : 0 < times x.number w.taken = (let e = ap (λ (u : QueueView). times x.number u.taken) t.taken in let s = times_append x.number v.taken (x.number ∷ []) in let h = is_one x.number x.number refl in omega (arith, e, s, h)) in
+take_is_not_all v x w t whole all = let mine : 0 < times x.number w.taken = (let e = ap (λ (u : QueueView). times x.number u.taken) t.taken in let s = times_append x.number v.taken (x.number ∷ []) in let h = hit_same x.number x.number refl in omega (arith, e, s, h)) in
     let given = (t.each whole).given x.number mine in let same = ap (λ (u : QueueView). times x.number u.given) t.taken in
     let taken = all x.number (omega (arith, given, same)) in let none = t.new in omega (arith, taken, none)
 

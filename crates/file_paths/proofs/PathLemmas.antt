@@ -4,20 +4,13 @@ use Rattle.std.proofs.lemmas.List.Elements.{filter-append}
 use Rattle.std.proofs.lemmas.List.Concat.{flat_map-append}
 use Rattle.std.proofs.lemmas.List.Splits.{length-slice_split}
 use Rattle.std.proofs.lemmas.Bool.Decides.{nat_tests}
+use Rattle.std.proofs.lemmas.Bool.{or_parts}
 use Rattle.std.specs.Cmp.{first_so, second_so}
 use Rattle.std.specs.Prelude.{filter, slice_index, not, ◌&&◌, ◌||◌}
 use Rattle.std.specs.List.{slice_get, slice_split, onto_first, list_any, list_all, count_by}
 use Rattle.label_base.specs.Text.{is_nonempty}
 use Rattle.file_paths.specs.Path.{Path, is_slash, is_name, is_name_byte, are_names, path_names, with_slashes, is_dot_part}
 use Rattle.file_paths.specs.PathText.{IsNormal, begins_plainly, is_plain}
-
-or_first : (x y : Bool) → (x || y) ≡ false → x ≡ false
-or_first true y h = cc
-or_first false y h = refl
-
-or_second : (x y : Bool) → (x || y) ≡ false → y ≡ false
-or_second true y h = cc
-or_second false y h = h
 
 by_slash : (b : ℕ) (pieces : List (List ℕ)) (v : Bool) → (b == 47) ≡ v → (b == 0) ≡ false → list_all (list_all is_name_byte) pieces ≡ true → list_all (list_all is_name_byte) (cond v ([] ∷ pieces) (onto_first b pieces)) ≡ true
 by_slash b pieces true e n ih = ih
@@ -27,9 +20,9 @@ by_slash b (p ∷ ps) false e n ih = rw (e, n) ih
 -- the pieces have no slash, and no NUL where the bytes have none
 pieces_ok : (bytes : List ℕ) → list_any (λ b. b == 0) bytes ≡ false → list_all (list_all is_name_byte) (slice_split is_slash bytes) ≡ true
 pieces_ok [] h = refl
-pieces_ok (b ∷ bs) h = by_slash b (slice_split is_slash bs) (b == 47) refl (or_first _ _ h) (pieces_ok bs (or_second (b == 0) _ h))
+pieces_ok (b ∷ bs) h = by_slash b (slice_split is_slash bs) (b == 47) refl (or_parts _ _ h).0 (pieces_ok bs (or_parts (b == 0) _ h).1)
 
-both : (x y z : Bool) → (x && y) ≡ true → (y ≡ true → z ≡ true) → (x && z) ≡ true
+pub both : (x y z : Bool) → (x && y) ≡ true → (y ≡ true → z ≡ true) → (x && z) ≡ true
 both true y z h f = f h
 both false y z h f = h
 
@@ -137,13 +130,6 @@ behind_first_slash (n ∷ ns) h g = pieces_behind n ns (second_so (is_name n) _ 
 
 pub names_behind_first : (text : List ℕ) → IsNormal text → 0 < length (path_names text) → slice_split is_slash (drop 1 text) ≡ path_names text
 names_behind_first text (t, h) g = ap (λ xs. slice_split is_slash (drop 1 xs)) (sym t) ∙ behind_first_slash (path_names text) h g
-
-text_of_some : (names : Path) → 0 < length names → 1 ≤ length (with_slashes names)
-text_of_some [] g = absurd (omega arith)
-text_of_some (n ∷ ns) g = omega arith
-
-pub some_text : (text : List ℕ) → IsNormal text → 0 < length (path_names text) → 1 ≤ length text
-some_text text (t, h) g = let k = text_of_some (path_names text) g in let e : length (with_slashes (path_names text)) ≡ length text = ap length t in omega arith
 
 -- ---- pieces one after another
 

@@ -1,12 +1,13 @@
 -- A path whose front gives place to another path's names.
-use Rattle.std.proofs.Common.{◌≡◌, ◌∙◌, ap, sym, refl, subst, ℕ, ◌≤◌, Bool, true, false, List, [], ◌∷◌, ◌++◌, length, drop}
+use Rattle.std.proofs.Common.{◌≡◌, ◌∙◌, ap, sym, refl, subst, ℕ, ◌≤◌, true, List, [], ◌∷◌, ◌++◌, length, drop}
 use Rattle.std.proofs.lemmas.List.Concat.{flat_map-append}
 use Rattle.std.proofs.lemmas.List.Folds.{list_all-append}
 use Rattle.std.proofs.lemmas.List.Prefix.{front_fits, front_rest}
 use Rattle.std.specs.Cmp.{first_so, second_so}
 use Rattle.std.specs.Cmp.Lexicographic.{bytes_decides}
-use Rattle.std.specs.Prelude.{◌&&◌, Some, slice_get}
+use Rattle.std.specs.Prelude.{Some, slice_get}
 use Rattle.std.proofs.Common.{zero, suc}
+use Rattle.std.proofs.lemmas.Bool.{and_from}
 use Rattle.label_base.specs.Text.{same_bytes}
 use Rattle.file_paths.specs.Path.{Path, are_names, at_or_below, is_name, path_names, with_slashes}
 use Rattle.file_paths.specs.PathText.{IsNormal}
@@ -19,19 +20,15 @@ name_at (n ∷ ns) zero name h e = let same : n ≡ name = cc in rw (← same) (
 name_at (n ∷ ns) (suc i) name h e = name_at ns i name (second_so (is_name n) (are_names ns) h) e
 
 -- a path at or below another goes on behind it
-below_front : (ns ms : Path) → at_or_below ns ms ≡ true → ns ≡ ms ++ drop (length ms) ns
+pub below_front : (ns ms : Path) → at_or_below ns ms ≡ true → ns ≡ ms ++ drop (length ms) ns
 below_front ns [] h = refl
 below_front [] (m ∷ ms) h = cc
 below_front (n ∷ ns) (m ∷ ms) h =
     let same : m ≡ n = (bytes_decides m n).0 (first_so (same_bytes m n) (at_or_below ns ms) h) in
     ap (λ k. k ∷ ns) (sym same) ∙ ap (λ ks. m ∷ ks) (below_front ns ms (second_so (same_bytes m n) (at_or_below ns ms) h))
 
-both_so : (x y : Bool) → x ≡ true → y ≡ true → (x && y) ≡ true
-both_so true y h g = g
-both_so false y h g = h
-
-are_both : (ns ms : Path) → are_names ns ≡ true → are_names ms ≡ true → are_names (ns ++ ms) ≡ true
-are_both ns ms h g = list_all-append is_name ns ms ∙ both_so (are_names ns) (are_names ms) h g
+pub are_both : (ns ms : Path) → are_names ns ≡ true → are_names ms ≡ true → are_names (ns ++ ms) ≡ true
+are_both ns ms h g = list_all-append is_name ns ms ∙ and_from (are_names ns) (are_names ms) h g
 
 are_last : (ns ms : Path) → are_names (ns ++ ms) ≡ true → are_names ms ≡ true
 are_last ns ms h = second_so (are_names ns) (are_names ms) (sym (list_all-append is_name ns ms) ∙ h)

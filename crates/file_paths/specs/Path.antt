@@ -1,5 +1,5 @@
 -- Paths: lists of nonempty names without a slash and NUL.
-use Rattle.std.specs.Prelude.{ℕ, Bool, true, false, ◌&&◌, ◌||◌, ◌==◌, List, [], ◌∷◌, length, not, if◌then◌else◌, nat_lt, filter, slice_index, Result, Ok, Err}
+use Rattle.std.specs.Prelude.{ℕ, Bool, false, ◌&&◌, ◌||◌, ◌==◌, List, [], ◌∷◌, length, not, if◌then◌else◌, nat_lt, filter, slice_index, Result, Ok, Err}
 use Rattle.std.specs.List.{flat_map, list_any, list_all, starts_with, slice_split}
 use Rattle.file_paths.specs.declared.path.TheConstants.{DOT, MOST_PATH_BYTES, SLASH}
 use Rattle.file_paths.specs.declared.path_fault.PathWhy.{PathWhy}

@@ -3,7 +3,7 @@ use Rattle.std.proofs.Common.{◌≡◌, ◌∙◌, ap, sym, refl, subst, ℕ, z
 use Rattle.std.specs.Prelude.{Some, slice_get}
 use Rattle.std.specs.List.{AllByRecursion}
 use Rattle.std.proofs.lemmas.List.{length-append, length-map, length-take-le, map-append, take_more}
-use Rattle.std.proofs.lemmas.Option.{get_or_from_slice_get}
+use Rattle.std.proofs.lemmas.Option.{get_or_from_slice_get, slice_get_within}
 use Rattle.file_paths.specs.Path.{path_names}
 use Rattle.context_syntax.specs.declared.label.Label.{Label}
 use Rattle.context_syntax.specs.declared.label.Label.TheVariants.{Absent}
@@ -17,7 +17,7 @@ use Rattle.find_records.specs.declared.row.RecordRow.{RecordRow}
 use Rattle.find_records.proofs.LabelLemmas.{extends_by, extends_self, longer}
 use Rattle.find_records.proofs.LayLemmas.{place_at}
 use Rattle.find_records.proofs.MarkLemmas.{extends_with, known_by, mark_at}
-use Rattle.find_records.proofs.RowLemmas.{all_kept, one_more_within, records_kept, slice_get_within, within_at}
+use Rattle.find_records.proofs.RowLemmas.{all_kept, one_more_within, records_kept, within_at}
 
 -- what grows behind the same grows
 pub extends_behind : (front old new : List Label) → Extends old new → Extends (front ++ old) (front ++ new)
@@ -34,11 +34,6 @@ copied_more labels copies new i x y l e f h same =
 pub marks_known : (t : List ℕ) (l : List Mark) (rows : List RecordRow) → AreWithin t l rows → AllByRecursion (λ row. row.mark < length l) rows
 marks_known t l [] w = tt
 marks_known t l (r ∷ rs) w = (w.0.known, marks_known t l rs w.1)
-
-pub mark_there : (count : ℕ) (rows : List RecordRow) (i : ℕ) (row : RecordRow) → AllByRecursion (λ row. row.mark < count) rows → slice_get rows i ≡ Some row → row.mark < count
-mark_there count [] i row a h = cc
-mark_there count (r ∷ rs) zero row a h = let same : r ≡ row = cc in subst (λ z. z.mark < count) same a.0
-mark_there count (r ∷ rs) (suc i) row a h = mark_there count rs i row a.1 h
 
 -- one record more
 labelled_more : (labels : List Label) (ns : List ℕ) (n : ℕ) (rs : List Record) (r : Record) → length ns ≡ length rs
@@ -116,10 +111,6 @@ module _ (t : List ℕ) (marks : List Mark) (rows : List RecordRow) (numbers : L
   paired_by device label got at with =
       let same : device ≡ (get_or marks row.mark no_mark).device = sym (ap (λ m. m.device) (get_or_from_slice_get marks row.mark (mark_of device label) no_mark got)) in
       paired_more (at ∙ ap (λ d. Some (d, get_or numbers i 0)) same) (subst (λ d. IsWithPair old (d, get_or numbers i 0) new) same with)
-
--- no rows yet
-pub paired_none : (t : List ℕ) (marks : List Mark) (labels : List Label) (pairs : List (ℕ × ℕ)) → pairs ≡ [] → ArePaired t marks [] [] labels pairs []
-paired_none t marks labels pairs e = subst (λ p. ArePaired t marks [] [] labels p []) (sym e) (record { known = tt; few = omega arith; counted = refl; same = refl; within = tt })
 
 -- ---- as they are kept
 

@@ -1,6 +1,6 @@
 -- Rows and the texts of their paths, laid anew in another order.
 use Rattle.std.proofs.Common.{◌≡◌, ◌∙◌, ap, sym, refl, subst, ℕ, zero, suc, ◌+◌, ◌<◌, ◌≤◌, List, [], ◌∷◌, ◌++◌, length, take, drop, get_or, arith}
-use Rattle.std.specs.Prelude.{Some, slice_get, unwrap_or}
+use Rattle.std.specs.Prelude.{Some, slice_get}
 use Rattle.std.proofs.lemmas.List.{length-append, length-drop, length-map, length-take-le, map-append, take_more}
 use Rattle.std.proofs.lemmas.Option.{get_or_from_slice_get}
 use Rattle.file_paths.specs.Path.{path_names}
@@ -19,15 +19,6 @@ pub place_at : (count : ℕ) (places : List ℕ) (i : ℕ) → ArePlaces count p
 place_at count [] i a l = absurd (omega arith)
 place_at count (p ∷ ps) zero a l = a.0
 place_at count (p ∷ ps) (suc i) a l = place_at count ps i a.1 (omega arith)
-
-some_same : {X : Type 0} (x y : X) → Some x ≡ Some y → x ≡ y
-some_same x y h = ap (λ o. unwrap_or o x) h
-
--- the text of a row is there
-pub fit_at : (t : List ℕ) (rows : List RecordRow) (i : ℕ) (row : RecordRow) → Fit t rows → slice_get rows i ≡ Some row → row.at + row.size ≤ length t
-fit_at t [] i row f h = cc
-fit_at t (r ∷ rs) zero row f h = subst (λ z. z.at + z.size ≤ length t) (some_same r row h) f.0
-fit_at t (r ∷ rs) (suc i) row f h = fit_at t rs i row f.1 h
 
 pub all_fit : (t : List ℕ) (l : List Mark) (rows : List RecordRow) → AreWithin t l rows → Fit t rows
 all_fit t l [] w = tt

@@ -1,10 +1,10 @@
 -- Rows and the records for which they stand.
 use Rattle.std.proofs.Common.{◌≡◌, ◌∙◌, ap, sym, refl, subst, ℕ, ◌+◌, ◌-◌, ◌<◌, ◌≤◌, ◌^◌, zero, suc, List, [], ◌∷◌, ◌++◌, length, take, drop, get_or, arith}
-use Rattle.std.specs.Prelude.{Some, slice_get, unwrap_or, Result, Ok, Err, OnErr}
+use Rattle.std.specs.Prelude.{Some, slice_get, Result, Ok, Err, OnErr}
 use Rattle.std.specs.Option.{option_map}
 use Rattle.std.proofs.lemmas.List.{take-append-le, drop-append-le, length-append, length-drop, length-map, map-append, get_or_append_left}
 use Rattle.std.proofs.Math.Seq.{drop-append_seam, take-length}
-use Rattle.std.proofs.lemmas.Option.{slice_get-map, get_or_from_slice_get, slice_get_read}
+use Rattle.std.proofs.lemmas.Option.{slice_get-map, get_or_from_slice_get, slice_get_read, same_Some, slice_get_within}
 use Rattle.file_paths.specs.Path.{Path, path_names}
 use Rattle.file_paths.specs.PathText.{IsNormal}
 use Rattle.find_records.specs.Marks.{Mark, no_mark}
@@ -14,19 +14,11 @@ use Rattle.find_records.specs.Labels.{Extends}
 use Rattle.find_records.specs.Rows.{text_in, record_in, records_in, IsWithin, AreWithin, AreRows}
 use Rattle.find_records.proofs.LabelLemmas.{longer, extends_self}
 
-pub slice_get_within : {X : Type 0} (xs : List X) (i : ℕ) (x : X) → slice_get xs i ≡ Some x → i < length xs
-slice_get_within [] i x h = cc
-slice_get_within (y ∷ ys) zero x h = omega arith
-slice_get_within (y ∷ ys) (suc i) x h = let l = slice_get_within ys i x h in omega (arith, l)
-
 -- ---- one row read
-
-some_same : {X : Type 0} (x y : X) → Some x ≡ Some y → x ≡ y
-some_same x y h = ap (λ o. unwrap_or o x) h
 
 pub within_at : (t : List ℕ) (l : List Mark) (rows : List RecordRow) (i : ℕ) (row : RecordRow) → AreWithin t l rows → slice_get rows i ≡ Some row → IsWithin t l row
 within_at t l [] i row w h = cc
-within_at t l (r ∷ rs) zero row w h = subst (IsWithin t l) (some_same r row h) w.0
+within_at t l (r ∷ rs) zero row w h = subst (IsWithin t l) (same_Some r row h) w.0
 within_at t l (r ∷ rs) (suc i) row w h = within_at t l rs i row w.1 h
 
 pub record_at : (t : List ℕ) (l : List Mark) (rows : List RecordRow) (i : ℕ) (row : RecordRow) → slice_get rows i ≡ Some row → slice_get (records_in t l rows) i ≡ Some (record_in t l row)
@@ -129,7 +121,7 @@ entry_is t l seen rows i row mark text path v r known same names =
 -- the label of a record, by the number of its mark
 pub label_is : (t : List ℕ) (l : List Mark) (seen : List Record) (rows : List RecordRow) (i : ℕ) (row : RecordRow) (a : Record) → records_in t l rows ≡ seen → slice_get rows i ≡ Some row → slice_get seen i ≡ Some a → (get_or l row.mark no_mark).label ≡ a.label
 label_is t l seen rows i row a v r h =
-    ap (λ x. x.label) (some_same (record_in t l row) a (sym (record_at t l rows i row r) ∙ ap (λ s. slice_get s i) v ∙ h))
+    ap (λ x. x.label) (same_Some (record_in t l row) a (sym (record_at t l rows i row r) ∙ ap (λ s. slice_get s i) v ∙ h))
 
 -- ---- the row of what is told
 

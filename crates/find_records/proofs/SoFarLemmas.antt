@@ -1,5 +1,5 @@
 -- What is read so far, with the bytes that are still to come.
-use Rattle.std.proofs.Common.{◌≡◌, ◌∙◌, ap, sym, refl, subst, ℕ, ◌+◌, ◌<◌, true, false, List, [], ◌∷◌, ◌++◌, length, length-append, append_assoc, append-nil, arith}
+use Rattle.std.proofs.Common.{◌≡◌, ◌∙◌, ap, sym, subst, ℕ, ◌+◌, ◌<◌, true, false, List, [], ◌∷◌, ◌++◌, length, length-append, append_assoc, append-nil, arith}
 use Rattle.std.specs.Prelude.{Contains, Option, Some, None, Result, Ok, Err}
 use Rattle.label_base.specs.Answers.{Explains}
 use Rattle.label_base.specs.Lines.{with_front}
@@ -52,10 +52,6 @@ taken_ended most old new before refused pending bytes whole after b w a lacks h 
     ap (λ r. refused_or r (with_front old (records_from most (length old + 1) (pending ++ (bytes ++ NUL ∷ rest))))) b
     ∙ ended_meant most old new refused pending bytes rest (subst (λ t. ¬ Contains t NUL) w lacks) (h ∙ ap (λ t. with_one old (meaning most (length old + 1) t true)) w)
     ∙ ap (λ t. refused_or refused (with_front new (records_from most (length new + 1) (t ++ rest)))) (sym a)
-
-pub is_none : (xs : List ℕ) → length xs ≡ 0 → xs ≡ []
-is_none [] h = refl
-is_none (x ∷ xs) h = absurd (omega (arith, h))
 
 -- ---- the end
 

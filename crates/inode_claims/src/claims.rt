@@ -1,4 +1,4 @@
-ghost use Rattle.std.specs.Prelude.{◌≡◌, ℕ, ◌+◌, ◌-◌, ◌<◌, ◌≤◌, [], ◌∷◌, All, IfOk, length, min, vec_capacity, replicate};
+ghost use Rattle.std.specs.Prelude.{◌≡◌, ℕ, ◌+◌, ◌-◌, ◌<◌, ◌≤◌, [], All, IfOk, length, min, vec_capacity, replicate};
 ghost use Rattle.walk_steps.specs.declared.machine.TheConstants.{NONE_WORD};
 ghost use Rattle.inode_claims.specs.Claiming.{fresh, joined, with_call, IsClaimed};
 

@@ -1,8 +1,7 @@
 -- What the tests of the numbers below a bound tell.
 use Rattle.std.proofs.Common.{ap₂, sym, refl, subst, ℕ, zero, suc, ◌<◌, ◌≤◌, cond, Bool, true, false, ◌⊎◌, ◌||◌, Option, Some, None, inl, inr, arith}
-use Rattle.std.proofs.lemmas.Bool.{and_parts, or_cases, or_parts, or_from, or_left, or_right, cases_lt}
-use Rattle.std.specs.Prelude.{IfSome, nat_lt}
-use Rattle.std.proofs.lemmas.Bool.Decides.{nat_tests}
+use Rattle.std.proofs.lemmas.Bool.{and_parts, or_cases, or_parts, or_from, or_left, or_right, cases_lt, lt-ltb, le-ltb}
+use Rattle.std.specs.Prelude.{IfSome}
 use Rattle.std.proofs.Common.{◌≡◌, ◌∙◌, ap, [], ◌∷◌, length, length-append, ◌&&◌}
 use Rattle.label_base.specs.Bounded.{all_below, all_numbers, any_below, found_or, greater, greatest_below, last_or_found, least_below, implies}
 
@@ -161,20 +160,14 @@ pub greatest_agree : (n : ℕ) (p q : ℕ → Bool) → ((k : ℕ) → k < n →
 greatest_agree zero p q h = refl
 greatest_agree (suc n) p q h = ap₂ (λ o b. last_or_found o n b) (greatest_agree n p q (λ k l. h k (omega (arith, l)))) (h n (omega arith))
 
-is_less : (a b : ℕ) → a < b → nat_lt a b ≡ true
-is_less a b h = grind (arith, nat_tests)
-
-not_less : (a b : ℕ) → b ≤ a → nat_lt a b ≡ false
-not_less a b h = grind (arith, nat_tests)
-
 greater_case : (n : ℕ) (a b : Option ℕ) (p q : Bool) → IfSome a (λ k. k < n) → IfSome b (λ k. k < n)
     → greater (last_or_found a n p) (last_or_found b n q) ≡ last_or_found (greater a b) n (p || q)
 greater_case n a b false false h k = refl
-greater_case n a b true true h k = ap (λ t. cond t (Some n) (Some n)) (not_less n n (omega arith))
+greater_case n a b true true h k = ap (λ t. cond t (Some n) (Some n)) (le-ltb n n (omega arith))
 greater_case n a None true false h k = refl
-greater_case n a (Some j) true false h k = ap (λ t. cond t (Some j) (Some n)) (not_less n j (omega (arith, k)))
+greater_case n a (Some j) true false h k = ap (λ t. cond t (Some j) (Some n)) (le-ltb n j (omega (arith, k)))
 greater_case n None b false true h k = refl
-greater_case n (Some i) b false true h k = ap (λ t. cond t (Some n) (Some i)) (is_less i n h)
+greater_case n (Some i) b false true h k = ap (λ t. cond t (Some n) (Some i)) (lt-ltb i n h)
 
 -- the greater of two is the greatest that passes either test
 pub greater_below : (n : ℕ) (p q : ℕ → Bool) → greater (greatest_below n p) (greatest_below n q) ≡ greatest_below n (λ i. p i || q i)

@@ -3,12 +3,9 @@ use Rattle.std.proofs.Common.{◌≡◌, ◌∙◌, ap, sym, refl, ℕ, suc, ◌
 use Rattle.std.specs.Prelude.{Option, Some, None, ◌==◌, ◌&&◌, nat_lt}
 use Rattle.std.specs.List.{list_all}
 use Rattle.std.proofs.lemmas.Bool.Decides.{nat_tests}
-use Rattle.label_base.specs.Answers.{NoneUnless}
+use Rattle.std.specs.Cmp.{first_so, second_so}
 use Rattle.label_base.specs.Cut.{front, behind}
 use Rattle.label_base.specs.Escape.{is_plain, escaped, is_octal, octal_value, octal_byte, in_front, led_by, unescaped, after_backslash, unescaped_left}
-
-is_backslash : ℕ → Bool
-is_backslash b = b == 92
 
 pub in_front-nil : (o : Option (List ℕ)) → in_front [] o ≡ o
 in_front-nil None = refl
@@ -52,13 +49,9 @@ after_three (x ∷ []) h = absurd (omega arith)
 after_three (x ∷ y ∷ []) h = absurd (omega arith)
 after_three (x ∷ y ∷ z ∷ rest) h = refl
 
-pub none_kept : (free : Bool) (o : Option (List ℕ)) (read : List ℕ) (meant : Option (List ℕ)) → NoneUnless free o → in_front read o ≡ meant → NoneUnless free meant
-none_kept true o read meant h e = tt
-none_kept false o read meant h e = sym e ∙ ap (in_front read) h
-
 -- ---- what was escaped
 
-plain_apart : (b : ℕ) → is_plain b ≡ true → (b == 92) ≡ false
+pub plain_apart : (b : ℕ) → is_plain b ≡ true → (b == 92) ≡ false
 plain_apart b h = grind (arith, nat_tests)
 
 is_octal-digit : (q : ℕ) → q < 8 → is_octal (48 + q) ≡ true
@@ -70,7 +63,7 @@ small n h = grind (arith, nat_tests)
 all_hold : (p q r s : Bool) (v b : ℕ) → p ≡ true → q ≡ true → r ≡ true → s ≡ true → v ≡ b → cond (p && q && r && s) (Some v) None ≡ Some b
 all_hold p q r s v b hp hq hr hs e = rw (hp, hq, hr, hs) (ap Some e)
 
-octal_of : (b : ℕ) → b < 256 → octal_byte (48 + b / 64) (48 + b / 8 % 8) (48 + b % 8) ≡ Some b
+pub octal_of : (b : ℕ) → b < 256 → octal_byte (48 + b / 64) (48 + b / 8 % 8) (48 + b % 8) ≡ Some b
 octal_of b h =
     all_hold _ _ _ _ _ b (is_octal-digit (b / 64) (omega arith)) (is_octal-digit (b / 8 % 8) (omega arith)) (is_octal-digit (b % 8) (omega arith)) (small (octal_value (48 + b / 64) (48 + b / 8 % 8) (48 + b % 8)) (omega arith)) (omega arith)
 
@@ -86,17 +79,9 @@ reads_back (b ∷ bs) h =
     byte_back b (is_plain b) (h 0) refl (escaped bs)
     ∙ ap (led_by (Some b)) (reads_back bs (λ k. h (suc k)))
 
-both_left : (x y : Bool) → (x && y) ≡ true → x ≡ true
-both_left true y h = refl
-both_left false y h = cc
-
-both_right : (x y : Bool) → (x && y) ≡ true → y ≡ true
-both_right true y h = h
-both_right false y h = cc
-
 -- plain text is its own escaped form
 pub escaped_plain : (bytes : List ℕ) → list_all is_plain bytes ≡ true → escaped bytes ≡ bytes
 escaped_plain [] h = refl
 escaped_plain (b ∷ bs) h =
-    ap (λ v. cond v (b ∷ []) (92 ∷ (48 + b / 64) ∷ (48 + b / 8 % 8) ∷ (48 + b % 8) ∷ []) ++ escaped bs) (both_left (is_plain b) (list_all is_plain bs) h)
-    ∙ ap (λ xs. b ∷ xs) (escaped_plain bs (both_right (is_plain b) (list_all is_plain bs) h))
+    ap (λ v. cond v (b ∷ []) (92 ∷ (48 + b / 64) ∷ (48 + b / 8 % 8) ∷ (48 + b % 8) ∷ []) ++ escaped bs) (first_so (is_plain b) (list_all is_plain bs) h)
+    ∙ ap (λ xs. b ∷ xs) (escaped_plain bs (second_so (is_plain b) (list_all is_plain bs) h))

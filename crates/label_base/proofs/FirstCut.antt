@@ -17,7 +17,7 @@ lacks_first b x xs h = ne_eqb x b (λ e. h (0, omega arith, e))
 pub lacks_others : (b x : ℕ) (xs : List ℕ) → ¬ Contains (x ∷ xs) b → ¬ Contains xs b
 lacks_others b x xs h = λ found. h (Contains-append_right (x ∷ []) xs b found)
 
-lacks_more : (b x : ℕ) (xs : List ℕ) → (x ≡ b → ⊥) → ¬ Contains xs b → ¬ Contains (x ∷ xs) b
+pub lacks_more : (b x : ℕ) (xs : List ℕ) → (x ≡ b → ⊥) → ¬ Contains xs b → ¬ Contains (x ∷ xs) b
 lacks_more b x xs other h (zero, within, here) = other here
 lacks_more b x xs other h (suc k, within, here) = h (k, omega arith, here)
 

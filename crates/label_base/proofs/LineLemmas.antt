@@ -3,9 +3,6 @@ use Rattle.std.proofs.Common.{◌≡◌, ◌∙◌, ap, sym, refl, ℕ, ◌==◌
 use Rattle.std.specs.List.{slice_split, onto_first}
 use Rattle.label_base.specs.Lines.{lines_of, without_empty_last}
 
-is_feed : ℕ → Bool
-is_feed b = b == 10
-
 onto_cons : (x : ℕ) (pieces : List (List ℕ)) → (y : List ℕ) × (ys : List (List ℕ)) × (onto_first x pieces ≡ y ∷ ys)
 onto_cons x [] = (x ∷ [], [], refl)
 onto_cons x (p ∷ ps) = (x ∷ p, ps, refl)

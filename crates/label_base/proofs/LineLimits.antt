@@ -1,5 +1,7 @@
 -- What a line adds to the reading of a file, and what a limit means that can't be passed.
 use Rattle.std.proofs.Common.{◌≡◌, ◌∙◌, ap, sym, refl, ℕ, zero, suc, ◌+◌, ◌≤◌, Bool, true, false, cond, List, [], ◌∷◌, ◌++◌, length, take, arith, append_assoc}
+use Rattle.std.proofs.lemmas.Bool.{le-ltb}
+use Rattle.std.proofs.lemmas.List.FromFn.{length-enumerate_from}
 use Rattle.std.specs.Prelude.{Option, Some, None, Result, Ok, Err, is_ok, nat_lt, take_while}
 use Rattle.std.specs.List.{cons_option, enumerate_from, filter_map, prefix_len}
 use Rattle.label_base.specs.Lines.{read_from, with_front, all_or_first, accepted, by_line, limited, line_said, lines_of, lines_read, lines_within, values, value_of, Adds}
@@ -67,16 +69,9 @@ take_few zero xs = omega arith
 take_few (suc n) [] = omega arith
 take_few (suc n) (x ∷ xs) = omega (arith, take_few n xs)
 
-as_many : {A : Type 0} (n : ℕ) (xs : List A) → length (enumerate_from n xs) ≡ length xs
-as_many n [] = refl
-as_many n (x ∷ xs) = omega (arith, as_many (n + 1) xs)
-
 by_room : {B W : Type 0} (room : ℕ) (past : Bool) (read : Result (List B) (LinesWhy W)) → past ≡ false → cond past (Err TooMany) read ≡ read
 by_room room true read h = cc
 by_room room false read h = refl
-
-not_past : (room n : ℕ) → n ≤ room → nat_lt room n ≡ false
-not_past room n h = grind (arith, h)
 
 -- a room that holds a value for each byte is never passed
 pub read_within : {B W : Type 0} (room : ℕ) (meaning : ℕ → List (List ℕ) → Result B W) (text : List ℕ) → length text ≤ room → lines_within room meaning text ≡ by_line (lines_read meaning text)
@@ -85,9 +80,9 @@ read_within room meaning text h =
     let found = take_while (λ l. is_ok (line_said meaning l.0 l.1)) lines in
     let few = few_values (λ l. value_of (line_said meaning l.0 l.1)) found in
     let taken = take_few (prefix_len (λ l. is_ok (line_said meaning l.0 l.1)) lines) lines in
-    let many = as_many 1 (lines_of text) in
+    let many = length-enumerate_from 1 (lines_of text) in
     by_room room (nat_lt room (length (accepted (line_said meaning) lines))) (by_line (lines_read meaning text))
-    (not_past room _ (omega (arith, few, taken, many, lines_few text, h)))
+    (le-ltb room _ (omega (arith, few, taken, many, lines_few text, h)))
 
 by_line_ok : {B W : Type 0} (read : Result (List B) (RefusedLine W)) (found : List B) → by_line read ≡ Ok found → read ≡ Ok found
 by_line_ok (Ok values) found h = cc

@@ -1,6 +1,7 @@
 -- A second decision changes nothing.
 use Rattle.std.proofs.Common.{◌≡◌, refl, ℕ, List, Bool, true, false, if◌then◌else◌}
 use Rattle.std.proofs.lemmas.Slice.Eq.{bytes_eq-Decides}
+use Rattle.std.proofs.lemmas.Bool.{cond_both}
 use Rattle.label_base.specs.Text.{same_bytes}
 use Rattle.context_syntax.specs.Context.{ContextValue, same_context, with_kind_of}
 use Rattle.context_syntax.specs.Equal.{context_decides}
@@ -8,10 +9,6 @@ use Rattle.context_syntax.specs.TypeNames.{NameSet, has_name}
 use Rattle.context_syntax.specs.declared.label.Label.{Label}
 use Rattle.context_syntax.specs.declared.label.Label.TheVariants.{Absent, Odd, Is}
 use Rattle.label_rules.specs.Decide.{VerdictValue, Keep, Customized, Change, is_change, label_by, type_verdict, verdict_for, verdict_on, whole_verdict}
-
-chosen : (P : VerdictValue → Type 0) (b : Bool) (x y : VerdictValue) → (b ≡ true → P x) → (b ≡ false → P y) → P (if b then x else y)
-chosen P true x y f g = f refl
-chosen P false x y f g = g refl
 
 is_kept : (b : Bool) (y : VerdictValue) → b ≡ true → is_change (if b then Keep else y) ≡ false
 is_kept true y h = refl
@@ -41,13 +38,13 @@ customized_again false false y h = absurd cc
 
 settled_on : (force : Bool) (types : NameSet) (c w : ContextValue) → Settles force types c w (verdict_on force types c w)
 settled_on true types c w =
-    chosen (Settles true types c w) (same_context c w) Keep (Change w) (λ h. is_kept (same_context c w) (Change w) h) (λ h. whole_same w)
+    cond_both (same_context c w) Keep (Change w) (Settles true types c w) (λ h. is_kept (same_context c w) (Change w) h) (λ h. whole_same w)
 settled_on false types c w =
     let change = Change (with_kind_of c w) in
     let rest = if has_name types c.kind then Customized else change in
-    chosen (Settles false types c w) (same_bytes c.kind w.kind) Keep rest
+    cond_both (same_bytes c.kind w.kind) Keep rest (Settles false types c w)
     (λ h. type_same types c w h)
-    (λ _. chosen (Settles false types c w) (has_name types c.kind) Customized change
+    (λ _. cond_both (has_name types c.kind) Customized change (Settles false types c w)
     (λ h. customized_again (same_bytes c.kind w.kind) (has_name types c.kind) change h)
     (λ _. type_same types (with_kind_of c w) w (same_kind w.kind)))
 

@@ -1,5 +1,5 @@
 -- The last line that covers a path, by the texts of the path's fronts.
-use Rattle.std.proofs.Common.{◌≡◌, ◌∙◌, ap, ap₂, sym, refl, subst, ℕ, zero, suc, ◌+◌, ◌<◌, ◌≤◌, Bool, true, false, cond, List, [], ◌∷◌, ◌++◌, length, take, drop, arith, add-one, length-append, inl, inr}
+use Rattle.std.proofs.Common.{◌≡◌, ◌∙◌, ap, ap₂, sym, refl, subst, ℕ, zero, suc, ◌+◌, ◌<◌, ◌≤◌, Bool, true, false, List, [], ◌∷◌, ◌++◌, length, take, drop, arith, add-one, length-append}
 use Rattle.std.specs.Prelude.{Option, Some, None, IfSome, ◌&&◌, ◌||◌, nat_le, filter, slice_get, min}
 use Rattle.std.specs.List.{last_or}
 use Rattle.std.specs.Option.{option_map}
@@ -9,14 +9,16 @@ use Rattle.std.proofs.lemmas.List.Concat.{flat_map-append}
 use Rattle.std.proofs.lemmas.List.{take_more, take-append-drop, take_all}
 use Rattle.std.proofs.lemmas.Option.{get_or_from_slice_get, slice_get-get_or, slice_get_within}
 use Rattle.std.proofs.Math.Seq.{take-append_seam}
+use Rattle.std.proofs.lemmas.Bool.{and_right}
+use Rattle.std.specs.Cmp.{second_so}
 use Rattle.std.specs.declared.vec.Vec.{Vec}
 use Rattle.label_base.specs.Bounded.{greater, greatest_below, last_or_found}
 use Rattle.label_base.specs.NumberUnder.{number_under}
 use Rattle.label_base.specs.Text.{same_bytes}
 use Rattle.file_paths.specs.Path.{Path, are_names, at_or_below, is_name, path_text, with_slashes}
-use Rattle.label_base.proofs.BoundedLemmas.{below_or_last, cond_last, greater_below, greatest_agree, greatest_bound, greatest_none, greatest_passes}
+use Rattle.label_base.proofs.BoundedLemmas.{greater_below, greatest_agree, greatest_bound, greatest_none, greatest_passes}
 use Rattle.file_paths.proofs.PathTexts.{same_texts}
-use Rattle.file_paths.proofs.PathLemmas.{text_pushed}
+use Rattle.file_paths.proofs.PathLemmas.{text_pushed, both}
 use Rattle.path_subs.specs.Listed.{IsListed, covers_to, has_text, last_covering, last_with, sub_at, no_sub}
 use Rattle.path_subs.specs.Subs.{SubValue, covering, covers, is_root}
 use Rattle.path_subs.proofs.Covering.{last_found, last_passed}
@@ -63,27 +65,15 @@ front_case (x ∷ xs) (y ∷ ys) (suc d) l =
     rw (le_suc (length ys) (suc d), le_suc (length ys) d, nat_list_eq_equiv.symm y x)
     (and_case (same_bytes x y) (at_or_below xs ys) (nat_le (length ys) (suc d)) (nat_le (length ys) d) (pointwise same_bytes (take (suc d) xs) ys) (front_case xs ys d (omega (arith, l))))
 
-second_true : (a b : Bool) → (a && b) ≡ true → b ≡ true
-second_true true b h = h
-second_true false b h = cc
-
-both_true : (a b c : Bool) → (a && b) ≡ true → (b ≡ true → c ≡ true) → (a && c) ≡ true
-both_true true b c h f = f h
-both_true false b c h f = cc
-
-and_past_right : (a b : Bool) → b ≡ false → (a && b) ≡ false
-and_past_right true b e = e
-and_past_right false b e = refl
-
 names_taken : (path : Path) (k : ℕ) → are_names path ≡ true → are_names (take k path) ≡ true
 names_taken path zero h = refl
 names_taken [] (suc k) h = refl
-names_taken (x ∷ xs) (suc k) h = both_true (is_name x) (are_names xs) (are_names (take k xs)) h (names_taken xs k)
+names_taken (x ∷ xs) (suc k) h = both (is_name x) (are_names xs) (are_names (take k xs)) h (names_taken xs k)
 
 shorter : (xs ys : Path) → at_or_below xs ys ≡ true → length ys ≤ length xs
 shorter xs [] h = omega arith
 shorter [] (y ∷ ys) h = cc
-shorter (x ∷ xs) (y ∷ ys) h = let s = shorter xs ys (second_true (same_bytes y x) (at_or_below xs ys) h) in omega (arith, s)
+shorter (x ∷ xs) (y ∷ ys) h = let s = shorter xs ys (second_so (same_bytes y x) (at_or_below xs ys) h) in omega (arith, s)
 
 -- the line covers the path and has at most one name more: it had at most so many, or it has the front's text
 covers_more : (path : Path) (d : ℕ) (sub : SubValue) → are_names path ≡ true → are_names sub.source ≡ true → d < length path
@@ -95,7 +85,7 @@ covers_more path d sub named own l =
 
 module _ {A : Type 0} (subs : List SubValue) (entries : List (Vec ℕ A × ℕ)) (deepest : ℕ) (listed : IsListed subs (length subs) entries deepest) (path : Path) (named : are_names path ≡ true) where
   no_names : (sub : SubValue) → 0 < length sub.source → covers_to path 0 sub ≡ false
-  no_names sub h = and_past_right (covers path sub) (nat_le (length sub.source) 0) (grind (arith, nat_tests))
+  no_names sub h = and_right (covers path sub) (nat_le (length sub.source) 0) (grind (arith, nat_tests))
 
   -- no name is looked at
   pub found_none : None ≡ greatest_below (length subs) (λ i. covers_to path 0 (sub_at subs i))
@@ -154,21 +144,6 @@ end_within path d k end l e =
 pub front_is : (path : Path) (d k end : ℕ) (text : List ℕ) → d < length path → text ≡ path_text path → end ≡ length (with_slashes (take k path)) → take end text ≡ with_slashes (take k path)
 front_is path d k end text l t e =
     (λ i. take (e i) ((t ∙ text_is path d l ∙ slashes_split path k) i)) ∙ take-append_seam (with_slashes (take k path)) (with_slashes (drop k path))
-
--- ---- a line more
-
-pub listed_more : {A : Type 0} (subs : List SubValue) (n deepest deeper : ℕ) (sub : SubValue) (entries new : List (Vec ℕ A × ℕ)) → slice_get subs n ≡ Some sub
-    → ((text : List ℕ) → number_under text new ≡ cond (has_text text sub) (Some n) (number_under text entries))
-    → 0 < length sub.source → are_names sub.source ≡ true → length sub.source ≤ deeper → deepest ≤ deeper
-    → IsListed subs n entries deepest → IsListed subs (n + 1) new deeper
-listed_more subs n deepest deeper sub entries new h under some named low high listed =
-    let own : sub_at subs n ≡ sub = get_or_from_slice_get subs n sub no_sub h in
-    rw add-one (record {
-      last = λ text. under text ∙ ap₂ (λ s o. cond (has_text text s) (Some n) o) (sym own) (listed.last text) ∙ cond_last n (last_with subs n text) (has_text text (sub_at subs n));
-      some = λ i l. elim (below_or_last n i l) [ inl lt ↦ listed.some i lt | inr same ↦ subst (λ s. 0 < length s.source) (sym own ∙ ap (sub_at subs) same) some ];
-      named = λ i l. elim (below_or_last n i l) [ inl lt ↦ listed.named i lt | inr same ↦ ap (λ s. are_names s.source) (ap (sub_at subs) (sym same) ∙ own) ∙ named ];
-      shallow = λ i l. elim (below_or_last n i l) [ inl lt ↦ (let s = listed.shallow i lt in omega (arith, s, high)) | inr same ↦ subst (λ s. length s.source ≤ deeper) (sym own ∙ ap (sub_at subs) same) low ];
-    })
 
 -- ---- the line with the index
 

@@ -1,10 +1,12 @@
 -- Names that are added below a plain path.
 use Rattle.std.proofs.Common.{◌≡◌, ◌∙◌, ap, sym, refl, ℕ, suc, Bool, true, false, cond, List, [], ◌∷◌, ◌++◌, length, drop, arith, append_assoc}
 use Rattle.std.specs.Bool.{OnTrue}
-use Rattle.std.specs.Prelude.{Option, Some, None, IfSome, filter, not, ◌&&◌, ◌||◌, nat_lt}
+use Rattle.std.specs.Prelude.{Option, Some, None, IfSome, filter, not, ◌&&◌, nat_lt}
 use Rattle.std.specs.List.{last_or, starts_with}
 use Rattle.std.specs.Cmp.Lexicographic.{nat_list_eq_equiv}
 use Rattle.std.proofs.lemmas.Bool.Decides.{nat_tests}
+use Rattle.std.proofs.lemmas.Bool.{or_parts}
+use Rattle.std.specs.Cmp.{second_so}
 use Rattle.label_base.specs.Text.{same_bytes}
 use Rattle.file_paths.specs.Path.{Path, at_or_below, strictly_below}
 use Rattle.path_subs.specs.Subs.{SubValue, KeepsBelow, by_last, by_sub, covering, covers, has_below, plain}
@@ -18,14 +20,6 @@ pub at_or_below_append : (path front rest : Path) → at_or_below path (front ++
 at_or_below_append path [] rest = refl
 at_or_below_append [] (y ∷ ys) rest = refl
 at_or_below_append (x ∷ xs) (y ∷ ys) rest = ap (λ b. same_bytes y x && b) (at_or_below_append xs ys rest) ∙ and_assoc (same_bytes y x) (at_or_below xs ys) _
-
-first_is : (x y : Bool) → (x && y) ≡ true → x ≡ true
-first_is true y h = refl
-first_is false y h = cc
-
-second_is : (x y : Bool) → (x && y) ≡ true → y ≡ true
-second_is true y h = h
-second_is false y h = cc
 
 nat_lt-zero : (n : ℕ) → nat_lt 0 (suc n) ≡ true
 nat_lt-zero n = grind (arith, nat_tests)
@@ -53,22 +47,14 @@ same_front (x ∷ xs) names (y ∷ ys) h =
 pub drop_front : (path source names : Path) → at_or_below path source ≡ true → drop (length source) (path ++ names) ≡ drop (length source) path ++ names
 drop_front path [] names h = refl
 drop_front [] (y ∷ ys) names h = cc
-drop_front (x ∷ xs) (y ∷ ys) names h = drop_front xs ys names (second_is (same_bytes y x) (at_or_below xs ys) h)
-
-or_first : (x y : Bool) → (x || y) ≡ false → x ≡ false
-or_first true y h = cc
-or_first false y h = refl
-
-or_second : (x y : Bool) → (x || y) ≡ false → y ≡ false
-or_second true y h = cc
-or_second false y h = h
+drop_front (x ∷ xs) (y ∷ ys) names h = drop_front xs ys names (second_so (same_bytes y x) (at_or_below xs ys) h)
 
 same_cover : (subs : List SubValue) (path names : Path) → has_below subs path ≡ false → filter (covers (path ++ names)) subs ≡ filter (covers path) subs
 same_cover [] path names h = refl
 same_cover (sub ∷ subs) path names h =
     let below = strictly_below sub.source path in
-    ap (λ b. cond b (sub ∷ filter (covers (path ++ names)) subs) (filter (covers (path ++ names)) subs)) (same_front path names sub.source (or_first below (has_below subs path) h))
-    ∙ ap (λ kept. cond (covers path sub) (sub ∷ kept) kept) (same_cover subs path names (or_second below (has_below subs path) h))
+    ap (λ b. cond b (sub ∷ filter (covers (path ++ names)) subs) (filter (covers (path ++ names)) subs)) (same_front path names sub.source (or_parts below (has_below subs path) h).0)
+    ∙ ap (λ kept. cond (covers path sub) (sub ∷ kept) kept) (same_cover subs path names (or_parts below (has_below subs path) h).1)
 
 covers_cond : (path : Path) (o : Option SubValue) (sub : SubValue) (subs : List SubValue) (b : Bool) → covers path sub ≡ b → IfSome o (λ s. covers path s ≡ true) → ((o' : Option SubValue) → IfSome o' (λ s. covers path s ≡ true) → IfSome (last_or o' (filter (covers path) subs)) (λ s. covers path s ≡ true)) → IfSome (last_or o (cond b (sub ∷ filter (covers path) subs) (filter (covers path) subs))) (λ s. covers path s ≡ true)
 covers_cond path o sub subs true e h f = f (Some sub) e

@@ -4,30 +4,24 @@ use Rattle.std.specs.Prelude.{filter, slice_get, ◌||◌}
 use Rattle.std.specs.List.{list_any, range_with_len}
 use Rattle.std.proofs.lemmas.Bool.Decides.{Decides-eqb, Decides-like}
 use Rattle.std.proofs.lemmas.Option.{slice_get_past, slice_get_read}
+use Rattle.std.proofs.lemmas.Bool.{or_right, or_cases}
+use Rattle.pattern_syntax.proofs.PartsLemmas.{same_byte}
+use Rattle.pattern_match.proofs.Language.{some_set}
+use Rattle.pattern_match.proofs.Holding.{at_or_after}
+use Rattle.std.specs.Cmp.{both_ways, second_so}
 use Rattle.pattern_syntax.specs.declared.byte_set.ByteSet.{ByteSet}
 use Rattle.pattern_syntax.specs.ByteSet.{bytes_with, has_byte}
 use Rattle.pattern_match.specs.declared.class.Class.{Class}
 use Rattle.pattern_match.specs.declared.class.Class.TheVariants.{Byte, Set}
 use Rattle.pattern_match.specs.Class.{HasEachByte, class_bytes, has_class, takes, takes_at}
-use Rattle.pattern_match.proofs.Language.{and_second, or_either}
 use Rattle.pattern_match.specs.Residuals.{is_some_list}
-
-or_right : (x y : Bool) → y ≡ true → (x || y) ≡ true
-or_right true y h = refl
-or_right false y h = h
-
-at_or_after : (lo b : ℕ) → lo ≤ b → (lo ≡ b) ⊎ (lo + 1 ≤ b)
-at_or_after lo b h = grind arith
-
-same : (b : ℕ) → (b == b) ≡ true
-same b = grind arith
 
 keep : (b lo : ℕ) (v : Bool) (kept : List ℕ) → list_any (λ c. c == b) kept ≡ true → list_any (λ c. c == b) (cond v (lo ∷ kept) kept) ≡ true
 keep b lo true kept h = or_right (lo == b) _ h
 keep b lo false kept h = h
 
 put : (b lo : ℕ) (v : Bool) (kept : List ℕ) → lo ≡ b → v ≡ true → list_any (λ c. c == b) (cond v (lo ∷ kept) kept) ≡ true
-put b lo true kept e h = let s : (lo == b) ≡ true = rw e (same b) in rw s refl
+put b lo true kept e h = let s : (lo == b) ≡ true = rw e (same_byte b) in rw s refl
 put b lo false kept e h = cc
 
 -- a number that passes is kept from a run of numbers
@@ -45,7 +39,7 @@ kept_passes p [] b h = cc
 kept_passes p (x ∷ xs) b h = at (p x) refl h (kept_passes p xs b)
   where
     at : (v : Bool) → p x ≡ v → list_any (λ c. c == b) (cond v (x ∷ filter p xs) (filter p xs)) ≡ true → (list_any (λ c. c == b) (filter p xs) ≡ true → p b ≡ true) → p b ≡ true
-    at true q g ih = elim (or_either (x == b) _ g) [ inl e ↦ (let f : x ≡ b = grind arith in subst (λ n. p n ≡ true) f q) | inr r ↦ ih r ]
+    at true q g ih = elim (or_cases (x == b) _ g) [ inl e ↦ (let f : x ≡ b = grind arith in subst (λ n. p n ≡ true) f q) | inr r ↦ ih r ]
     at false q g ih = ih g
 
 -- of a run of numbers none is kept where none passes
@@ -53,27 +47,18 @@ none_kept : (p : ℕ → Bool) (lo n : ℕ) → ((b : ℕ) → lo ≤ b → b < 
 none_kept p lo zero h = refl
 none_kept p lo (suc n) h = let e : p lo ≡ false = h lo (omega arith) (omega arith) in rw e (none_kept p (lo + 1) n (λ b l m. h b (omega arith) (omega arith)))
 
-some_of : (bytes : List ℕ) (b : ℕ) → list_any (λ c. c == b) bytes ≡ true → is_some_list bytes ≡ true
-some_of [] b h = cc
-some_of (c ∷ cs) b h = refl
-
 -- the bytes of a set, as texts have them
 pub some_bytes : (p : ℕ → Bool) (b : ℕ) → 0 < b → b < 256 → p b ≡ true → is_some_list (bytes_with p) ≡ true
 unfolding bytes_with
-some_bytes p b l m e = some_of (filter p (range_with_len 1 255)) b (kept_at p 1 255 b (omega arith) (omega arith) e)
+some_bytes p b l m e = some_set (filter p (range_with_len 1 255)) b (kept_at p 1 255 b (omega arith) (omega arith) e)
 
 pub no_bytes : (p : ℕ → Bool) → ((b : ℕ) → 0 < b → b < 256 → p b ≡ false) → is_some_list (bytes_with p) ≡ false
 unfolding bytes_with
 no_bytes p h = none_kept p 1 255 (λ b l m. h b (omega arith) (omega arith))
 
-same_truth : (u v : Bool) → (u ≡ true → v ≡ true) → (v ≡ true → u ≡ true) → u ≡ v
-same_truth true v f g = sym (f refl)
-same_truth false true f g = g refl
-same_truth false false f g = refl
-
 set_bytes : (p : ℕ → Bool) (b : ℕ) → 0 < b → b < 256 → p b ≡ list_any (λ c. c == b) (bytes_with p)
 unfolding bytes_with
-set_bytes p b l m = same_truth (p b) (list_any (λ c. c == b) (filter p (range_with_len 1 255))) (kept_at p 1 255 b (omega arith) (omega arith)) (kept_passes p (range_with_len 1 255) b)
+set_bytes p b l m = both_ways (p b) (list_any (λ c. c == b) (filter p (range_with_len 1 255))) (kept_at p 1 255 b (omega arith) (omega arith)) (kept_passes p (range_with_len 1 255) b)
 
 none_below : (p : ℕ → Bool) (lo n b : ℕ) → b < lo → list_any (λ c. c == b) (filter p (range_with_len lo n)) ≡ false
 none_below p lo zero b l = refl
@@ -116,7 +101,7 @@ set_takes : (set : ByteSet) → HasEachByte (has_byte set) → HasEachByte (take
 set_takes set h b l m = let n : (b == 0) ≡ false = grind arith in rw n (h b l m)
 
 takes_set : (set : ByteSet) → HasEachByte (takes (Set set)) → HasEachByte (has_byte set)
-takes_set set h b l m = and_second (not (b == 0)) _ (h b l m)
+takes_set set h b l m = second_so (not (b == 0)) _ (h b l m)
 
 pub set_each : (set : ByteSet) (v : Bool) → Decides v (HasEachByte (has_byte set)) → Decides v (HasEachByte (takes (Set set)))
 set_each set v d = Decides-like v (set_takes set) (takes_set set) d

@@ -1,8 +1,9 @@
 -- A pattern's language is its literal start, and behind it the language of the rest.
 use Rattle.std.proofs.Common.{◌≡◌, refl, sym, ◌∙◌, ap, subst, ℕ, ◌+◌, ◌≤◌, ◌==◌, Bool, true, false, List, [], ◌∷◌, ◌++◌, length, Option, Some, None, arith, append_assoc, append-nil, length-append}
+use Rattle.pattern_syntax.proofs.PartsLemmas.{only_byte}
+use Rattle.std.specs.Cmp.{first_so, second_so}
 use Rattle.std.specs.Prelude.{◌||◌, unwrap_or, fold}
 use Rattle.std.specs.List.{list_any}
-use Rattle.pattern_syntax.specs.ByteSet.{only_of}
 use Rattle.pattern_syntax.specs.Tree.{Tree, tree_from, Set, Nothing, Both, Either, Repeat}
 use Rattle.pattern_syntax.specs.Language.{In}
 use Rattle.pattern_syntax.specs.Shape.{is_proper, is_sequence}
@@ -12,16 +13,10 @@ use Rattle.pattern_syntax.specs.Nodes.{after_node, after_nodes, tree_of}
 use Rattle.pattern_syntax.specs.declared.node.Node.{Node}
 use Rattle.pattern_syntax.specs.declared.node.Node.TheVariants as node
 use Rattle.pattern_match.specs.Starts.{unless_literal, behind_start, in_front, Parts}
-use Rattle.pattern_match.proofs.Language.{and_first, and_second}
 
 -- a text that goes on behind a front into a language
 abbrev pub Follows : List ℕ → Tree → List ℕ → Type 0
 Follows front tree text = (rest : List ℕ) × (text ≡ front ++ rest) × In tree rest
-
-only_byte : (bytes : List ℕ) (b : ℕ) → only_of bytes ≡ Some b → bytes ≡ b ∷ []
-only_byte [] b h = cc
-only_byte (c ∷ []) b h = let e : c ≡ b = cc in rw e refl
-only_byte (c ∷ d ∷ bs) b h = cc
 
 one_passes : (b c : ℕ) → list_any (λ x. x == c) (b ∷ []) ≡ true → b ≡ c
 one_passes b c h = at (b == c) refl h
@@ -157,7 +152,7 @@ behind_front front start Nothing e s p h = literal_behind front start e
 behind_front front start (Set bytes) e s p h = cc
 behind_front front start (Either l r) e s p h = cc
 behind_front front start (Repeat least most x) e s p h = cc
-behind_front front start (Both f g) e s p h = at (joined (single_bytes (in_front front f)) (single_byte g)) refl h (behind_front front start f e (sequence_in_front f (and_first (is_sequence (in_front front f)) _ p)) (and_first (is_proper (in_front front f)) _ (and_second (is_sequence (in_front front f)) _ p)))
+behind_front front start (Both f g) e s p h = at (joined (single_bytes (in_front front f)) (single_byte g)) refl h (behind_front front start f e (sequence_in_front f (first_so (is_sequence (in_front front f)) _ p)) (first_so (is_proper (in_front front f)) _ (second_so (is_sequence (in_front front f)) _ p)))
   where
     sequence_in_front : (f : Tree) → is_sequence (in_front front f) ≡ true → is_sequence f ≡ true
     sequence_in_front Nothing h = refl

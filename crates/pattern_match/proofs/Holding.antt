@@ -1,26 +1,27 @@
 -- The test of membership by every cut tells the language.
 use Rattle.std.proofs.Common.{◌≡◌, refl, sym, ap, subst, ℕ, zero, suc, ◌+◌, ◌-◌, ◌<◌, ◌≤◌, ◌==◌, Bool, true, false, List, [], ◌∷◌, ◌++◌, length, Option, Some, None, ◌⊎◌, inl, inr, arith, append_assoc, append-nil, length-append}
+use Rattle.std.proofs.lemmas.Bool.{and_from, or_right, or_cases, or_left}
+use Rattle.std.specs.Cmp.{first_so, second_so}
 use Rattle.std.specs.Prelude.{◌||◌, ◌&&◌}
 use Rattle.std.specs.List.{list_any}
 use Rattle.pattern_syntax.specs.Tree.{Tree, Set, Nothing, Both, Either, Repeat}
 use Rattle.pattern_syntax.specs.Language.{In, Joined, AtMost, holds, some_cut, is_joined, some_count, counts_from}
-use Rattle.pattern_match.proofs.Language.{and_first, and_second, and_both, or_either, or_left, or_right}
 
 -- the text is cut in two that pass
 abbrev pub Cuts : (List ℕ → Bool) → (List ℕ → Bool) → List ℕ → List ℕ → Type 0
 Cuts p q front text = (a b : List ℕ) × (text ≡ a ++ b) × (p (front ++ a) ≡ true) × (q b ≡ true)
 
 cut_onto : (p q : List ℕ → Bool) (front text : List ℕ) → some_cut p q front text ≡ true → Cuts p q front text
-cut_onto p q front [] h = ([], [], refl, (let n : front ++ [] ≡ front = append-nil front in rw n (and_first (p front) _ h)), and_second (p front) _ h)
-cut_onto p q front (b ∷ bs) h = at (or_either (p front && q (b ∷ bs)) _ h) (cut_onto p q (front ++ b ∷ []) bs)
+cut_onto p q front [] h = ([], [], refl, (let n : front ++ [] ≡ front = append-nil front in rw n (first_so (p front) _ h)), second_so (p front) _ h)
+cut_onto p q front (b ∷ bs) h = at (or_cases (p front && q (b ∷ bs)) _ h) (cut_onto p q (front ++ b ∷ []) bs)
   where
     at : ((p front && q (b ∷ bs)) ≡ true) ⊎ (some_cut p q (front ++ b ∷ []) bs ≡ true) → (some_cut p q (front ++ b ∷ []) bs ≡ true → Cuts p q (front ++ b ∷ []) bs) → Cuts p q front (b ∷ bs)
-    at (inl g) ih = ([], b ∷ bs, refl, (let n : front ++ [] ≡ front = append-nil front in rw n (and_first (p front) _ g)), and_second (p front) _ g)
+    at (inl g) ih = ([], b ∷ bs, refl, (let n : front ++ [] ≡ front = append-nil front in rw n (first_so (p front) _ g)), second_so (p front) _ g)
     at (inr g) ih = let r = ih g in (b ∷ r.0, r.1, ap (λ w. b ∷ w) r.2, (let n : (front ++ b ∷ []) ++ r.0 ≡ front ++ (b ∷ r.0) = append_assoc front (b ∷ []) r.0 in subst (λ w. p w ≡ true) n r.3), r.4)
 
 cut_from : (p q : List ℕ → Bool) (front a b : List ℕ) → p (front ++ a) ≡ true → q b ≡ true → some_cut p q front (a ++ b) ≡ true
-cut_from p q front [] [] h k = and_both _ _ (let n : front ++ [] ≡ front = append-nil front in subst (λ w. p w ≡ true) n h) k
-cut_from p q front [] (c ∷ cs) h k = or_left _ _ (and_both _ _ (let n : front ++ [] ≡ front = append-nil front in subst (λ w. p w ≡ true) n h) k)
+cut_from p q front [] [] h k = and_from _ _ (let n : front ++ [] ≡ front = append-nil front in subst (λ w. p w ≡ true) n h) k
+cut_from p q front [] (c ∷ cs) h k = or_left _ _ (and_from _ _ (let n : front ++ [] ≡ front = append-nil front in subst (λ w. p w ≡ true) n h) k)
 cut_from p q front (c ∷ cs) b h k = or_right (p front && q (c ∷ (cs ++ b))) _ (cut_from p q (front ++ c ∷ []) cs b (let n : (front ++ c ∷ []) ++ cs ≡ front ++ (c ∷ cs) = append_assoc front (c ∷ []) cs in subst (λ w. p w ≡ true) (sym n) h) k)
 
 -- a test that tells a language
@@ -37,13 +38,13 @@ joined_tells p P h (suc k) text = (
 
 count_onto : (p : ℕ → Bool) (least more : ℕ) → some_count p least more ≡ true → (k : ℕ) × (least ≤ k) × (k < least + more) × (p k ≡ true)
 count_onto p least zero h = cc
-count_onto p least (suc more) h = at (or_either (p least) _ h) (count_onto p (least + 1) more)
+count_onto p least (suc more) h = at (or_cases (p least) _ h) (count_onto p (least + 1) more)
   where
     at : (p least ≡ true) ⊎ (some_count p (least + 1) more ≡ true) → (some_count p (least + 1) more ≡ true → (k : ℕ) × (least + 1 ≤ k) × (k < (least + 1) + more) × (p k ≡ true)) → (k : ℕ) × (least ≤ k) × (k < least + suc more) × (p k ≡ true)
     at (inl g) ih = (least, omega arith, omega arith, g)
     at (inr g) ih = let r = ih g in (r.0, omega arith, omega arith, r.3)
 
-at_or_after : (least k : ℕ) → least ≤ k → (least ≡ k) ⊎ (least + 1 ≤ k)
+pub at_or_after : (least k : ℕ) → least ≤ k → (least ≡ k) ⊎ (least + 1 ≤ k)
 at_or_after least k h = grind arith
 
 count_in : (p : ℕ → Bool) (least more k : ℕ) → least ≤ k → k < least + more → p k ≡ true → some_count p least more ≡ true
@@ -73,9 +74,6 @@ few_pieces P least (suc k) text h j = at (past_or_within k (least + length text)
     at : (suc k ≤ least + length text) ⊎ (least + length text ≤ k) → (least ≤ k → Joined P k text → (i : ℕ) × (least ≤ i) × (i < least + (length text + 1)) × Joined P i text) → (i : ℕ) × (least ≤ i) × (i < least + (length text + 1)) × Joined P i text
     at (inl g) ih = (suc k, h, omega arith, j)
     at (inr g) ih = ih (omega arith) (drop_piece P k text (omega arith) j)
-
-same_byte : (b c : ℕ) → (c == b) ≡ true → c ≡ b
-same_byte b c h = grind arith
 
 set_tells : (bytes : List ℕ) → Tells (holds (Set bytes)) (In (Set bytes))
 unfolding holds

@@ -3,7 +3,8 @@ use Rattle.std.proofs.Common.{◌≡◌, refl, sym, ◌∙◌, ap, ℕ, ◌-◌,
 use Rattle.std.specs.Prelude.{◌||◌, ◌&&◌, bit_and}
 use Rattle.std.specs.Int.{bit_at, trailing_zeros}
 use Rattle.std.proofs.lemmas.Nat.Bits.{bit_at-trailing_zeros, bit_at-zero}
-use Rattle.pattern_match.proofs.LowestBits.{lowest_gone, others_stay, equal_or_not}
+use Rattle.std.proofs.lemmas.Bool.{cases_eq}
+use Rattle.pattern_match.proofs.LowestBits.{lowest_gone, others_stay}
 
 at_lowest : (old test now left all same : Bool) → left ≡ true → now ≡ false → same ≡ true → (old || (left && test)) ≡ all → ((old || (test && same)) || (now && test)) ≡ all
 at_lowest true test now left all same l n s h = h
@@ -17,7 +18,7 @@ elsewhere false false test now left all same n s h = rw n h
 
 -- the word's lowest bit is kept where its class has the byte
 pub kept_more : (new old left k : ℕ) (test : ℕ → Bool) (all : Bool) → 0 < left → left < 2 ^ 64 → (bit_at new k == 1) ≡ ((bit_at old k == 1) || (test (trailing_zeros w64 left) && (k == trailing_zeros w64 left))) → ((bit_at old k == 1) || ((bit_at left k == 1) && test k)) ≡ all → ((bit_at new k == 1) || ((bit_at (bit_and left (left - 1)) k == 1) && test k)) ≡ all
-kept_more new old left k test all p l n h = at (equal_or_not k (trailing_zeros w64 left))
+kept_more new old left k test all p l n h = at (cases_eq k (trailing_zeros w64 left))
   where
     at : (k ≡ trailing_zeros w64 left) ⊎ (k ≢ trailing_zeros w64 left) → ((bit_at new k == 1) || ((bit_at (bit_and left (left - 1)) k == 1) && test k)) ≡ all
     at (inl e) =

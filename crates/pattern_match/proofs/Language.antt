@@ -1,35 +1,12 @@
 -- Languages of patterns: the empty text, and texts by their first byte.
-use Rattle.std.proofs.Common.{◌≡◌, refl, sym, ap, subst, ℕ, zero, suc, pred, ◌<◌, ◌≤◌, ◌==◌, Bool, true, false, List, [], ◌∷◌, ◌++◌, Option, Some, None, ◌⊎◌, inl, inr, arith}
-use Rattle.std.specs.Prelude.{◌||◌, ◌&&◌}
+use Rattle.std.proofs.Common.{◌≡◌, refl, sym, ap, subst, ℕ, zero, suc, pred, ◌<◌, ◌≤◌, ◌==◌, true, List, [], ◌∷◌, ◌++◌, Option, Some, None, ◌⊎◌, inl, inr, arith}
+use Rattle.std.proofs.lemmas.Bool.{and_from, or_right, or_cases, or_left}
+use Rattle.std.specs.Cmp.{first_so, second_so}
 use Rattle.std.specs.List.{list_any}
 use Rattle.pattern_syntax.specs.Tree.{Tree, Set, Nothing, Both, Either, Repeat}
 use Rattle.pattern_syntax.specs.Language.{In, Joined, AtMost}
 use Rattle.pattern_match.specs.Residuals.{has_texts, is_count, is_some_list}
 use Rattle.pattern_match.specs.Quotients.{nullable}
-
-pub and_first : (x y : Bool) → (x && y) ≡ true → x ≡ true
-and_first true y h = refl
-and_first false y h = cc
-
-pub and_second : (x y : Bool) → (x && y) ≡ true → y ≡ true
-and_second true y h = h
-and_second false y h = cc
-
-pub and_both : (x y : Bool) → x ≡ true → y ≡ true → (x && y) ≡ true
-and_both true y h k = k
-and_both false y h k = cc
-
-pub or_either : (x y : Bool) → (x || y) ≡ true → (x ≡ true) ⊎ (y ≡ true)
-or_either true y h = inl refl
-or_either false y h = inr h
-
-pub or_left : (x y : Bool) → x ≡ true → (x || y) ≡ true
-or_left true y h = refl
-or_left false y h = cc
-
-pub or_right : (x y : Bool) → y ≡ true → (x || y) ≡ true
-or_right true y h = refl
-or_right false y h = h
 
 pub at_most : (k : ℕ) (most : Option ℕ) → is_count k most ≡ true → AtMost k most
 at_most k None h = tt
@@ -52,10 +29,10 @@ joined_empty P (suc k) h = ([], [], refl, h, joined_empty P k h)
 pub empty_in : (t : Tree) → nullable t ≡ true → In t []
 empty_in (Set bytes) h = cc
 empty_in Nothing h = refl
-empty_in (Both f s) h = ([], [], refl, empty_in f (and_first (nullable f) _ h), empty_in s (and_second (nullable f) _ h))
-empty_in (Either l r) h = elim (or_either (nullable l) _ h) [ inl a ↦ inl (empty_in l a) | inr b ↦ inr (empty_in r b) ]
+empty_in (Both f s) h = ([], [], refl, empty_in f (first_so (nullable f) _ h), empty_in s (second_so (nullable f) _ h))
+empty_in (Either l r) h = elim (or_cases (nullable l) _ h) [ inl a ↦ inl (empty_in l a) | inr b ↦ inr (empty_in r b) ]
 empty_in (Repeat least most piece) h =
-    (least, omega arith, at_most least most (and_first (is_count least most) _ h), at (or_either (least == 0) _ (and_second (is_count least most) _ h)) (empty_in piece))
+    (least, omega arith, at_most least most (first_so (is_count least most) _ h), at (or_cases (least == 0) _ (second_so (is_count least most) _ h)) (empty_in piece))
   where
     at : ((least == 0) ≡ true) ⊎ (nullable piece ≡ true) → (nullable piece ≡ true → In piece []) → Joined (In piece) least []
     at (inl e) ih = let z = is_zero least e in subst (λ k. Joined (In piece) k []) (sym z) refl
@@ -72,12 +49,12 @@ nil_rest (b ∷ bs) rest e = cc
 pub in_empty : (t : Tree) → In t [] → nullable t ≡ true
 in_empty (Set bytes) (b, e, h) = cc
 in_empty Nothing h = refl
-in_empty (Both f s) (front, rest, e, hf, hs) = and_both _ _ (in_empty f (subst (λ w. In f w) (sym (nil_front front rest e)) hf)) (in_empty s (subst (λ w. In s w) (sym (nil_rest front rest e)) hs))
+in_empty (Both f s) (front, rest, e, hf, hs) = and_from _ _ (in_empty f (subst (λ w. In f w) (sym (nil_front front rest e)) hf)) (in_empty s (subst (λ w. In s w) (sym (nil_rest front rest e)) hs))
 in_empty (Either l r) (inl a) = or_left _ _ (in_empty l a)
 in_empty (Either l r) (inr b) = or_right (nullable l) _ (in_empty r b)
-in_empty (Repeat least most piece) (zero, h, a, j) = and_both _ _ (count_from least zero most h a) (or_left (least == 0) _ (zero_is least (omega arith)))
+in_empty (Repeat least most piece) (zero, h, a, j) = and_from _ _ (count_from least zero most h a) (or_left (least == 0) _ (zero_is least (omega arith)))
 in_empty (Repeat least most piece) (suc k, h, a, (front, rest, e, p, j)) =
-    and_both _ _ (count_from least (suc k) most h a) (or_right (least == 0) _ (in_empty piece (subst (λ w. In piece w) (sym (nil_front front rest e)) p)))
+    and_from _ _ (count_from least (suc k) most h a) (or_right (least == 0) _ (in_empty piece (subst (λ w. In piece w) (sym (nil_front front rest e)) p)))
 
 joined_some : (P : List ℕ → Type 0) (k : ℕ) (w : List ℕ) → P w → (text : List ℕ) × Joined P k text
 joined_some P zero w h = ([], refl)
@@ -88,26 +65,26 @@ pub text_of : (t : Tree) → has_texts t ≡ true → (text : List ℕ) × In t 
 text_of (Set []) h = cc
 text_of (Set (b ∷ bs)) h = (b ∷ [], (b, refl, or_left (b == b) (list_any (λ c. c == b) bs) (grind arith)))
 text_of Nothing h = ([], refl)
-text_of (Both f s) h = let a = text_of f (and_first (has_texts f) _ h) in let b = text_of s (and_second (has_texts f) _ h) in (a.0 ++ b.0, (a.0, b.0, refl, a.1, b.1))
-text_of (Either l r) h = elim (or_either (has_texts l) _ h) [ inl a ↦ (let x = text_of l a in (x.0, inl x.1)) | inr b ↦ (let x = text_of r b in (x.0, inr x.1)) ]
-text_of (Repeat least most piece) h = at (or_either (least == 0) _ (and_second (is_count least most) _ h)) (text_of piece)
+text_of (Both f s) h = let a = text_of f (first_so (has_texts f) _ h) in let b = text_of s (second_so (has_texts f) _ h) in (a.0 ++ b.0, (a.0, b.0, refl, a.1, b.1))
+text_of (Either l r) h = elim (or_cases (has_texts l) _ h) [ inl a ↦ (let x = text_of l a in (x.0, inl x.1)) | inr b ↦ (let x = text_of r b in (x.0, inr x.1)) ]
+text_of (Repeat least most piece) h = at (or_cases (least == 0) _ (second_so (is_count least most) _ h)) (text_of piece)
   where
     at : ((least == 0) ≡ true) ⊎ (has_texts piece ≡ true) → (has_texts piece ≡ true → (text : List ℕ) × In piece text) → (text : List ℕ) × In (Repeat least most piece) text
-    at (inl e) ih = let z = is_zero least e in ([], (least, omega arith, at_most least most (and_first (is_count least most) _ h), subst (λ k. Joined (In piece) k []) (sym z) refl))
-    at (inr n) ih = let x = ih n in let j = joined_some (In piece) least x.0 x.1 in (j.0, (least, omega arith, at_most least most (and_first (is_count least most) _ h), j.1))
+    at (inl e) ih = let z = is_zero least e in ([], (least, omega arith, at_most least most (first_so (is_count least most) _ h), subst (λ k. Joined (In piece) k []) (sym z) refl))
+    at (inr n) ih = let x = ih n in let j = joined_some (In piece) least x.0 x.1 in (j.0, (least, omega arith, at_most least most (first_so (is_count least most) _ h), j.1))
 
-some_set : (bytes : List ℕ) (b : ℕ) → list_any (λ c. c == b) bytes ≡ true → is_some_list bytes ≡ true
+pub some_set : (bytes : List ℕ) (b : ℕ) → list_any (λ c. c == b) bytes ≡ true → is_some_list bytes ≡ true
 some_set [] b h = cc
 some_set (c ∷ cs) b h = refl
 
 pub has_text : (t : Tree) (text : List ℕ) → In t text → has_texts t ≡ true
 has_text (Set bytes) text (b, e, h) = some_set bytes b h
 has_text Nothing text h = refl
-has_text (Both f s) text (front, rest, e, hf, hs) = and_both _ _ (has_text f front hf) (has_text s rest hs)
+has_text (Both f s) text (front, rest, e, hf, hs) = and_from _ _ (has_text f front hf) (has_text s rest hs)
 has_text (Either l r) text (inl a) = or_left _ _ (has_text l text a)
 has_text (Either l r) text (inr b) = or_right (has_texts l) _ (has_text r text b)
-has_text (Repeat least most piece) text (zero, h, a, j) = and_both _ _ (count_from least zero most h a) (or_left (least == 0) _ (zero_is least (omega arith)))
-has_text (Repeat least most piece) text (suc k, h, a, (front, rest, e, p, j)) = and_both _ _ (count_from least (suc k) most h a) (or_right (least == 0) _ (has_text piece front p))
+has_text (Repeat least most piece) text (zero, h, a, j) = and_from _ _ (count_from least zero most h a) (or_left (least == 0) _ (zero_is least (omega arith)))
+has_text (Repeat least most piece) text (suc k, h, a, (front, rest, e, p, j)) = and_from _ _ (count_from least (suc k) most h a) (or_right (least == 0) _ (has_text piece front p))
 
 -- a text by its first byte, cut in two
 pub cut_first : (b : ℕ) (t front rest : List ℕ) → b ∷ t ≡ front ++ rest → ((front ≡ []) × (b ∷ t ≡ rest)) ⊎ ((f : List ℕ) × (front ≡ b ∷ f) × (t ≡ f ++ rest))

@@ -1,12 +1,13 @@
 -- Words taken apart at their lowest bit.
-use Rattle.std.proofs.Common.{◌≡◌, refl, sym, ◌∙◌, ap, subst, ℕ, zero, suc, ◌+◌, ◌-◌, ◌*◌, ◌/◌, ◌%◌, ◌^◌, ◌<◌, ◌≤◌, ◌==◌, ◌≢◌, Bool, true, false, List, length, set, get_or, ◌⊎◌, inl, inr, arith, w64, min}
+use Rattle.std.proofs.Common.{◌≡◌, refl, sym, ◌∙◌, ap, subst, ℕ, zero, suc, ◌+◌, ◌-◌, ◌*◌, ◌/◌, ◌%◌, ◌^◌, ◌<◌, ◌≤◌, ◌==◌, ◌≢◌, Bool, true, false, List, length, set, get_or, ◌⊎◌, inl, inr, arith, w64}
 use Rattle.std.specs.Prelude.{◌||◌, ◌&&◌, bit_and}
 use Rattle.std.specs.Int.{bit_at, trailing_zeros}
 use native.Mathlib.Numerals.{unary_clauses}
 use Rattle.std.proofs.Math.Nat.{le-mul_of_pos_right}
-use Rattle.std.proofs.lemmas.Nat.{and_le_r}
 use Rattle.std.proofs.lemmas.Nat.Bits.{bit_at_and, bit_at-zero, bit_at-suc, bit_at_lowest, bit_at-trailing_zeros}
 use Rattle.std.proofs.lemmas.List.{get_or-set_same}
+use Rattle.std.proofs.lemmas.Bool.{cases_eq}
+use Rattle.pattern_syntax.proofs.Sets.{or_assoc}
 use Rattle.pattern_match.specs.States.{bit}
 use Rattle.pattern_match.specs.Tables.{any_below, any_bit}
 use Rattle.pattern_match.proofs.WordBits.{bit_in_word}
@@ -46,9 +47,6 @@ three_ways j t = at (lib j t)
     at (inl l) = inl l
     at (inr l) = inr (more j t l)
 
-min_same : (x : ℕ) → min x x ≡ x
-min_same x = omega arith
-
 -- without its lowest bit a word has its other bits
 pub lowest_gone : (n : ℕ) → 0 < n → n < 2 ^ 64 → bit_at (bit_and n (n - 1)) (trailing_zeros w64 n) ≡ 0
 lowest_gone n p l =
@@ -71,17 +69,6 @@ others_stay n j p l d = at (three_ways j (trailing_zeros w64 n))
         let s : bit_at (n - 1) j ≡ bit_at n j = same_above (trailing_zeros w64 n) n (n - 1) j e t.1 t.2 u in
         bit_at_and n (n - 1) j ∙ omega arith
 
-pub fewer : (n : ℕ) → 0 < n → bit_and n (n - 1) < n
-fewer n p = let h = and_le_r n (n - 1) in omega arith
-
-or_true : (v w : Bool) → w ≡ true → (v || w) ≡ true
-or_true true w h = refl
-or_true false w h = h
-
-or_shuffle : (u v w : Bool) → ((u || v) || w) ≡ (u || (v || w))
-or_shuffle true v w = refl
-or_shuffle false v w = refl
-
 or_later : (v a b w : Bool) → a ≡ (v || b) → (a || w) ≡ (v || (b || w))
 or_later true a b w e = rw e refl
 or_later false a b w e = rw e refl
@@ -92,9 +79,6 @@ or_last a true false w e h = rw e refl
 or_last a false true w e h = rw e refl
 or_last a false false w e h = rw e (sym h)
 
-pub equal_or_not : (j k : ℕ) → (j ≡ k) ⊎ (j ≢ k)
-equal_or_not j k = grind arith
-
 pub same_below : (f g : ℕ → Bool) (n : ℕ) → ((j : ℕ) → j < n → f j ≡ g j) → any_below f n ≡ any_below g n
 same_below f g zero h = refl
 same_below f g (suc n) h = let a = same_below f g n (λ j l. h j (omega arith)) in let b = h n (omega arith) in rw (a, b) refl
@@ -102,7 +86,7 @@ same_below f g (suc n) h = let a = same_below f g n (λ j l. h j (omega arith)) 
 -- a test that passes at one place more
 any_apart : (f g : ℕ → Bool) (t n : ℕ) → t < n → g t ≡ false → ((j : ℕ) → j ≢ t → f j ≡ g j) → any_below f n ≡ (f t || any_below g n)
 any_apart f g t zero l z h = absurd (omega arith)
-any_apart f g t (suc n) l z h = at (equal_or_not t n) (λ u. any_apart f g t n u z h)
+any_apart f g t (suc n) l z h = at (cases_eq t n) (λ u. any_apart f g t n u z h)
   where
     at : (t ≡ n) ⊎ (t ≢ n) → (t < n → any_below f n ≡ (f t || any_below g n)) → (any_below f n || f n) ≡ (f t || (any_below g n || g n))
     at (inl e) ih = rw e (or_last (any_below f n) (any_below g n) (f n) (g n) (same_below f g n (λ j u. h j (λ v. omega arith))) (subst (λ m. g m ≡ false) e z))
@@ -140,7 +124,7 @@ any_split f m zero = simp unary_clauses (at (any_below f m))
     at : (v : Bool) → v ≡ (v || false)
     at true = refl
     at false = refl
-any_split f m (suc n) = let e = any_split f m n in simp unary_clauses (rw e (or_shuffle (any_below f m) (any_below (λ j. f (m + j)) n) (f (m + n))))
+any_split f m (suc n) = let e = any_split f m n in simp unary_clauses (rw e (or_assoc (any_below f m) (any_below (λ j. f (m + j)) n) (f (m + n))))
 
 -- none passes from a number on
 pub any_past : (f : ℕ → Bool) (n m : ℕ) → n ≤ m → ((j : ℕ) → n ≤ j → f j ≡ false) → any_below f m ≡ any_below f n
@@ -156,7 +140,7 @@ any_past f n m l h = at (any_split f n (m - n)) (none_below (λ j. f (n + j)) (m
 -- the row of a word's lowest bit is added, and those of the others are left
 pub row_added : (new old : Bool) (left : ℕ) (test : ℕ → Bool) (all : Bool) → 0 < left → left < 2 ^ 64 → new ≡ (old || test (trailing_zeros w64 left)) → (old || any_bit (λ j. (bit_at left j == 1) && test j)) ≡ all → (new || any_bit (λ j. (bit_at (bit_and left (left - 1)) j == 1) && test j)) ≡ all
 row_added new old left test all p l n e =
-    rw n (or_shuffle old (test (trailing_zeros w64 left)) (any_bit (λ j. (bit_at (bit_and left (left - 1)) j == 1) && test j)) ∙ ap (λ v. old || v) (sym (any_lowest left test p l)) ∙ e)
+    rw n (or_assoc old (test (trailing_zeros w64 left)) (any_bit (λ j. (bit_at (bit_and left (left - 1)) j == 1) && test j)) ∙ ap (λ v. old || v) (sym (any_lowest left test p l)) ∙ e)
 
 pub rows_added : (now : Bool) (left : ℕ) (test : ℕ → Bool) (all : Bool) → left ≡ 0 → (now || any_bit (λ j. (bit_at left j == 1) && test j)) ≡ all → now ≡ all
 rows_added now left test all z e = at now (any_bit (λ j. (bit_at left j == 1) && test j)) (subst (λ m. any_bit (λ j. (bit_at m j == 1) && test j) ≡ false) (sym z) (any_none test)) ∙ e
@@ -167,7 +151,7 @@ rows_added now left test all z e = at now (any_bit (λ j. (bit_at left j == 1) &
 
 -- without its lowest bit a word has no new one
 pub still_marked : (n j : ℕ) → 0 < n → n < 2 ^ 64 → bit_at (bit_and n (n - 1)) j ≡ 1 → bit_at n j ≡ 1
-still_marked n j p l h = at (equal_or_not j (trailing_zeros w64 n))
+still_marked n j p l h = at (cases_eq j (trailing_zeros w64 n))
   where
     at : (j ≡ trailing_zeros w64 n) ⊎ (j ≢ trailing_zeros w64 n) → bit_at n j ≡ 1
     at (inl e) = let z : bit_at (bit_and n (n - 1)) j ≡ 0 = rw e (lowest_gone n p l) in absurd (omega arith)

@@ -1,5 +1,6 @@
 -- A pattern that is its literal start alone.
-use Rattle.std.proofs.Common.{◌≡◌, ◌∙◌, sym, refl, ap, subst, ℕ, Bool, true, false, List, [], ◌∷◌, ◌++◌, append-nil, length, ◌==◌, arith}
+use Rattle.std.proofs.Common.{◌≡◌, ◌∙◌, sym, refl, ap, subst, ℕ, true, List, [], ◌∷◌, ◌++◌, append-nil, length, ◌==◌, arith}
+use Rattle.std.specs.Cmp.{both_ways}
 use Rattle.std.specs.Cmp.Lexicographic.{bytes_decides}
 use Rattle.label_base.specs.Text.{same_bytes}
 use Rattle.pattern_syntax.specs.Tree.{Tree, Nothing}
@@ -23,15 +24,10 @@ pub nothing_behind : (t : Tree) (nodes : List Node) → is_proper t ≡ true →
 nothing_behind t nodes p h e =
     sym (parts_are t nodes p h).behind ∙ ap (λ ns. tree_of (node.Nothing ∷ ns)) e
 
-same : (a b : Bool) → (a ≡ true → b ≡ true) → (b ≡ true → a ≡ true) → a ≡ b
-same true b f g = sym (f refl)
-same false true f g = g refl
-same false false f g = refl
-
 pub start_alone : (t : Tree) → behind_start t ≡ Nothing → (text : List ℕ) → holds t text ≡ same_bytes text (literal_start_of t)
 start_alone t e text =
     let start = literal_start_of t in
-    same (holds t text) (same_bytes text start) (λ h.
+    both_ways (holds t text) (same_bytes text start) (λ h.
     let f : Follows start Nothing text = subst (λ r. Follows start r text) e ((cut_behind_start t text).0 ((holds_tells t text).0 h)) in
     (bytes_decides text start).1 (f.1 ∙ ap (λ r. start ++ r) f.2 ∙ append-nil start)) (λ h.
     (holds_tells t text).1 ((cut_behind_start t text).1 (subst (λ r. Follows start r text) (sym e) ([], (bytes_decides text start).0 h ∙ sym (append-nil start), refl))))

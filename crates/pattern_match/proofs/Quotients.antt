@@ -1,5 +1,7 @@
 -- Left quotients tell which texts begin one of the language, and what it holds at or below a path.
 use Rattle.std.proofs.Common.{◌≡◌, refl, sym, ◌∙◌, ap, ℕ, zero, suc, pred, ◌==◌, Bool, true, false, List, [], ◌∷◌, ◌++◌, Some, None, ◌⊎◌, inl, inr, arith}
+use Rattle.std.proofs.lemmas.Bool.{or_right, or_cases, or_left}
+use Rattle.std.specs.Cmp.{both_ways}
 use Rattle.std.specs.Prelude.{if◌then◌else◌}
 use Rattle.std.specs.List.{list_any}
 use Rattle.file_paths.specs.Path.{Path, path_text}
@@ -9,7 +11,7 @@ use Rattle.pattern_syntax.specs.Language.{In, Opens, holds}
 use Rattle.pattern_match.specs.Quotients.{nullable, derived, opens, holds_below}
 use Rattle.pattern_match.specs.States.{Below}
 use Rattle.pattern_match.proofs.Holding.{holds_tells}
-use Rattle.pattern_match.proofs.Language.{Steps, both_onto, both_from, both_skip, repeat_onto, repeat_from, has_text, text_of, or_either, or_left, or_right}
+use Rattle.pattern_match.proofs.Language.{Steps, both_onto, both_from, both_skip, repeat_onto, repeat_from, has_text, text_of}
 
 -- what a step into the first part leaves is a text of its quotient and then one of the second part
 steps_onto : (x y : Tree) (b : ℕ) (t : List ℕ) → ((s : List ℕ) → In x (b ∷ s) → In (derived b x) s) → Steps x y b t → In (Both (derived b x) y) t
@@ -72,15 +74,10 @@ unfolding holds_below
 below_tells t [] = opens_tells (SLASH ∷ []) t
 below_tells t (name ∷ names) =
     let text = path_text (name ∷ names) in (
-      λ h. elim (or_either (holds t text) _ h) [ inl a ↦ inl ((holds_tells t text).0 a) | inr b ↦ inr ((opens_tells (text ++ SLASH ∷ []) t).0 b) ],
+      λ h. elim (or_cases (holds t text) _ h) [ inl a ↦ inl ((holds_tells t text).0 a) | inr b ↦ inr ((opens_tells (text ++ SLASH ∷ []) t).0 b) ],
       λ h. elim h [ inl a ↦ or_left _ _ ((holds_tells t text).1 a) | inr b ↦ or_right (holds t text) _ ((opens_tells (text ++ SLASH ∷ []) t).1 b) ],
     )
 
-same_truth : (u v : Bool) → (u ≡ true → v ≡ true) → (v ≡ true → u ≡ true) → u ≡ v
-same_truth true v f g = sym (f refl)
-same_truth false true f g = g refl
-same_truth false false f g = refl
-
 -- whatever tells what is at or below a path is that test
 pub below_test : (t : Tree) (path : Path) (v : Bool) → (v ≡ true → Below t path) × (Below t path → v ≡ true) → v ≡ holds_below t path
-below_test t path v h = same_truth v (holds_below t path) (λ e. (below_tells t path).1 (h.0 e)) (λ e. h.1 ((below_tells t path).0 e))
+below_test t path v h = both_ways v (holds_below t path) (λ e. (below_tells t path).1 (h.0 e)) (λ e. h.1 ((below_tells t path).0 e))

@@ -1,17 +1,11 @@
 -- Texts that are read byte by byte, and paths.
-use Rattle.std.proofs.Common.{◌≡◌, refl, sym, ◌∙◌, ap, subst, ℕ, ◌+◌, ◌<◌, ◌≤◌, Bool, true, false, List, [], ◌∷◌, ◌++◌, length, take, drop, get_or, ◌⊎◌, inl, inr, arith, append_assoc, append-nil}
-use Rattle.std.proofs.lemmas.List.{take_more, take_all, take-append-drop}
+use Rattle.std.proofs.Common.{◌≡◌, refl, sym, ◌∙◌, ap, subst, ℕ, Bool, true, false, List, [], ◌∷◌, ◌++◌, length, take, drop, ◌⊎◌, inl, inr, arith, append_assoc, append-nil}
+use Rattle.std.proofs.lemmas.List.{take-append-drop}
 use Rattle.file_paths.specs.Path.{Path, path_text}
 use Rattle.pattern_syntax.specs.Tree.{Tree}
 use Rattle.pattern_syntax.specs.Language.{In, Opens, holds}
 use Rattle.pattern_match.specs.States.{Progress, StandsFor, Below}
 use Rattle.pattern_match.proofs.Holding.{holds_tells}
-
-pub read_more : (t : Tree) (states : Progress) (text : List ℕ) (i b : ℕ) → i < length text → b ≡ get_or text i 0 → StandsFor t states (take i text ++ b ∷ []) → StandsFor t states (take (i + 1) text)
-read_more t states text i b l e h = let p : take (i + 1) text ≡ take i text ++ get_or text i 0 ∷ [] = take_more text i 0 l in subst (λ w. StandsFor t states w) (sym (p ∙ ap (λ c. take i text ++ c ∷ []) (sym e))) h
-
-pub read_all : (t : Tree) (states : Progress) (text : List ℕ) (i : ℕ) → length text ≤ i → StandsFor t states (take i text) → StandsFor t states text
-read_all t states text i l h = subst (λ w. StandsFor t states w) (take_all i text l) h
 
 -- where no text begins with a front, none begins with the whole
 pub dead_front : (t : Tree) (text : List ℕ) (i : ℕ) (v : Bool) → v ≡ false → (Opens t (take i text) → v ≡ true) → Opens t text → ⊥
@@ -25,14 +19,11 @@ dead_front t text i v e h (rest, m) =
 pub in_opens : (t : Tree) (text : List ℕ) → In t text → Opens t text
 in_opens t text h = ([], subst (λ w. In t w) (sym (append-nil text)) h)
 
-pub not_in : (t : Tree) (text : List ℕ) → (Opens t text → ⊥) → (false ≡ true → In t text) × (In t text → false ≡ true)
-not_in t text h = (λ e. cc, λ i. absurd (h (in_opens t text i)))
-
 pub not_holds : (t : Tree) (text : List ℕ) (v : Bool) → holds t text ≡ v → (Opens t text → ⊥) → false ≡ holds t text
 not_holds t text true e h = absurd (h (in_opens t text ((holds_tells t text).0 e)))
 not_holds t text false e h = sym e
 
-less_opens : (t : Tree) (text more : List ℕ) → Opens t (text ++ more) → Opens t text
+pub less_opens : (t : Tree) (text more : List ℕ) → Opens t (text ++ more) → Opens t text
 less_opens t text more (rest, i) = (more ++ rest, subst (λ w. In t w) (append_assoc text more rest) i)
 
 -- what is below a path begins with its text

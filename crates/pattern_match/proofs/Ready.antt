@@ -1,7 +1,9 @@
 -- An automaton made ready: marks, and what they leave, where it has tables and where it needs none.
-use Rattle.std.proofs.Common.{◌≡◌, refl, sym, ◌∙◌, ap, subst, ℕ, suc, ◌+◌, ◌-◌, ◌*◌, ◌<◌, ◌≤◌, ◌==◌, Bool, true, false, List, [], ◌∷◌, ◌++◌, length, take, drop, get_or, arith, append_assoc, append-nil}
+use Rattle.std.proofs.Common.{◌≡◌, refl, sym, ◌∙◌, subst, ℕ, suc, ◌-◌, ◌*◌, ◌<◌, ◌==◌, Bool, true, false, List, [], ◌∷◌, ◌++◌, length, take, drop, arith}
 use Rattle.std.specs.Prelude.{◌&&◌, not, nat_lt}
-use Rattle.std.proofs.lemmas.List.{take_more, take_all, take-append-drop}
+use Rattle.std.proofs.lemmas.List.{take-append-drop}
+use Rattle.std.proofs.lemmas.Bool.{not-true}
+use Rattle.std.specs.Cmp.{first_so, second_so}
 use Rattle.pattern_syntax.specs.Tree.{Tree}
 use Rattle.pattern_syntax.specs.Language.{In}
 use Rattle.pattern_match.specs.Residuals.{residuals, is_some_list}
@@ -14,27 +16,23 @@ use Rattle.pattern_match.specs.Compiled.{IsCompiled}
 use Rattle.pattern_match.specs.Tables.{AreTables}
 use Rattle.pattern_match.specs.declared.machine.Machine.TheInside.{Inside}
 use Rattle.pattern_match.specs.declared.class.Class.{Class}
-use Rattle.pattern_match.proofs.Language.{and_first, and_second, empty_in}
+use Rattle.pattern_match.proofs.Language.{empty_in}
 use Rattle.pattern_match.proofs.Onwards.{onward_left}
 use Rattle.pattern_match.proofs.Running.{Runs, automaton_runs, no_first}
 use Rattle.pattern_match.proofs.WordBits.{bit_within}
 use Rattle.pattern_match.proofs.Stepping.{IsStep, IsEnd, IsAny, step_onto, step_from, end_from, end_onto, any_left, left_any}
 use Rattle.pattern_match.proofs.RunTables.{IsMachine, start_made, start_stands, wide, stepped_states}
 
-not_true : (v : Bool) → not v ≡ true → v ≡ false
-not_true true h = cc
-not_true false h = refl
-
 -- a pattern without a byte set holds the empty text alone
 bare_text : (t : Tree) → is_bare t ≡ true → (text : List ℕ) → (In t text → text ≡ []) × (text ≡ [] → In t text)
-bare_text t h text = (λ i. at text i, λ e. subst (λ w. In t w) (sym e) (empty_in t (sym r.holds_empty ∙ and_second (not (is_some_list (automaton t).places)) _ h)))
+bare_text t h text = (λ i. at text i, λ e. subst (λ w. In t w) (sym e) (empty_in t (sym r.holds_empty ∙ second_so (not (is_some_list (automaton t).places)) _ h)))
   where
     r : Runs (automaton t) t (residuals t)
     r = automaton_runs t
 
     at : (text : List ℕ) → In t text → text ≡ []
     at [] i = refl
-    at (b ∷ bs) i = absurd (no_first (automaton t) t (residuals t) r (not_true (is_some_list (automaton t).places) (and_first (not (is_some_list (automaton t).places)) _ h)) b bs i)
+    at (b ∷ bs) i = absurd (no_first (automaton t) t (residuals t) r (not-true (is_some_list (automaton t).places) (first_so (not (is_some_list (automaton t).places)) _ h)) b bs i)
 
 pub some_marks : (t : Tree) (marks : List ℕ) → is_bare t ≡ false → AreMarksOf t marks → AreMarks t marks
 some_marks t marks e a = subst (λ v. AreMarksBy v t marks) e a
@@ -127,24 +125,11 @@ behind_any t marks v e s text a = left_any t marks v s text (behind_some t marks
 pub bare_left : (t : Tree) (marks : List ℕ) → is_bare t ≡ true → (text : List ℕ) × IsBehind t marks text
 bare_left t marks e = ([], (bare_behind t marks [] e).1 refl)
 
--- a byte more of a text is read
-pub read_one : (t : Tree) (old new text : List ℕ) (i b : ℕ) → i < length text → b ≡ get_or text i 0 → IsRead t old (take i text) → ((rest : List ℕ) → (IsBehind t old (b ∷ rest) → IsBehind t new rest) × (IsBehind t new rest → IsBehind t old (b ∷ rest))) → IsRead t new (take (i + 1) text)
-read_one t old new text i b l e h s rest =
-    let p : take (i + 1) text ≡ take i text ++ b ∷ [] = take_more text i 0 l ∙ ap (λ c. take i text ++ c ∷ []) (sym e) in
-    let q : take (i + 1) text ++ rest ≡ take i text ++ (b ∷ rest) = ap (λ w. w ++ rest) p ∙ append_assoc (take i text) (b ∷ []) rest in
-    (λ a. subst (λ w. In t w) (sym q) ((h (b ∷ rest)).0 ((s rest).1 a)), λ a. (s rest).0 ((h (b ∷ rest)).1 (subst (λ w. In t w) q a)))
-
-pub read_whole : (t : Tree) (marks text : List ℕ) (i : ℕ) → length text ≤ i → IsRead t marks (take i text) → IsRead t marks text
-read_whole t marks text i l h = subst (λ w. IsRead t marks w) (take_all i text l) h
-
 pub nothing_left : (t : Tree) (marks text : List ℕ) (i : ℕ) (v : Bool) → v ≡ false → ((rest : List ℕ) → IsBehind t marks rest → v ≡ true) → IsRead t marks (take i text) → In t text → ⊥
 nothing_left t marks text i v e f h m =
     let p : take i text ++ drop i text ≡ text = take-append-drop i text in
     let u : v ≡ true = f (drop i text) ((h (drop i text)).1 (subst (λ w. In t w) (sym p) m)) in
     let c : true ≡ false = sym u ∙ e in cc
-
-pub read_ends : (t : Tree) (marks text : List ℕ) (v : Bool) → IsRead t marks text → (v ≡ true → IsBehind t marks []) × (IsBehind t marks [] → v ≡ true) → (v ≡ true → In t text) × (In t text → v ≡ true)
-read_ends t marks text v h e = (λ a. subst (λ w. In t w) (append-nil text) ((h []).0 (e.0 a)), λ a. e.1 ((h []).1 (subst (λ w. In t w) (sym (append-nil text)) a)))
 
 is_nil : (text : List ℕ) (v : Bool) → v ≡ (length text == 0) → (v ≡ true → text ≡ []) × (text ≡ [] → v ≡ true)
 is_nil [] v e = (λ h. refl, λ h. e)

@@ -2,6 +2,9 @@
 use Rattle.std.proofs.Common.{◌≡◌, refl, sym, ◌∙◌, ap, subst, ℕ, zero, suc, ◌+◌, ◌-◌, ◌*◌, ◌/◌, ◌<◌, ◌≤◌, ◌==◌, Bool, true, false, List, [], ◌∷◌, length, map, None, ◌⊎◌, inl, inr, ◌↔◌, arith}
 use Rattle.std.specs.Prelude.{◌&&◌, slice_get, nat_lt}
 use Rattle.std.proofs.lemmas.List.{length-map}
+use Rattle.std.proofs.lemmas.Bool.{and_from, or_right, or_cases, or_left, cases_lt}
+use Rattle.std.proofs.lemmas.Option.{slice_get_past}
+use Rattle.std.specs.Cmp.{first_so, second_so}
 use Rattle.std.specs.List.{list_any}
 use Rattle.pattern_syntax.specs.Tree.{Tree}
 use Rattle.pattern_match.specs.Class.{class_bytes, takes_at}
@@ -13,15 +16,14 @@ use Rattle.pattern_match.specs.States.{bit, width_of, is_bare, AreMarks}
 use Rattle.pattern_match.specs.Loops.{IsLoop, HaveRows, LeadsToLoop, HasLoop, IsSteady, AreSteady}
 use Rattle.pattern_match.specs.Settled.{IsOnward, LeadsOnward, MarksLeadOnward, IsSteadyPlace, MarksStay}
 use Rattle.pattern_match.specs.Tables.{AreTables, leads, ends, has, any_below, bytes_in}
-use Rattle.pattern_match.proofs.Language.{and_first, and_second, and_both, or_either, or_left, or_right}
 use Rattle.pattern_match.proofs.WordBits.{bit_within, no_word}
-use Rattle.pattern_match.proofs.Rows.{get_past, row_within}
+use Rattle.pattern_match.proofs.Rows.{row_within}
 use Rattle.pattern_match.proofs.LowestBits.{any_past}
 use Rattle.pattern_match.proofs.Stepping.{IsStep, IsEnd, IsStart, Starts, as_many, next_within, starts}
 
 any_from : (test : ℕ → Bool) (n : ℕ) → any_below test n ≡ true → (p : ℕ) × (p < n) × (test p ≡ true)
 any_from test zero h = cc
-any_from test (suc n) h = at (or_either (any_below test n) _ h) (any_from test n)
+any_from test (suc n) h = at (or_cases (any_below test n) _ h) (any_from test n)
   where
     at : (any_below test n ≡ true) ⊎ (test n ≡ true) → (any_below test n ≡ true → (p : ℕ) × (p < n) × (test p ≡ true)) → (p : ℕ) × (p < suc n) × (test p ≡ true)
     at (inl g) ih = let r = ih g in (r.0, omega arith, r.2)
@@ -38,29 +40,26 @@ any_to test (suc n) p l h = at (last_or_before p n l) (any_to test n p)
     at (inl g) ih = or_left _ _ (ih g h)
     at (inr g) ih = or_right (any_below test n) _ (subst (λ m. test m ≡ true) g h)
 
-within_or_past : (k n : ℕ) → (k < n) ⊎ (n ≤ k)
-within_or_past k n = grind arith
-
 leads_within : (ps : List Place) (p q : ℕ) → leads (slice_get ps p) q ≡ true → p < length ps
-leads_within ps p q h = at (within_or_past p (length ps))
+leads_within ps p q h = at (cases_lt p (length ps))
   where
     at : (p < length ps) ⊎ (length ps ≤ p) → p < length ps
     at (inl l) = l
-    at (inr l) = let e : leads (slice_get ps p) q ≡ false = (let n : slice_get ps p ≡ None = get_past ps p l in rw n refl) in let d : true ≡ false = sym h ∙ e in cc
+    at (inr l) = let e : leads (slice_get ps p) q ≡ false = (let n : slice_get ps p ≡ None = slice_get_past ps p l in rw n refl) in let d : true ≡ false = sym h ∙ e in cc
 
 has_within : (ps : List Place) (p b : ℕ) → has (slice_get ps p) b ≡ true → p < length ps
-has_within ps p b h = at (within_or_past p (length ps))
+has_within ps p b h = at (cases_lt p (length ps))
   where
     at : (p < length ps) ⊎ (length ps ≤ p) → p < length ps
     at (inl l) = l
-    at (inr l) = let e : has (slice_get ps p) b ≡ false = (let n : slice_get ps p ≡ None = get_past ps p l in rw n refl) in let d : true ≡ false = sym h ∙ e in cc
+    at (inr l) = let e : has (slice_get ps p) b ≡ false = (let n : slice_get ps p ≡ None = slice_get_past ps p l in rw n refl) in let d : true ≡ false = sym h ∙ e in cc
 
 ends_within : (ps : List Place) (p : ℕ) → ends (slice_get ps p) ≡ true → p < length ps
-ends_within ps p h = at (within_or_past p (length ps))
+ends_within ps p h = at (cases_lt p (length ps))
   where
     at : (p < length ps) ⊎ (length ps ≤ p) → p < length ps
     at (inl l) = l
-    at (inr l) = let e : ends (slice_get ps p) ≡ false = (let n : slice_get ps p ≡ None = get_past ps p l in rw n refl) in let d : true ≡ false = sym h ∙ e in cc
+    at (inr l) = let e : ends (slice_get ps p) ≡ false = (let n : slice_get ps p ≡ None = slice_get_past ps p l in rw n refl) in let d : true ≡ false = sym h ∙ e in cc
 
 first_is : (n k : ℕ) → suc k ≡ n → nat_lt 0 n ≡ true
 first_is n k e = grind arith
@@ -93,16 +92,16 @@ module _ (ps : List Place) (width : ℕ) (follow accept : List ℕ) (classes : L
         let f = rows_fit in
         let r : bit follow (64 * (p * width) + q) ≡ true = t.follows p q lp (omega arith) ∙ v in
         let s : takes_at classes q b ≡ true = taken b q m ∙ w in
-        h q (omega arith) ∙ and_both _ _ (any_to (λ p. bit old p && bit follow (64 * (p * length old) + q)) (length ps) p lp (and_both _ _ u (rw n r))) s;
+        h q (omega arith) ∙ and_from _ _ (any_to (λ p. bit old p && bit follow (64 * (p * length old) + q)) (length ps) p lp (and_from _ _ u (rw n r))) s;
     from = λ q u.
         let lq = bit_within new q u in
         let f = rows_fit in
         let e = sym (h q (omega arith)) ∙ u in
-        let a = any_from (λ p. bit old p && bit follow (64 * (p * length old) + q)) (length ps) (and_first (any_below (λ p. bit old p && bit follow (64 * (p * length old) + q)) (length ps)) _ e) in
-        let d : takes_at classes q b ≡ true = and_second (any_below (λ p. bit old p && bit follow (64 * (p * length old) + q)) (length ps)) _ e in
-        let u2 : bit follow (64 * (a.0 * length old) + q) ≡ true = and_second (bit old a.0) _ a.2 in
+        let a = any_from (λ p. bit old p && bit follow (64 * (p * length old) + q)) (length ps) (first_so (any_below (λ p. bit old p && bit follow (64 * (p * length old) + q)) (length ps)) _ e) in
+        let d : takes_at classes q b ≡ true = second_so (any_below (λ p. bit old p && bit follow (64 * (p * length old) + q)) (length ps)) _ e in
+        let u2 : bit follow (64 * (a.0 * length old) + q) ≡ true = second_so (bit old a.0) _ a.2 in
         let g : bit follow (64 * (a.0 * width) + q) ≡ true = subst (λ w. bit follow (64 * (a.0 * w) + q) ≡ true) n u2 in
-        (sym (taken b q m) ∙ d, (a.0, and_first (bit old a.0) _ a.2, sym (t.follows a.0 q a.1 (omega arith)) ∙ g));
+        (sym (taken b q m) ∙ d, (a.0, first_so (bit old a.0) _ a.2, sym (t.follows a.0 q a.1 (omega arith)) ∙ g));
   }
 
   machine_ends : (states : List ℕ) (v : Bool) → length states ≡ width → ((k : ℕ) → bit states k ≡ true → bit accept k ≡ true → v ≡ true) → (v ≡ true → (k : ℕ) × (bit states k ≡ true) × (bit accept k ≡ true)) → IsEnd ps states v
@@ -180,7 +179,7 @@ module _ (ps : List Place) (width : ℕ) (follow accept : List ℕ) (classes : L
 
   steady_place : (marks : List ℕ) (p : ℕ) → length marks ≡ width → p < length ps → ((q : ℕ) → leads (slice_get ps p) q ≡ true → q < length ps) → IsSteady marks follow classes p → IsSteadyPlace ps marks p
   steady_place marks p n l within h = record {
-    same = λ q. at q (within_or_past q (64 * width));
+    same = λ q. at q (cases_lt q (64 * width));
     takes = λ b u v. sym (taken b p v) ∙ h.takes b u v;
   }
     where
@@ -200,11 +199,11 @@ module _ (ps : List Place) (width : ℕ) (follow accept : List ℕ) (classes : L
 
   machine_starts : (states : List ℕ) → length states ≡ width → ((k : ℕ) → k < 64 * length states → bit states k ≡ (nat_lt 0 (length ps) && (length ps - 1 == k))) → IsStart ps states
   machine_starts states n h = record {
-    onto = λ k e. let r = rows_fit in h k (omega arith) ∙ and_both (nat_lt 0 (length ps)) (length ps - 1 == k) (first_is (length ps) k e) (last_is (length ps) k e);
+    onto = λ k e. let r = rows_fit in h k (omega arith) ∙ and_from (nat_lt 0 (length ps)) (length ps - 1 == k) (first_is (length ps) k e) (last_is (length ps) k e);
     from = λ k u.
         let l = bit_within states k u in
         let e = sym (h k l) ∙ u in
-        is_last (length ps) k (and_first (nat_lt 0 (length ps)) (length ps - 1 == k) e) (and_second (nat_lt 0 (length ps)) (length ps - 1 == k) e);
+        is_last (length ps) k (first_so (nat_lt 0 (length ps)) (length ps - 1 == k) e) (second_so (nat_lt 0 (length ps)) (length ps - 1 == k) e);
   }
 
 -- the states stay a matcher's
@@ -229,7 +228,7 @@ started_states t states n s = record {
     at k l true e = let w = s.from k e in let m = as_many t in absurd (omega arith)
 
 marked_within : (t : Tree) (marks : List ℕ) → AreMarks t marks → (p : ℕ) → bit marks p ≡ true → p < length (all_places (automaton t))
-marked_within t marks a p h = at (within_or_past p (length (all_places (automaton t))))
+marked_within t marks a p h = at (cases_lt p (length (all_places (automaton t))))
   where
     at : (p < length (all_places (automaton t))) ⊎ (length (all_places (automaton t)) ≤ p) → p < length (all_places (automaton t))
     at (inl l) = l

@@ -1,6 +1,8 @@
 -- The position automaton of a pattern runs its language.
 use Rattle.std.proofs.Common.{◌≡◌, refl, sym, ◌∙◌, ap, subst, ℕ, zero, suc, pred, ◌+◌, ◌<◌, ◌≤◌, ◌==◌, Bool, true, false, List, [], ◌∷◌, ◌++◌, length, Option, Some, None, ◌⊎◌, inl, inr, arith, length-append}
 use Rattle.std.proofs.lemmas.List.{length-map}
+use Rattle.std.proofs.lemmas.Bool.{and_from, or_right, or_parts}
+use Rattle.std.proofs.lemmas.Option.{slice_get_within}
 use Rattle.std.specs.Prelude.{◌||◌, ◌&&◌, nat_le, map, slice_get, if◌then◌else◌}
 use Rattle.std.specs.List.{list_any}
 use Rattle.pattern_syntax.specs.Tree.{Tree, Set, Nothing, Both, Either, Repeat}
@@ -8,7 +10,7 @@ use Rattle.pattern_syntax.specs.Language.{In}
 use Rattle.pattern_match.specs.Residuals.{has_texts, is_count, is_some_list, Residual, and_then, of_copies, of_endless, residuals}
 use Rattle.pattern_match.specs.Automaton.{Place, Automaton, bare, single, up, moved, same_numbers, added, followed, in_turn, both, either, copy_before, looped, copies, endless, repeat_places, repeated, automaton}
 use Rattle.pattern_match.specs.Quotients.{nullable}
-use Rattle.pattern_match.proofs.Language.{Steps, both_onto, both_from, both_skip, repeat_onto, repeat_from, fewer, has_more, and_both, or_right, in_empty, empty_in, has_text, text_of}
+use Rattle.pattern_match.proofs.Language.{Steps, both_onto, both_from, both_skip, repeat_onto, repeat_from, fewer, has_more, in_empty, empty_in, has_text, text_of}
 
 -- the place may take the byte, and the text is left behind it
 abbrev pub Takes : List Residual → ℕ → ℕ → List ℕ → Type 0
@@ -28,11 +30,6 @@ get_left [] ys q h = absurd (omega arith)
 get_left (x ∷ xs) ys zero h = refl
 get_left (x ∷ xs) ys (suc q) h = get_left xs ys q (omega arith)
 
-pub get_within : (xs : List Residual) (q : ℕ) (z : Residual) → slice_get xs q ≡ Some z → q < length xs
-get_within [] q z h = cc
-get_within (x ∷ xs) zero z h = omega arith
-get_within (x ∷ xs) (suc q) z h = let r = get_within xs q z h in omega arith
-
 pub get_right : (xs ys : List Residual) (q : ℕ) → slice_get (xs ++ ys) (q + length xs) ≡ slice_get ys q
 get_right [] ys q = let e : q + 0 ≡ q = omega arith in rw e refl
 get_right (x ∷ xs) ys q = let e : q + suc (length xs) ≡ suc (q + length xs) = omega arith in rw e (get_right xs ys q)
@@ -49,7 +46,7 @@ get_map f (x ∷ xs) (suc q) z h = get_map f xs q z h
 
 pub goes_more : (xs ys : List Residual) (qs : List ℕ) (b : ℕ) (t : List ℕ) → Goes xs qs b t → Goes (xs ++ ys) qs b t
 goes_more xs ys [] b t h = h
-goes_more xs ys (q ∷ qs) b t (inl (z, g, a, i)) = inl (z, get_left xs ys q (get_within xs q z g) ∙ g, a, i)
+goes_more xs ys (q ∷ qs) b t (inl (z, g, a, i)) = inl (z, get_left xs ys q (slice_get_within xs q z g) ∙ g, a, i)
 goes_more xs ys (q ∷ qs) b t (inr h) = inr (goes_more xs ys qs b t h)
 
 pub goes_less : (xs ys : List Residual) (qs : List ℕ) (b : ℕ) (t : List ℕ) → Within (length xs) qs → Goes (xs ++ ys) qs b t → Goes xs qs b t
@@ -240,13 +237,6 @@ same_are (p ∷ ps) (q ∷ qs) h = at (p == q) refl h (same_are ps qs)
     at true e g ih = let i = ih g in let s = same e in rw (s, i) refl
     at false e g ih = cc
 
-pub other_lengths : (ps qs : List ℕ) → (length ps ≡ length qs → ⊥) → false ≡ same_numbers ps qs
-other_lengths ps qs h = at (same_numbers ps qs) refl
-  where
-    at : (v : Bool) → same_numbers ps qs ≡ v → false ≡ v
-    at true e = absurd (h (ap length (same_are ps qs e)))
-    at false e = refl
-
 -- what is not added again is there
 added_right : (zs : List Residual) (v : Bool) (next first : List ℕ) (b : ℕ) (t : List ℕ) → Goes zs (if v then next ++ first else next) b t → Goes zs (if v then added next first else next) b t
 added_right zs false next first b t h = h
@@ -283,7 +273,7 @@ good_followed xs zs y e first s p r g = record {
   onto = λ b t h. added_right zs p.is_last p.next first b t (followed_onto xs zs y p.is_last p.next first r e s g.last g.within g.onto b t h);
   from = λ b t h. followed_from xs zs y p.is_last p.next first r e s g.last g.within g.from b t (added_left zs p.is_last p.next first b t h);
   within = added_within (length zs) p.is_last p.next first (followed_within (length xs) (length zs) p.is_last p.next first s.longer g.within s.within);
-  live = and_both _ _ g.live s.live;
+  live = and_from _ _ g.live s.live;
 }
 
 pub second_part : (xs ys : List Residual) (a : Automaton) (y : Tree) → Runs a y ys → has_texts y ≡ true → Second xs (map (and_then y) xs ++ ys) y a.holds_empty (up (length xs) a.first)
@@ -415,7 +405,7 @@ both_live a b x y xs ys ra rb p q = record {
   from = λ c s h. as_first_from c s h;
   within = followed_within (length xs) (length (map (and_then y) xs ++ ys)) a.holds_empty a.first (up (length a.places) b.first) second.longer ra.within second.within;
   holds_empty = let u : a.holds_empty ≡ nullable x = ra.holds_empty in let v : b.holds_empty ≡ nullable y = rb.holds_empty in rw (u, v) refl;
-  is_live = sym (and_both _ _ p q);
+  is_live = sym (and_from _ _ p q);
 }
   where
     second : Second xs (map (and_then y) xs ++ ys) y b.holds_empty (up (length a.places) b.first)
@@ -482,7 +472,7 @@ begins_more : (least : ℕ) (most : Option ℕ) (x : Tree) → has_more most →
 begins_more least most x m b s = (repeat_onto least most x b s, repeat_from least most x b s m)
 
 texts_of_repeat : (least : ℕ) (most : Option ℕ) (x : Tree) → is_count least most ≡ true → has_texts x ≡ true → has_texts (Repeat least most x) ≡ true
-texts_of_repeat least most x c h = and_both _ _ c (or_right (least == 0) _ h)
+texts_of_repeat least most x c h = and_from _ _ c (or_right (least == 0) _ h)
 
 no_byte : (x : Tree) (b : ℕ) (s : List ℕ) → In (Repeat 0 (Some 0) x) (b ∷ s) → ⊥
 no_byte x b s (zero, l, a, j) = cc
@@ -518,29 +508,21 @@ no_endless zero x = refl
 no_endless (suc zero) x = refl
 no_endless (suc (suc least)) x = no_endless (suc least) x
 
-or_first : (u v : Bool) → (u || v) ≡ false → u ≡ false
-or_first true v h = cc
-or_first false v h = refl
-
-or_second : (u v : Bool) → (u || v) ≡ false → v ≡ false
-or_second true v h = cc
-or_second false v h = h
-
 -- a pattern without a text has no places
 no_residuals : (t : Tree) → has_texts t ≡ false → residuals t ≡ []
 no_residuals (Set []) h = refl
 no_residuals (Set (b ∷ bs)) h = cc
 no_residuals Nothing h = cc
 no_residuals (Both x y) h = rw h refl
-no_residuals (Either x y) h = let a = no_residuals x (or_first _ _ h) in let b = no_residuals y (or_second (has_texts x) _ h) in rw (a, b) refl
-no_residuals (Repeat least None x) h = let a = no_residuals x (or_second (least == 0) _ h) in rw a (no_endless least x)
+no_residuals (Either x y) h = let a = no_residuals x (or_parts _ _ h).0 in let b = no_residuals y (or_parts (has_texts x) _ h).1 in rw (a, b) refl
+no_residuals (Repeat least None x) h = let a = no_residuals x (or_parts (least == 0) _ h).1 in rw a (no_endless least x)
 no_residuals (Repeat least (Some most) x) h = at (nat_le least most) refl (no_residuals x)
   where
     at : (v : Bool) → nat_le least most ≡ v → (has_texts x ≡ false → residuals x ≡ []) → residuals (Repeat least (Some most) x) ≡ []
     at false e ih = rw e refl
     at true e ih =
         let g : ((least == 0) || has_texts x) ≡ false = rw e at h in
-        let a = ih (or_second (least == 0) _ g) in
+        let a = ih (or_parts (least == 0) _ g).1 in
         rw (e, a) (no_copies least most x)
 
 some_places : (a : Automaton) (t : Tree) → Runs a t (residuals t) → (v : Bool) → has_texts t ≡ v → is_some_list a.places ≡ true → has_texts t ≡ true

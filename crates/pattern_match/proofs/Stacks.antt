@@ -1,7 +1,7 @@
 -- Stacks of automata and of trees.
-use Rattle.std.proofs.Common.{◌≡◌, refl, sym, ◌∙◌, ap, ℕ, ◌+◌, ◌<◌, ◌≤◌, List, [], ◌∷◌, ◌++◌, length, take, map, get_or, true, Option}
+use Rattle.std.proofs.Common.{◌≡◌, refl, sym, ◌∙◌, ap, ℕ, ◌≤◌, List, [], ◌∷◌, ◌++◌, length, take, map, true, Option}
 use Rattle.std.specs.Prelude.{reverse}
-use Rattle.std.proofs.lemmas.List.{reverse-append, take_more, take_all, nil_from_length}
+use Rattle.std.proofs.lemmas.List.{reverse-append, take_all, nil_from_length}
 use Rattle.pattern_syntax.specs.Tree as tree
 use Rattle.pattern_syntax.specs.Tree.{Tree, tree_from}
 use Rattle.pattern_syntax.specs.Nodes.{after_node, after_nodes, tree_of}
@@ -69,15 +69,6 @@ builds_repeat old s new least most a c e g n = λ trees h. rw n (at trees (sym (
     at : (trees : List Tree) → (a ∷ reverse s) ≡ map automaton trees → HoldsTrees (s ++ c ∷ []) (after_node (Repeat least most) trees)
     at [] h = cc
     at (x ∷ trees) h = pushed s trees c (tree.Repeat least most x) (let r : reverse s ≡ map automaton trees = cc in r) (g ∙ same_repeat least most a x (let p : a ≡ automaton x = cc in p))
-
-pub after_more : (ns : List Node) (n : Node) (stack : List Tree) → after_nodes (ns ++ n ∷ []) stack ≡ after_node n (after_nodes ns stack)
-after_more [] n stack = refl
-after_more (m ∷ ns) n stack = after_more ns n (after_node m stack)
-
-pub node_more : (nodes : List Node) (i : ℕ) (d : Node) (old new : List Automaton) → i < length nodes → HoldsTrees old (after_nodes (take i nodes) []) → Builds (get_or nodes i d) old new → HoldsTrees new (after_nodes (take (i + 1) nodes) [])
-node_more nodes i d old new l h b =
-    let t : take (i + 1) nodes ≡ take i nodes ++ get_or nodes i d ∷ [] = take_more nodes i d l in
-    rw t (let p : after_nodes (take i nodes ++ get_or nodes i d ∷ []) [] ≡ after_node (get_or nodes i d) (after_nodes (take i nodes) []) = after_more (take i nodes) (get_or nodes i d) [] in rw p (b (after_nodes (take i nodes) []) h))
 
 pub top_tree : (stack s : List Automaton) (trees : List Tree) (a : Automaton) → stack ≡ s ++ a ∷ [] → HoldsTrees stack trees → a ≡ automaton (tree_from trees)
 top_tree stack s [] a e h = let f : a ∷ reverse s ≡ [] = sym (ap reverse e ∙ on_top s a) ∙ h in cc

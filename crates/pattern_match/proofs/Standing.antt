@@ -2,7 +2,8 @@
 use Rattle.std.proofs.Common.{◌≡◌, ◌≢◌, refl, sym, ◌∙◌, ap, subst, ℕ, zero, suc, ◌+◌, ◌-◌, ◌<◌, ◌≤◌, Bool, true, false, List, [], ◌∷◌, ◌++◌, length, take, drop, get_or, inl, inr, arith, append_assoc, append-nil, nat_eq, eq-eqb, length-append}
 use Rattle.std.specs.Prelude.{◌&&◌}
 use Rattle.std.specs.List.{starts_with}
-use Rattle.std.proofs.lemmas.List.{drop_more, take_all, length-drop}
+use Rattle.std.proofs.lemmas.List.{drop_more, take_all, length-drop, drop_all}
+use Rattle.std.specs.Cmp.{both_ways}
 use Rattle.pattern_syntax.specs.Tree.{Tree}
 use Rattle.pattern_syntax.specs.Language.{In, Opens, holds}
 use Rattle.pattern_syntax.specs.Literal.{literal_start_of}
@@ -13,12 +14,6 @@ use Rattle.pattern_match.specs.States.{Progress, IsLeft, IsBehind, StandsFor, is
 use Rattle.pattern_match.proofs.Cutting.{cut_behind_start}
 use Rattle.pattern_match.proofs.Holding.{holds_tells}
 use Rattle.pattern_match.proofs.Ready.{bare_behind}
-
-drop_past : (start : List ℕ) (n : ℕ) → length start ≤ n → drop n start ≡ []
-drop_past [] zero l = refl
-drop_past [] (suc n) l = refl
-drop_past (b ∷ bs) zero l = absurd (omega arith)
-drop_past (b ∷ bs) (suc n) l = drop_past bs n (omega arith)
 
 -- a test tells a fact
 abbrev pub Tells : Bool → Type 0 → Type 0
@@ -75,7 +70,7 @@ other_byte t old b l d rest a = d (head (sym (a.2 ∙ ap (λ w. w ++ a.1) (lead 
     head h = cc
 
 at_end : (start : List ℕ) (seen : ℕ) (text : List ℕ) → seen ≡ length start → drop seen start ++ text ≡ text
-at_end start seen text e = ap (λ w. w ++ text) (drop_past start seen (omega arith))
+at_end start seen text e = ap (λ w. w ++ text) (drop_all seen start (omega arith))
 
 pub moves_behind : (t : Tree) (old new : Progress) (b : ℕ) → old.seen ≡ length (literal_start_of t) → new.seen ≡ old.seen → ((text : List ℕ) → (IsBehind (behind_start t) old.marks (b ∷ text) → IsBehind (behind_start t) new.marks text) × (IsBehind (behind_start t) new.marks text → IsBehind (behind_start t) old.marks (b ∷ text))) → Moves t old new b
 moves_behind t old new b e n h rest = (
@@ -111,13 +106,8 @@ tells_text t states v h text s = (
   λ i. h.1 (s.onto [] (subst (λ w. In t w) (sym (append-nil text)) i)),
 )
 
-same_truth : (u v : Bool) → (u ≡ true → v ≡ true) → (v ≡ true → u ≡ true) → u ≡ v
-same_truth true v f g = sym (f refl)
-same_truth false true f g = g refl
-same_truth false false f g = refl
-
 pub tells_holds : (t : Tree) (text : List ℕ) (v : Bool) → Tells v (In t text) → v ≡ holds t text
-tells_holds t text v h = same_truth v (holds t text) (λ e. (holds_tells t text).1 (h.0 e)) (λ e. h.1 ((holds_tells t text).0 e))
+tells_holds t text v h = both_ways v (holds t text) (λ e. (holds_tells t text).1 (h.0 e)) (λ e. h.1 ((holds_tells t text).0 e))
 
 -- some text is left
 pub tells_opens : (t : Tree) (states : Progress) (v : Bool) → states.seen ≤ length (literal_start_of t) → ((text : List ℕ) → IsBehind (behind_start t) states.marks text → v ≡ true) → (v ≡ true → (text : List ℕ) × IsBehind (behind_start t) states.marks text) → (text : List ℕ) → StandsFor t states text → Tells v (Opens t text)
@@ -132,9 +122,6 @@ takes_rest t states e h text s = λ rest a. s.from rest (omega arith, rest, sym 
 
 pub dead_opens : (t : Tree) (states : Progress) → length (literal_start_of t) < states.seen → (text : List ℕ) → StandsFor t states text → Tells false (Opens t text)
 dead_opens t states l text s = false_tells (Opens t text) (λ o. dead_past t states l o.0 (s.onto o.0 o.1))
-
-pub same_states : (t : Tree) (states others : Progress) (text : List ℕ) → others ≡ states → StandsFor t states text → StandsFor t others text
-same_states t states others text e h = subst (λ w. StandsFor t w text) (sym e) h
 
 begins : (text start : List ℕ) → starts_with nat_eq text start ≡ true → text ≡ start ++ drop (length start) text
 begins text [] h = refl

@@ -1,5 +1,6 @@
 -- What steps, tests and copies of sets of states mean for texts.
 use Rattle.std.proofs.Common.{◌≡◌, refl, sym, ◌∙◌, subst, ℕ, zero, suc, ◌+◌, ◌<◌, ◌≤◌, ◌==◌, Bool, true, false, List, [], ◌∷◌, ◌++◌, length, Option, Some, None, ◌⊎◌, inl, inr, arith, length-append}
+use Rattle.std.proofs.lemmas.Bool.{or_right, or_cases, or_left, cases_lt}
 use Rattle.std.specs.Prelude.{slice_get}
 use Rattle.std.specs.List.{list_any}
 use Rattle.pattern_syntax.specs.Tree.{Tree}
@@ -8,7 +9,7 @@ use Rattle.pattern_match.specs.Residuals.{has_texts, Residual, residuals, all_re
 use Rattle.pattern_match.specs.Automaton.{Place, automaton, all_places}
 use Rattle.pattern_match.specs.States.{bit, AreMarks, IsMarked}
 use Rattle.pattern_match.specs.Tables.{leads, ends, has}
-use Rattle.pattern_match.proofs.Language.{has_text, text_of, empty_in, in_empty, or_either, or_left, or_right}
+use Rattle.pattern_match.proofs.Language.{has_text, text_of, empty_in, in_empty}
 use Rattle.pattern_match.proofs.Running.{Takes, Goes, Within, Good, AllGood, Runs, automaton_runs, good_length, good_append, good_all, good_left, goes_more, goes_less, within_more, get_right}
 
 start_good : (t : Tree) (zs : List Residual) → Runs (automaton t) t zs → has_texts t ≡ true → Good (zs ++ (0 ∷ [], t) ∷ []) (record { bytes = 0 ∷ []; is_last = (automaton t).holds_empty; next = (automaton t).first }) (0 ∷ [], t)
@@ -53,7 +54,7 @@ goes_to zs (q ∷ qs) b t (inr h) = let r = goes_to zs qs b t h in (r.0, or_righ
 
 pub to_goes : (zs : List Residual) (qs : List ℕ) (b : ℕ) (t : List ℕ) (q : ℕ) → list_any (λ n. n == q) qs ≡ true → Takes zs q b t → Goes zs qs b t
 to_goes zs [] b t q h k = cc
-to_goes zs (p ∷ qs) b t q h k = elim (or_either (p == q) _ h) [ inl e ↦ (let f : p ≡ q = grind arith in inl (subst (λ n. Takes zs n b t) (sym f) k)) | inr e ↦ inr (to_goes zs qs b t q e k) ]
+to_goes zs (p ∷ qs) b t q h k = elim (or_cases (p == q) _ h) [ inl e ↦ (let f : p ≡ q = grind arith in inl (subst (λ n. Takes zs n b t) (sym f) k)) | inr e ↦ inr (to_goes zs qs b t q e k) ]
 
 -- the new states are those that one of the old ones leads to, and that take the byte
 pub record IsStep (places : List Place) (old new : List ℕ) (b : ℕ) : Type 0 where
@@ -75,10 +76,6 @@ leads_from : (p : Option Place) (q : ℕ) → leads p q ≡ true → (place : Pl
 leads_from None q h = cc
 leads_from (Some place) q h = (place, refl)
 
-has_from : (p : Option Place) (b : ℕ) → has p b ≡ true → (place : Place) × (p ≡ Some place)
-has_from None q h = cc
-has_from (Some place) q h = (place, refl)
-
 place_good : (zs : List Residual) (ps : List Place) (rs : List Residual) → AllGood zs ps rs → (k : ℕ) (p : Place) → slice_get ps k ≡ Some p → (r : Residual) × (slice_get rs k ≡ Some r) × Good zs p r
 place_good zs [] [] a k p h = cc
 place_good zs [] (s ∷ rs) a k p h = absurd a
@@ -91,7 +88,7 @@ residual_at t k p h = place_good (all_residuals t) (all_places (automaton t)) (a
 
 any_within : (n : ℕ) (qs : List ℕ) (q : ℕ) → Within n qs → list_any (λ m. m == q) qs ≡ true → q < n
 any_within n [] q w h = cc
-any_within n (m ∷ qs) q w h = elim (or_either (m == q) _ h) [ inl e ↦ (let f : m ≡ q = grind arith in let g : m < n = w.0 in omega arith) | inr r ↦ any_within n qs q w.1 r ]
+any_within n (m ∷ qs) q w h = elim (or_cases (m == q) _ h) [ inl e ↦ (let f : m ≡ q = grind arith in let g : m < n = w.0 in omega arith) | inr r ↦ any_within n qs q w.1 r ]
 
 -- what follows a place is a place
 pub next_within : (t : Tree) (p q : ℕ) → leads (slice_get (all_places (automaton t)) p) q ≡ true → q < length (all_places (automaton t))
@@ -144,14 +141,11 @@ get_some [] k h = absurd (omega arith)
 get_some (z ∷ zs) zero h = (z, refl)
 get_some (z ∷ zs) (suc k) h = get_some zs k (omega arith)
 
-within_or_past : (k n : ℕ) → (k < n) ⊎ (n ≤ k)
-within_or_past k n = grind arith
-
 pub any_left : (t : Tree) (states : List ℕ) (v : Bool) → AreMarks t states → IsAny states v → v ≡ true → (text : List ℕ) × IsMarked t states text
 any_left t states v a s e = at (s.from e)
   where
     at : (k : ℕ) × (bit states k ≡ true) → (text : List ℕ) × IsMarked t states text
-    at (k, m) = within (within_or_past k (length (all_residuals t)))
+    at (k, m) = within (cases_lt k (length (all_residuals t)))
       where
         within : (k < length (all_residuals t)) ⊎ (length (all_residuals t) ≤ k) → (text : List ℕ) × IsMarked t states text
         within (inl l) = let z = get_some (all_residuals t) k l in let g = place_at t k z.0 z.1 in let x = text_of z.0.1 g.2.live in (x.0, (k, z.0, z.1, m, x.1))

@@ -5,37 +5,25 @@ use Rattle.std.specs.Int.{bit_at, trailing_zeros}
 use Rattle.std.proofs.lemmas.List.{get_or-set_same, get_or-set_other, get_or_past}
 use Rattle.std.proofs.lemmas.Nat.{and_le_l}
 use Rattle.std.proofs.lemmas.Nat.Bits.{bit_at_set_same, bit_at_set_other, bit_at_and, bit_at_or, bit_at-zero, bit_at-lt, bit_at-trailing_zeros, same_from_bits_below}
+use Rattle.std.proofs.lemmas.Bool.{or_right, cases_eq, ne_eqb, eq-eqb}
 use Rattle.pattern_match.specs.Loops.{IsRow}
 use Rattle.pattern_match.specs.States.{bit}
 use Rattle.pattern_match.specs.Tables.{any_below}
-
-same_or_not : (j k : ℕ) → (j ≡ k) ⊎ (j ≢ k)
-same_or_not j k = grind arith
-
-or_true : (v w : Bool) → w ≡ true → (v || w) ≡ true
-or_true true w h = refl
-or_true false w h = h
 
 or_false : (v w : Bool) → w ≡ false → (v || w) ≡ v
 or_false true w h = refl
 or_false false w h = h
 
-is_same : (j k : ℕ) → j ≡ k → (j == k) ≡ true
-is_same j k e = grind arith
-
-not_same : (j k : ℕ) → j ≢ k → (j == k) ≡ false
-not_same j k e = grind arith
-
 -- a bit set in a word
 pub word_bit : (w i j : ℕ) → i < 64 → j < 64 → (bit_at (bit_or w (1 * 2 ^ i % 18446744073709551616)) j == 1) ≡ ((bit_at w j == 1) || (j == i))
-word_bit w i j l m = at (same_or_not j i)
+word_bit w i j l m = at (cases_eq j i)
   where
     at : (j ≡ i) ⊎ (j ≢ i) → (bit_at (bit_or w (1 * 2 ^ i % 18446744073709551616)) j == 1) ≡ ((bit_at w j == 1) || (j == i))
-    at (inl e) = rw (or_true (bit_at w j == 1) (j == i) (is_same j i e), e) (is_same _ _ (bit_at_set_same w64 w i l))
-    at (inr e) = rw (or_false (bit_at w j == 1) (j == i) (not_same j i e)) (ap (λ n. n == 1) (bit_at_set_other w64 w i l j e))
+    at (inl e) = rw (or_right (bit_at w j == 1) (j == i) (eq-eqb j i e), e) (eq-eqb _ _ (bit_at_set_same w64 w i l))
+    at (inr e) = rw (or_false (bit_at w j == 1) (j == i) (ne_eqb j i e)) (ap (λ n. n == 1) (bit_at_set_other w64 w i l j e))
 
 pub bit_set : (words : List ℕ) (start q : ℕ) → start + q / 64 < length words → (j : ℕ) → bit (set words (start + q / 64) (bit_or (get_or words (start + q / 64) 0) (1 * 2 ^ (q % 64) % 18446744073709551616))) j ≡ (bit words j || (j == 64 * start + q))
-bit_set words start q l j = at (same_or_not (j / 64) (start + q / 64))
+bit_set words start q l j = at (cases_eq (j / 64) (start + q / 64))
   where
     new : ℕ
     new = bit_or (get_or words (start + q / 64) 0) (1 * 2 ^ (q % 64) % 18446744073709551616)
@@ -49,11 +37,11 @@ bit_set words start q l j = at (same_or_not (j / 64) (start + q / 64))
         rw (in_word e, e, g) (word_bit (get_or words (start + q / 64) 0) (q % 64) (j % 64) (omega arith) (omega arith))
     at (inr e) =
         let n : j ≢ 64 * start + q = λ f. e (let h : j / 64 ≡ start + q / 64 = omega arith in h) in
-        rw (get_or-set_other words (start + q / 64) (j / 64) (bit_or (get_or words (start + q / 64) 0) (1 * 2 ^ (q % 64) % 18446744073709551616)) 0 e, or_false (bit words j) (j == 64 * start + q) (not_same j _ n)) refl
+        rw (get_or-set_other words (start + q / 64) (j / 64) (bit_or (get_or words (start + q / 64) 0) (1 * 2 ^ (q % 64) % 18446744073709551616)) 0 e, or_false (bit words j) (j == 64 * start + q) (ne_eqb j _ n)) refl
 
 -- no bit stands past the words
 pub no_word : (words : List ℕ) (k : ℕ) → 64 * length words ≤ k → bit words k ≡ false
-no_word words k l = let g : get_or words (k / 64) 0 ≡ 0 = get_or_past words (k / 64) 0 (omega arith) in rw g (not_same _ 1 (let z : bit_at 0 (k % 64) ≡ 0 = bit_at-zero (k % 64) in rw z (λ e. omega arith)))
+no_word words k l = let g : get_or words (k / 64) 0 ≡ 0 = get_or_past words (k / 64) 0 (omega arith) in rw g (ne_eqb _ 1 (let z : bit_at 0 (k % 64) ≡ 0 = bit_at-zero (k % 64) in rw z (λ e. omega arith)))
 
 pub bit_within : (words : List ℕ) (k : ℕ) → bit words k ≡ true → k < 64 * length words
 bit_within words k h = at (grind arith)
@@ -69,13 +57,6 @@ max_one (suc zero) (suc zero) l m = refl
 max_one (suc zero) (suc (suc y)) l m = absurd (omega arith)
 max_one (suc (suc x)) y l m = absurd (omega arith)
 
-min_one : (x y : ℕ) → x < 2 → y < 2 → (min x y == 1) ≡ ((x == 1) && (y == 1))
-min_one zero y l m = grind arith
-min_one (suc zero) zero l m = refl
-min_one (suc zero) (suc zero) l m = refl
-min_one (suc zero) (suc (suc y)) l m = absurd (omega arith)
-min_one (suc (suc x)) y l m = absurd (omega arith)
-
 place_of : (start k : ℕ) → (64 * start + k) / 64 ≡ start + k / 64
 place_of start k = omega arith
 
@@ -87,11 +68,6 @@ bit_either new old table start k e =
     rw (place_of start k, rest_of start k, e, bit_at_or (get_or old (k / 64) 0) (get_or table (start + k / 64) 0) (k % 64))
     (max_one (bit_at (get_or old (k / 64) 0) (k % 64)) (bit_at (get_or table (start + k / 64) 0) (k % 64)) (bit_at-lt _ _) (bit_at-lt _ _))
 
-pub bit_both : (new old table : List ℕ) (start k : ℕ) → get_or new (k / 64) 0 ≡ bit_and (get_or old (k / 64) 0) (get_or table (start + k / 64) 0) → bit new k ≡ (bit old k && bit table (64 * start + k))
-bit_both new old table start k e =
-    rw (place_of start k, rest_of start k, e, bit_at_and (get_or old (k / 64) 0) (get_or table (start + k / 64) 0) (k % 64))
-    (min_one (bit_at (get_or old (k / 64) 0) (k % 64)) (bit_at (get_or table (start + k / 64) 0) (k % 64)) (bit_at-lt _ _) (bit_at-lt _ _))
-
 -- a bit of a row of a table
 pub row_bit : (words table : List ℕ) (start k : ℕ) → get_or table (start + k / 64) 0 ≡ get_or words (k / 64) 0 → bit table (64 * start + k) ≡ bit words k
 row_bit words table start k e = rw (place_of start k, rest_of start k, e) refl
@@ -99,11 +75,8 @@ row_bit words table start k e = rw (place_of start k, rest_of start k, e) refl
 pub word_either : (v w k : ℕ) → (bit_at (bit_or v w) k == 1) ≡ ((bit_at v k == 1) || (bit_at w k == 1))
 word_either v w k = rw (bit_at_or v w k) (max_one (bit_at v k) (bit_at w k) (bit_at-lt _ _) (bit_at-lt _ _))
 
-pub word_both : (v w k : ℕ) → (bit_at (bit_and v w) k == 1) ≡ ((bit_at v k == 1) && (bit_at w k == 1))
-word_both v w k = rw (bit_at_and v w k) (min_one (bit_at v k) (bit_at w k) (bit_at-lt _ _) (bit_at-lt _ _))
-
 pub no_bit : (words : List ℕ) (k : ℕ) → get_or words (k / 64) 0 ≡ 0 → bit words k ≡ false
-no_bit words k g = rw g (not_same _ 1 (let z : bit_at 0 (k % 64) ≡ 0 = bit_at-zero (k % 64) in rw z (λ e. omega arith)))
+no_bit words k g = rw g (ne_eqb _ 1 (let z : bit_at 0 (k % 64) ≡ 0 = bit_at-zero (k % 64) in rw z (λ e. omega arith)))
 
 -- a number that isn't 0 has a bit
 pub one_bit : (n : ℕ) → n ≢ 0 → n < 2 ^ 64 → (i : ℕ) × (i < 64) × (bit_at n i ≡ 1)
@@ -199,13 +172,6 @@ none_common words others n h k b c =
     let w : bit_at 0 (k % 64) ≡ 1 = rw z at m in
     let v : bit_at 0 (k % 64) ≡ 0 = bit_at-zero (k % 64) in
     omega arith
-
-pub none_any : (words : List ℕ) → ((i : ℕ) → i < length words → get_or words i 0 ≡ 0) → (k : ℕ) → bit words k ≡ true → ⊥
-none_any words h k b =
-    let l = bit_within words k b in
-    let z : get_or words (k / 64) 0 ≡ 0 = h (k / 64) (omega arith) in
-    let e : bit words k ≡ false = no_bit words k z in
-    let d : true ≡ false = sym b ∙ e in cc
 
 -- what is gathered and then kept
 pub step_bits : (marks gathered new shown kept follow : List ℕ) (test : ℕ → Bool) (width k : ℕ) → width ≡ length marks → shown ≡ marks → kept ≡ gathered → bit gathered k ≡ any_below (λ p. bit shown p && bit follow (64 * (p * width) + k)) (64 * width) → bit new k ≡ (bit kept k && test k) → bit new k ≡ (any_below (λ p. bit marks p && bit follow (64 * (p * length marks) + k)) (64 * length marks) && test k)

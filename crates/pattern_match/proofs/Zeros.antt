@@ -4,6 +4,9 @@ use Rattle.std.proofs.lemmas.List.{length-set}
 use Rattle.std.specs.Prelude.{reverse, Option, Some, None, slice_index, slice_get}
 use Rattle.std.specs.Option.{option_to_list}
 use Rattle.std.proofs.lemmas.List.{reverse-append, take_more, get_or-set_same, get_or-set_other}
+use Rattle.std.proofs.lemmas.Bool.{cases_eq}
+use Rattle.pattern_syntax.proofs.BuildingLemmas.{after_append}
+use Rattle.std.specs.Cmp.{first_so, second_so}
 use Rattle.pattern_syntax.specs.Tree as tree
 use Rattle.pattern_syntax.specs.Tree.{Tree}
 use Rattle.pattern_syntax.specs.Nodes.{after_node, after_nodes}
@@ -13,11 +16,11 @@ use Rattle.pattern_match.specs.Residuals.{is_some_list}
 use Rattle.pattern_match.specs.Automaton.{Automaton, automaton, bare, repeated}
 use Rattle.pattern_match.specs.Building.{HoldsTrees, Builds, IsPut}
 use Rattle.pattern_match.specs.Skipping.{is_zero_repeat, trees_before, IsSkip, AreStarts, IsNoted}
-use Rattle.pattern_match.proofs.Stacks.{pushed, after_more}
-use Rattle.pattern_match.proofs.Language.{and_first, and_second, is_zero}
+use Rattle.pattern_match.proofs.Stacks.{pushed}
+use Rattle.pattern_match.proofs.Language.{is_zero}
 
 one_before : (nodes : List Node) (k : ℕ) (d : Node) → k < length nodes → trees_before nodes (k + 1) ≡ after_node (get_or nodes k d) (trees_before nodes k)
-one_before nodes k d l = ap (λ (ns : List Node). after_nodes ns []) (take_more nodes k d l) ∙ after_more (take k nodes) (get_or nodes k d) []
+one_before nodes k d l = ap (λ (ns : List Node). after_nodes ns []) (take_more nodes k d l) ∙ after_append (take k nodes) (get_or nodes k d) []
 
 -- a part repeated zero times has the automaton of the empty text
 zero_times : (a : Automaton) → bare true ≡ repeated 0 (Some 0) a
@@ -146,10 +149,7 @@ zero_node Nothing h = cc
 zero_node Both h = cc
 zero_node Either h = cc
 zero_node (Repeat least None) h = cc
-zero_node (Repeat least (Some most)) h = let a = is_zero least (and_first (least == 0) _ h) in let b = is_zero most (and_second (least == 0) _ h) in rw (a, b) refl
-
-same_or_not : (j k : ℕ) → (j ≡ k) ⊎ (j ≢ k)
-same_or_not j k = grind arith
+zero_node (Repeat least (Some most)) h = let a = is_zero least (first_so (least == 0) _ h) in let b = is_zero most (second_so (least == 0) _ h) in rw (a, b) refl
 
 pub start_within : (nodes : List Node) (starts skips front : List ℕ) (x k : ℕ) → k < length nodes → starts ≡ front ++ x ∷ [] → IsNoted nodes starts skips k → x < length skips
 start_within nodes starts skips front x k l e h =
@@ -161,7 +161,7 @@ start_within nodes starts skips front x k l e h =
 pub noted_zero : (nodes : List Node) (starts skips front : List ℕ) (x k : ℕ) (d : Node) → k < length nodes → is_zero_repeat (get_or nodes k d) ≡ true → starts ≡ front ++ x ∷ [] → IsNoted nodes starts skips k → IsNoted nodes starts (set skips x k) (k + 1)
 noted_zero nodes starts skips front x k d l z e h = record {
   starts_are = repeat_starts nodes (reverse starts) k 0 (Some 0) d l n h.starts_are;
-  skips_are = λ start. at start (same_or_not start x);
+  skips_are = λ start. at start (cases_eq start x);
   room = length-set skips x k ∙ h.room;
 }
   where
@@ -187,13 +187,6 @@ noted_zero nodes starts skips front x k d l z e h = record {
     at start (inr q) m =
         let g : slice_index (set skips x k) start ≡ slice_index skips start = get_or-set_other skips x start k 0 q in
         subst (λ i. IsSkip nodes start i) (sym g) (h.skips_are start (subst (λ i. start < i) g m))
-
-pub noted_first : (nodes : List Node) (starts skips : List ℕ) → starts ≡ [] → length skips ≡ length nodes → ((i : ℕ) → slice_index skips i ≡ 0) → IsNoted nodes starts skips 0
-noted_first nodes starts skips e r z = record {
-  starts_are = subst (λ w. AreStarts nodes (reverse w) 0) (sym e) tt;
-  skips_are = λ start l. absurd (let q = z start in omega arith);
-  room = r;
-}
 
 -- what is popped
 pub both_popped : (nodes : List Node) (starts skips new : List ℕ) (o : Option ℕ) (k : ℕ) (d : Node) → k < length nodes → get_or nodes k d ≡ Both → starts ≡ new ++ option_to_list o → (o ≡ None → starts ≡ []) → IsNoted nodes starts skips k → IsNoted nodes new skips (k + 1)

@@ -23,7 +23,7 @@ use Rattle.pattern_syntax.specs.Nodes.{after_node, after_nodes, trees_behind, re
 use Rattle.pattern_syntax.specs.declared.node.Node.{Node}
 use Rattle.pattern_syntax.specs.declared.limits.TheConstants.{MOST_GROUPS, MOST_POSITIONS}
 
-after_append : (ns : List Node) (n : Node) (stack : List Tree) → after_nodes (ns ++ n ∷ []) stack ≡ after_node n (after_nodes ns stack)
+pub after_append : (ns : List Node) (n : Node) (stack : List Tree) → after_nodes (ns ++ n ∷ []) stack ≡ after_node n (after_nodes ns stack)
 after_append [] n stack = refl
 after_append (m ∷ ns) n stack = after_append ns n (after_node m stack)
 

@@ -7,8 +7,9 @@ use Rattle.std.proofs.lemmas.List.{get_or_past}
 use Rattle.std.proofs.lemmas.Bool.{cases_lt, cases_eq}
 use Rattle.std.proofs.lemmas.Bool.Decides.{nat_tests}
 use Rattle.std.proofs.lemmas.Nat.Bits.{bit_at-zero}
+use Rattle.std.specs.Cmp.{first_so, second_so}
 use Rattle.pattern_syntax.specs.ByteSet.{has_byte}
-use Rattle.pattern_syntax.specs.Classes.{is_between, is_digit, is_word, is_space, is_alpha, is_lower, is_upper, is_alnum, is_hexadecimal, is_blank, is_control, is_graphic, is_printed, is_punctuation, is_text_byte}
+use Rattle.pattern_syntax.specs.Classes.{is_digit, is_word, is_space, is_alpha, is_lower, is_upper, is_alnum, is_hexadecimal, is_blank, is_control, is_graphic, is_printed, is_punctuation, is_text_byte}
 use Rattle.pattern_syntax.specs.declared.byte_set.ByteSet.{ByteSet}
 
 abbrev same : Bool → Bool → Bool
@@ -25,19 +26,11 @@ same_means false false h = refl
 same_means true false h = sym h
 same_means false true h = h
 
-and_first : (a b : Bool) → (a && b) ≡ true → a ≡ true
-and_first true b h = refl
-and_first false b h = h
-
-and_second : (a b : Bool) → (a && b) ≡ true → b ≡ true
-and_second true b h = h
-and_second false b h = absurd (let e : false ≡ true = h in cc)
-
 below_means : (f g : ℕ → Bool) (n : ℕ) → same_below f g n ≡ true → (c : ℕ) → c < n → f c ≡ g c
 below_means f g zero h c k = absurd (omega arith)
 below_means f g (suc n) h c k =
-    ⊎_elim (λ (e : c ≡ n). ap f e ∙ same_means (f n) (g n) (and_first (same (f n) (g n)) (same_below f g n) h) ∙ ap g (sym e))
-    (λ ne. below_means f g n (and_second (same (f n) (g n)) (same_below f g n) h) c (omega arith)) (cases_eq c n)
+    ⊎_elim (λ (e : c ≡ n). ap f e ∙ same_means (f n) (g n) (first_so (same (f n) (g n)) (same_below f g n) h) ∙ ap g (sym e))
+    (λ ne. below_means f g n (second_so (same (f n) (g n)) (same_below f g n) h) c (omega arith)) (cases_eq c n)
 
 abbrev set_of : ℕ → ℕ → ℕ → ℕ → ByteSet
 set_of a b c d = record { words = a ∷ b ∷ c ∷ d ∷ [] }
@@ -48,9 +41,6 @@ has_none a b c d n h = ap (λ w. nat_eq (bit_at w (n % 64)) 1) (get_or_past (a �
 same_sets : (a b c d : ℕ) (p : ℕ → Bool) → same_below (has_byte (set_of a b c d)) p 256 ≡ true → ((n : ℕ) → 256 ≤ n → p n ≡ false) → has_byte (set_of a b c d) ≡ p
 same_sets a b c d p h past =
     fun_ext (λ (n : ℕ). ⊎_elim (λ k. below_means (has_byte (set_of a b c d)) p 256 h n k) (λ k. has_none a b c d n k ∙ sym (past n k)) (cases_lt n 256))
-
-between_past : (low high n : ℕ) → high < n → is_between low high n ≡ false
-between_past low high n h = grind (arith, nat_tests)
 
 pub digits_are : has_byte (record { words = 287948901175001088 ∷ 0 ∷ 0 ∷ 0 ∷ [] }) ≡ is_digit
 digits_are = same_sets 287948901175001088 0 0 0 is_digit refl (λ n h. grind (arith, nat_tests))

@@ -47,7 +47,7 @@ misplaced_to depth after_piece place Close why h = ap (λ (b : Bool). cond b (So
 misplaced_to depth after_piece place (Times least most) why h = ap (λ (b : Bool). cond b None (Some (Syntax place))) h.0 ∙ ap (λ (w : PatternWhy). Some w) (sym h.1)
 
 -- a token without a fault leaves no more groups open than may be
-stays_shallow : (depth : ℕ) (after_piece : Bool) (place : ℕ) (token : Token) → depth ≤ MOST_GROUPS → structure_fault depth after_piece place token ≡ None → depth_behind token depth ≤ MOST_GROUPS
+pub stays_shallow : (depth : ℕ) (after_piece : Bool) (place : ℕ) (token : Token) → depth ≤ MOST_GROUPS → structure_fault depth after_piece place token ≡ None → depth_behind token depth ≤ MOST_GROUPS
 stays_shallow depth after_piece place (Bytes bytes) h e = h
 stays_shallow depth after_piece place Bar h e = h
 stays_shallow depth after_piece place Anchor h e = h

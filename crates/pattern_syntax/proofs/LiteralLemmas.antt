@@ -4,6 +4,7 @@ use Rattle.std.specs.Prelude.{Option, Some, None, unwrap_or}
 use Rattle.std.specs.List.{list_any}
 use Rattle.std.proofs.lemmas.List.{drop_more, length-drop, length-map, length_push, get_or_push}
 use Rattle.std.proofs.lemmas.Bool.Decides.{nat_tests}
+use Rattle.std.specs.Cmp.{first_so, second_so}
 use Rattle.pattern_syntax.specs.ByteSet.{only_of}
 use Rattle.pattern_syntax.specs.Tree as tree
 use Rattle.pattern_syntax.specs.Tree.{Tree, TreeNode, tree_nodes}
@@ -14,7 +15,6 @@ use Rattle.pattern_syntax.specs.Literal.{single_byte, joined, single_bytes, lite
 use Rattle.pattern_syntax.specs.Parts.{IsWhole}
 use Rattle.pattern_syntax.specs.declared.node.Node.{Node}
 use Rattle.pattern_syntax.specs.declared.node.Node.TheVariants as node
-use Rattle.pattern_syntax.proofs.ShapeLemmas.{and_first, and_second}
 
 -- ---- each node does its part: their number is that of the tree's nodes
 
@@ -159,8 +159,8 @@ tail_of : (t : Tree) → is_proper t ≡ true → is_sequence t ≡ true → Tai
 tail_of (tree.Set bytes) h k = absurd (let f : false ≡ true = k in cc)
 tail_of tree.Nothing h k = ([], refl, λ rest. refl)
 tail_of (tree.Both first second) h k =
-    let p = and_second (is_sequence first) (is_proper first && is_proper second) h in
-    let a = tail_of first (and_first (is_proper first) (is_proper second) p) (and_first (is_sequence first) (is_proper first && is_proper second) h) in
+    let p = second_so (is_sequence first) (is_proper first && is_proper second) h in
+    let a = tail_of first (first_so (is_proper first) (is_proper second) p) (first_so (is_sequence first) (is_proper first && is_proper second) h) in
     let back = tree_nodes second ++ (2, ([], (0, None))) ∷ [] in (
       a.0 ++ back,
       ap (λ (l : List TreeNode). l ++ back) a.1,

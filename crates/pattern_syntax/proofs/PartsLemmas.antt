@@ -4,6 +4,7 @@ use Rattle.std.specs.Prelude.{Option, Some, None, fold, ◌↔◌}
 use Rattle.std.proofs.lemmas.List.{length_push}
 use Rattle.std.proofs.lemmas.List.Sums.{fold_push}
 use Rattle.std.proofs.lemmas.Bool.Decides.{nat_tests}
+use Rattle.std.specs.Cmp.{first_so, second_so}
 use Rattle.pattern_syntax.specs.ByteSet.{only_of, bytes_with, has_byte}
 use Rattle.pattern_syntax.specs.Tree as tree
 use Rattle.pattern_syntax.specs.Tree.{Tree, tree_from}
@@ -14,7 +15,6 @@ use Rattle.pattern_syntax.specs.Literal.{literal_start_of, node_code, code_byte,
 use Rattle.pattern_syntax.specs.Parts.{with_byte, bytes_tree, pattern_tree, Follows, IsWhole, IsStart, IsPattern}
 use Rattle.pattern_syntax.specs.declared.node.Node.{Node}
 use Rattle.pattern_syntax.specs.declared.node.Node.TheVariants as node
-use Rattle.pattern_syntax.proofs.ShapeLemmas.{and_first, and_second}
 use Rattle.pattern_syntax.proofs.LiteralLemmas.{leading_from, led_at, single_text, two_nodes, one_more, whole_leads, several_start, not_several}
 
 -- ---- the start within the tree
@@ -87,7 +87,7 @@ parts_apart start rest t h =
 abbrev Joins : Tree → List ℕ → List ℕ → Type 0
 Joins t bytes text = (front : List ℕ) × (text ≡ front ++ bytes) × In t front
 
-same_byte : (b : ℕ) → (b == b) ≡ true
+pub same_byte : (b : ℕ) → (b == b) ≡ true
 same_byte b = grind (arith, nat_tests)
 
 bytes_from : (t : Tree) (bytes text : List ℕ) → In (fold with_byte t bytes) text → Joins t bytes text
@@ -106,8 +106,8 @@ follows : (start : List ℕ) (t : Tree) (text : List ℕ) → is_proper (grafted
 follows start (tree.Set bytes) text h k i = absurd (let f : false ≡ true = k in cc)
 follows start tree.Nothing text h k i = let j = bytes_from tree.Nothing start text i in ([], j.1 ∙ ap (λ (l : List ℕ). l ++ start) j.2 ∙ sym (append-nil start), refl)
 follows start (tree.Both first second) text h k i =
-    let p = and_second (is_sequence (grafted start first)) (is_proper (grafted start first) && is_proper second) h in
-    let f = follows start first i.0 (and_first (is_proper (grafted start first)) (is_proper second) p) (and_first (is_sequence (grafted start first)) (is_proper (grafted start first) && is_proper second) h) i.3 in
+    let p = second_so (is_sequence (grafted start first)) (is_proper (grafted start first) && is_proper second) h in
+    let f = follows start first i.0 (first_so (is_proper (grafted start first)) (is_proper second) p) (first_so (is_sequence (grafted start first)) (is_proper (grafted start first) && is_proper second) h) i.3 in
     (f.0 ++ i.1, i.2 ∙ ap (λ (l : List ℕ). l ++ i.1) f.1 ∙ append_assoc start f.0 i.1, (f.0, i.1, refl, f.2, i.4))
 follows start (tree.Either left right) text h k i = absurd (let f : false ≡ true = k in cc)
 follows start (tree.Repeat least most piece) text h k i = absurd (let f : false ≡ true = k in cc)
@@ -116,12 +116,12 @@ joins : (start : List ℕ) (t : Tree) (text : List ℕ) → is_proper (grafted s
 joins start (tree.Set bytes) text h k i = absurd (let f : false ≡ true = k in cc)
 joins start tree.Nothing text h k i = bytes_to tree.Nothing start text [] (i.1 ∙ ap (λ (l : List ℕ). start ++ l) i.2 ∙ append-nil start) refl
 joins start (tree.Both first second) text h k i =
-    let p = and_second (is_sequence (grafted start first)) (is_proper (grafted start first) && is_proper second) h in
+    let p = second_so (is_sequence (grafted start first)) (is_proper (grafted start first) && is_proper second) h in
     let j = i.2 in (
       start ++ j.0,
       j.1,
       i.1 ∙ ap (λ (l : List ℕ). start ++ l) j.2 ∙ sym (append_assoc start j.0 j.1),
-      joins start first (start ++ j.0) (and_first (is_proper (grafted start first)) (is_proper second) p) (and_first (is_sequence (grafted start first)) (is_proper (grafted start first) && is_proper second) h) (j.0, refl, j.3),
+      joins start first (start ++ j.0) (first_so (is_proper (grafted start first)) (is_proper second) p) (first_so (is_sequence (grafted start first)) (is_proper (grafted start first) && is_proper second) h) (j.0, refl, j.3),
       j.4,
     )
 joins start (tree.Either left right) text h k i = absurd (let f : false ≡ true = k in cc)
@@ -164,7 +164,7 @@ led_both None joins b h = absurd (let f : None ≡ Some b = h in cc)
 led_both (Some c) true b h = (h, refl)
 led_both (Some c) false b h = absurd (let f : None ≡ Some b = h in cc)
 
-only_byte : (bytes : List ℕ) (b : ℕ) → only_of bytes ≡ Some b → bytes ≡ b ∷ []
+pub only_byte : (bytes : List ℕ) (b : ℕ) → only_of bytes ≡ Some b → bytes ≡ b ∷ []
 only_byte [] b h = absurd (let f : None ≡ Some b = h in cc)
 only_byte (x ∷ []) b h = let f : Some x ≡ Some b = h in let g : x ≡ b = cc in ap (λ (y : ℕ). y ∷ []) g
 only_byte (x ∷ y ∷ bytes) b h = absurd (let f : None ≡ Some b = h in cc)
@@ -197,14 +197,6 @@ pub record Passed (nodes : List Node) (start : List ℕ) (at : ℕ) : Type 0 whe
   pub leads : leading_from 0 nodes ≡ start ++ leading_from at nodes
   pub builds : after_nodes (drop at nodes) (bytes_tree start ∷ []) ≡ rest_tree nodes ∷ []
 
-pub none_passed : (nodes : List Node) (start : List ℕ) → IsWhole nodes → start ≡ [] → Passed nodes start 0
-none_passed nodes start w e = record {
-  within = omega arith;
-  twice = let l = ap length e in omega (arith, l);
-  leads = ap (λ (l : List ℕ). l ++ leading_from 0 nodes) (sym e);
-  builds = ap (λ (l : List ℕ). after_nodes nodes (bytes_tree l ∷ [])) e ∙ w.builds;
-}
-
 pub one_passed : (nodes : List Node) (start new : List ℕ) (at b : ℕ) (d : Node) → at + 1 < length nodes → led_at nodes at d ≡ Some b → new ≡ start ++ b ∷ [] → Passed nodes start at → Passed nodes new (at + 2)
 one_passed nodes start new at b d h l e p = record {
   within = omega arith;
@@ -224,25 +216,3 @@ all_passed nodes start at w s p e =
       literal = sym (whole_leads nodes w s) ∙ p.leads ∙ ap (λ (l : List ℕ). start ++ l) e ∙ append-nil start;
       builds = ap (λ (n : ℕ). after_nodes (drop n nodes) (bytes_tree start ∷ [])) (sym t) ∙ p.builds;
     }
-
-pub no_literal : (nodes : List Node) (start : List ℕ) → IsWhole nodes → is_several (rest_tree nodes) ≡ true → start ≡ [] → IsStart nodes start
-no_literal nodes start w s e =
-    let z : 2 * length start ≡ 0 = let l = ap length e in omega (arith, l) in record {
-      within = omega (arith, z);
-      literal = several_start (rest_tree nodes) s ∙ sym e;
-      builds = ap (λ (n : ℕ). after_nodes (drop n nodes) (bytes_tree start ∷ [])) z ∙ ap (λ (l : List ℕ). after_nodes nodes (bytes_tree l ∷ [])) e ∙ w.builds;
-    }
-
-pub pattern_of_start : (nodes rest : List Node) (start bytes : List ℕ) → IsWhole nodes → IsStart nodes start → rest ≡ drop (2 * length start) nodes → bytes ≡ start → (pattern_tree bytes rest ≡ rest_tree nodes) × IsPattern bytes rest
-pattern_of_start nodes rest start bytes w s r b =
-    let k : after_nodes rest (bytes_tree bytes ∷ []) ≡ rest_tree nodes ∷ [] =
-    ap (λ (l : List Node). after_nodes l (bytes_tree bytes ∷ [])) r ∙ ap (λ (l : List ℕ). after_nodes (drop (2 * length start) nodes) (bytes_tree l ∷ [])) b ∙ s.builds in
-    let e : pattern_tree bytes rest ≡ rest_tree nodes = ap tree_from k in (
-      e,
-      record {
-        builds = k ∙ ap (λ (t : Tree). t ∷ []) (sym e);
-        proper = ap is_proper e ∙ w.proper;
-        choice = ap is_choice e ∙ w.choice;
-        literal = ap literal_start_of e ∙ s.literal ∙ sym b;
-      },
-    )

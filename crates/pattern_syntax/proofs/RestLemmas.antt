@@ -1,7 +1,7 @@
 -- What is read of the rest of a pattern that has too many positions already.
 use Rattle.std.proofs.Common.{◌≡◌, ◌∙◌, sym, refl, ap, ℕ, ◌+◌, ◌<◌, ◌≤◌, ◌==◌, leb, ltb, Bool, true, false, cond, List, [], ◌∷◌, length, drop, arith}
 use Rattle.std.specs.Prelude.{Option, Some, None, Result, Ok, Err, is_some, unwrap_or, option_map}
-use Rattle.std.proofs.lemmas.Bool.{ltb-true}
+use Rattle.std.proofs.lemmas.Bool.{ltb-true, OnTrue_from}
 use Rattle.std.proofs.lemmas.Bool.Decides.{nat_tests}
 use Rattle.pattern_syntax.specs.Tree.{Tree, Set}
 use Rattle.pattern_syntax.specs.Tokens.{Token, Bytes, Open, Close, Bar, Anchor, Times, Placed, Cut, token_at, tokens_from}
@@ -13,10 +13,10 @@ use Rattle.label_base.specs.Answers.{Explains}
 use Rattle.std.specs.Bool.{OnTrue}
 use Rattle.pattern_syntax.proofs.BuildingLemmas.{outer_length}
 use Rattle.pattern_syntax.specs.declared.pattern_fault.PatternWhy.{PatternWhy}
-use Rattle.pattern_syntax.specs.declared.pattern_fault.PatternWhy.TheVariants.{Syntax, TooDeep, TooManyPositions}
+use Rattle.pattern_syntax.specs.declared.pattern_fault.PatternWhy.TheVariants.{Syntax, TooManyPositions}
 use Rattle.pattern_syntax.proofs.ReadingLemmas.{behind_is, no_zero, tokens_none, tokens_refused, tokens_more}
 use Rattle.pattern_syntax.proofs.GrammarLemmas.{no_fault_first, no_fault_later}
-use Rattle.pattern_syntax.specs.declared.limits.TheConstants.{MOST_GROUPS, MOST_POSITIONS}
+use Rattle.pattern_syntax.specs.declared.limits.TheConstants.{MOST_POSITIONS}
 
 abbrev base_of : Level → List Level → ℕ
 base_of level [] = base_positions level
@@ -157,30 +157,7 @@ whole_cause fault end depth e h =
     let f : fault ≡ None = e ∙ ap (λ t. cond t None (Some (Syntax end))) z in
     ap (λ (o : Option PatternWhy). Some (unwrap_or o TooManyPositions)) (sym f)
 
-not_deep : (depth at : ℕ) → cond (leb MOST_GROUPS depth) (Some (TooDeep at)) None ≡ None → depth < MOST_GROUPS
-not_deep depth at h = by_test (leb MOST_GROUPS depth) refl h
-  where
-    by_test : (b : Bool) → leb MOST_GROUPS depth ≡ b → cond b (Some (TooDeep at)) None ≡ None → depth < MOST_GROUPS
-    by_test true k h = absurd (let f : Some (TooDeep at) ≡ None = h in cc)
-    by_test false k h = grind (arith, nat_tests)
-
-pub stays_shallow : (depth : ℕ) (after_piece : Bool) (at : ℕ) (token : Token) → depth ≤ MOST_GROUPS → structure_fault depth after_piece at token ≡ None → depth_behind token depth ≤ MOST_GROUPS
-stays_shallow depth after_piece at (Bytes bytes) h e = h
-stays_shallow depth after_piece at Open h e = let k = not_deep depth at e in omega (arith, k)
-stays_shallow depth after_piece at Close h e = omega arith
-stays_shallow depth after_piece at Bar h e = h
-stays_shallow depth after_piece at Anchor h e = h
-stays_shallow depth after_piece at (Times least most) h e = h
-
 -- ---- the builder that is full
-
-on_true : (b : Bool) (P : Type 0) → (b ≡ true → P) → OnTrue b P
-on_true true P h = h refl
-on_true false P h = tt
-
-pub when_on_true : (b : Bool) (P : Type 0) → b ≡ true → OnTrue b P → P
-when_on_true true P e h = h
-when_on_true false P e h = absurd (let f : false ≡ true = e in cc)
 
 sides_counted : (sides : Option Tree) → unwrap_or (option_map count_of sides) 0 ≤ side_positions sides
 sides_counted None = omega arith
@@ -197,5 +174,5 @@ full_stands builder read s z h =
 pub full_on_true : (builder : Builder) (sides n : ℕ) → length builder.outer.items ≡ 0 → sides ≡ unwrap_or builder.level.sides 0 → n ≡ capped (sides + builder.level.sequence)
     → OnTrue (ltb MOST_POSITIONS n) ((read : Reading) → Stands builder read → (length read.outer ≡ 0) × (MOST_POSITIONS < base_positions read.level))
 full_on_true builder sides n z e h =
-    on_true (ltb MOST_POSITIONS n) ((read : Reading) → Stands builder read → (length read.outer ≡ 0) × (MOST_POSITIONS < base_positions read.level))
+    OnTrue_from (ltb MOST_POSITIONS n) ((read : Reading) → Stands builder read → (length read.outer ≡ 0) × (MOST_POSITIONS < base_positions read.level))
     (λ (t : ltb MOST_POSITIONS n ≡ true). λ (read : Reading) (s : Stands builder read). full_stands builder read s z (let k = ltb-true MOST_POSITIONS n t in omega (arith, k, e, h)))

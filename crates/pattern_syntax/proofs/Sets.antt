@@ -109,9 +109,6 @@ with_bit ws b c h l =
     ⊎_elim (λ e. ⊎_elim (λ f. with_same_bit ws b c (omega arith) (same_byte b c e f)) (λ ne. with_other_bit ws b c (omega arith) e ne) (cases_eq (c % 64) (b % 64)))
     (λ ne. with_other_word ws b c _ ne) (cases_eq (c / 64) (b / 64))
 
-filter_some : (p : ℕ → Bool) (b n : ℕ) → filter p (range_with_len b (suc n)) ≡ cond (p b) (b ∷ filter p (range_with_len (b + 1) n)) (filter p (range_with_len (b + 1) n))
-filter_some p b n = refl
-
 pub filter_from : (p : ℕ → Bool) (b : ℕ) → b < 256 → bytes_from p b ≡ cond (p b) (b ∷ bytes_from p (b + 1)) (bytes_from p (b + 1))
 filter_from p b h =
     let e : 256 - b ≡ suc (256 - (b + 1)) = omega arith in
@@ -172,7 +169,7 @@ range_none t low n = let e : (nat_le low n && nat_lt n low) ≡ false = grind (a
 more_test : (low b n : ℕ) → low ≤ b → ((nat_le low n && nat_lt n b) || nat_eq n b) ≡ (nat_le low n && nat_lt n (b + 1))
 more_test low b n h = grind (arith, nat_tests)
 
-or_assoc : (x y z : Bool) → ((x || y) || z) ≡ (x || (y || z))
+pub or_assoc : (x y z : Bool) → ((x || y) || z) ≡ (x || (y || z))
 or_assoc true y z = refl
 or_assoc false y z = refl
 

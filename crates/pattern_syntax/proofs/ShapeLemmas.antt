@@ -1,33 +1,26 @@
 -- Facts on the shape of trees.
 use Rattle.std.proofs.Common.{◌≡◌, ◌∙◌, refl, ap, ℕ, Bool, true, false, ◌&&◌, List, [], ◌∷◌, cond, filter, ◌<◌, arith}
 use Rattle.std.proofs.lemmas.Bool.Decides.{nat_tests}
+use Rattle.std.specs.Cmp.{first_so, second_so}
 use Rattle.std.specs.List.{list_all}
 use Rattle.pattern_syntax.specs.Tree.{Tree, Set, Nothing, Both, Either, Repeat}
 use Rattle.pattern_syntax.specs.Shape.{is_proper, is_sequence, is_proper_set, HasNoEmptySet}
 use Rattle.pattern_syntax.specs.ByteSet.{bytes_with, text_bytes, is_none_of}
 use Rattle.pattern_syntax.specs.Classes.{is_text_byte, outside, is_digit, is_word, is_space}
 
-pub and_first : (a b : Bool) → (a && b) ≡ true → a ≡ true
-and_first true b h = refl
-and_first false b h = h
-
-pub and_second : (a b : Bool) → (a && b) ≡ true → b ≡ true
-and_second true b h = h
-and_second false b h = absurd (let e : false ≡ true = h in cc)
-
 pub no_empty_set : (tree : Tree) → is_proper tree ≡ true → HasNoEmptySet tree
 no_empty_set (Set []) h = absurd (let e : false ≡ true = h in cc)
 no_empty_set (Set (b ∷ bs)) h = tt
 no_empty_set Nothing h = tt
 no_empty_set (Both first second) h =
-    let p = and_second (is_sequence first) (is_proper first && is_proper second) h in
-    (no_empty_set first (and_first (is_proper first) (is_proper second) p), no_empty_set second (and_second (is_proper first) (is_proper second) p))
-no_empty_set (Either left right) h = (no_empty_set left (and_first (is_proper left) (is_proper right) h), no_empty_set right (and_second (is_proper left) (is_proper right) h))
+    let p = second_so (is_sequence first) (is_proper first && is_proper second) h in
+    (no_empty_set first (first_so (is_proper first) (is_proper second) p), no_empty_set second (second_so (is_proper first) (is_proper second) p))
+no_empty_set (Either left right) h = (no_empty_set left (first_so (is_proper left) (is_proper right) h), no_empty_set right (second_so (is_proper left) (is_proper right) h))
 no_empty_set (Repeat least most piece) h = no_empty_set piece h
 
 all_kept : (q p : ℕ → Bool) (xs : List ℕ) → list_all q xs ≡ true → list_all q (filter p xs) ≡ true
 all_kept q p [] h = refl
-all_kept q p (x ∷ xs) h = kept (p x) (and_first (q x) (list_all q xs) h) (all_kept q p xs (and_second (q x) (list_all q xs) h))
+all_kept q p (x ∷ xs) h = kept (p x) (first_so (q x) (list_all q xs) h) (all_kept q p xs (second_so (q x) (list_all q xs) h))
   where
     kept : (t : Bool) → q x ≡ true → list_all q (filter p xs) ≡ true → list_all q (cond t (x ∷ filter p xs) (filter p xs)) ≡ true
     kept true a b = ap (λ t. t && list_all q (filter p xs)) a ∙ b

@@ -3,12 +3,13 @@ use Rattle.std.proofs.Common.{◌≡◌, ◌∙◌, sym, refl, ap, ap₂, ℕ, B
 use Rattle.std.specs.Borrow.{Bor}
 use Rattle.std.specs.Prelude.{is_some, option_and_then}
 use Rattle.std.specs.Option.{option_copied}
-use Rattle.std.proofs.lemmas.Bool.{cases_Bool}
+use Rattle.std.proofs.lemmas.Bool.{cases_Bool, cond_both}
 use Rattle.std.proofs.lemmas.Slice.Eq.{bytes_eq-Decides}
+use Rattle.tree_model.proofs.SameLemmas.{option_same}
 use Rattle.label_base.specs.Text.{same_bytes}
 use Rattle.file_paths.specs.Path.{Path}
 use Rattle.context_syntax.specs.Context.{ContextValue, same_context, same_option, with_kind_of}
-use Rattle.context_syntax.specs.Equal.{context_decides, never, option_decides}
+use Rattle.context_syntax.specs.Equal.{context_decides, never}
 use Rattle.context_syntax.specs.Label.{same_label}
 use Rattle.context_syntax.specs.LabelEqual.{label_decides}
 use Rattle.context_syntax.specs.TypeNames.{NameSet, has_name}
@@ -20,7 +21,7 @@ use Rattle.label_rules.specs.Decide.{given_in}
 use Rattle.label_rules.specs.Decide.{VerdictValue, Keep, Customized, Change, label_by, verdict_for, verdict_on}
 use Rattle.relabel_core.specs.DigestAfter.{digest_told, void_if}
 use Rattle.relabel_core.specs.Passed.{renewal}
-use Rattle.relabel_core.specs.Walk.{Walk, digest_after, digest_now, group_winner, has_changed_name, is_at, is_changed_name, is_outdated, is_renewed, label_after, new_label_with, path_at, verdict_where, verdict_with, wanted}
+use Rattle.relabel_core.specs.Walk.{Walk, digest_after, digest_now, group_winner, is_at, is_changed_name, is_outdated, is_renewed, label_after, new_label_with, path_at, verdict_where, verdict_with, wanted}
 use Rattle.relabel_core.specs.declared.digests.TheConstants.{VOID_DIGEST}
 
 -- ---- a verdict changes a label just where another one is left
@@ -52,17 +53,13 @@ keep_tells label = sym (same_self label)
 customized_tells : (label : Label) → Tells label Customized
 customized_tells label = sym (same_self label)
 
-chosen : (P : VerdictValue → Type 0) (b : Bool) (x y : VerdictValue) → (b ≡ true → P x) → (b ≡ false → P y) → P (if b then x else y)
-chosen P true x y f g = f refl
-chosen P false x y f g = g refl
-
 on_tells : (force : Bool) (types : NameSet) (c w : ContextValue) → Tells (Is c) (verdict_on force types c w)
 on_tells true types c w =
-    chosen (Tells (Is c)) (same_context c w) Keep (Change w) (λ h. keep_tells (Is c)) (λ h. sym (ap not (other_context c w h)))
+    cond_both (same_context c w) Keep (Change w) (Tells (Is c)) (λ h. keep_tells (Is c)) (λ h. sym (ap not (other_context c w h)))
 on_tells false types c w =
-    chosen (Tells (Is c)) (same_bytes c.kind w.kind) Keep (if has_name types c.kind then Customized else Change (with_kind_of c w))
+    cond_both (same_bytes c.kind w.kind) Keep (if has_name types c.kind then Customized else Change (with_kind_of c w)) (Tells (Is c))
     (λ h. keep_tells (Is c))
-    (λ h. chosen (Tells (Is c)) (has_name types c.kind) Customized (Change (with_kind_of c w)) (λ _. customized_tells (Is c))
+    (λ h. cond_both (has_name types c.kind) Customized (Change (with_kind_of c w)) (Tells (Is c)) (λ _. customized_tells (Is c))
     (λ _. sym (ap not (other_kind c w h))))
 
 for_tells : (label : Label) (w : ContextValue) (force : Bool) (types : NameSet) → Tells label (verdict_for label w force types)
@@ -162,18 +159,6 @@ pub told_void : (b : Bool) (stored : Option (List ℕ)) → digest_told (void_if
 told_void true stored = refl
 told_void false stored = refl
 
--- counts that rise tell of it where a digest is stored
-void_when : (dry some changed rise : Bool) → (dry ≡ false → some ≡ true → rise ≡ changed) → (not dry && (rise && some)) ≡ (not dry && (some && changed))
-void_when true some changed rise h = refl
-void_when false true changed true h = h refl refl
-void_when false true changed false h = h refl refl
-void_when false false changed true h = refl
-void_when false false changed false h = refl
-
-pub void_is : (w : Walk) (d : ℕ) (rise : Bool) → (w.options.dry ≡ false → is_some (w.stored d) ≡ true → rise ≡ has_changed_name w d)
-    → (not w.options.dry && (rise && is_some (w.stored d))) ≡ is_void w d
-void_is w d rise h = void_when w.options.dry (is_some (w.stored d)) (has_changed_name w d) rise h
-
 -- ---- the digest that an entry's changes to
 
 unless : (b : Bool) (digest : List ℕ) → (if not b then Some digest else None) ≡ (if b then None else Some digest)
@@ -185,9 +170,6 @@ change_renewed w d digest h =
     ap (λ after. if not (same_option after (w.stored d)) then after else None) (after_renewed w d digest h)
     ∙ unless (same_option (Some digest) (w.stored d)) digest
 
-same_digest : (stored : Option (List ℕ)) → same_option stored stored ≡ true
-same_digest stored = (option_decides stored stored).1 refl
-
 pub change_void : (w : Walk) (d : ℕ) → renewal w d ≡ None → is_void w d ≡ true → digest_change w d ≡ unless_stored VOID_DIGEST.now (w.stored d)
 change_void w d h v =
     ap (λ after. if not (same_option after (w.stored d)) then after else None)
@@ -198,7 +180,7 @@ pub change_none : (w : Walk) (d : ℕ) → renewal w d ≡ None → is_void w d 
 change_none w d h v =
     ap (λ after. if not (same_option after (w.stored d)) then after else None)
     (after_other w d h ∙ ap (λ b. if b then Some VOID_DIGEST.now else w.stored d) v)
-    ∙ ap (λ b. if not b then w.stored d else None) (same_digest (w.stored d))
+    ∙ ap (λ b. if not b then w.stored d else None) (option_same (w.stored d))
 
 -- ---- the attribute of a digest
 

@@ -2,9 +2,10 @@
 use Rattle.std.proofs.Common.{◌≡◌, ◌∙◌, sym, refl, ap, ap₂, ℕ, zero, suc, ◌+◌, ◌<◌, ◌≤◌, Bool, true, false, ◌&&◌, List, [], ◌∷◌, ◌++◌, length, inl, inr, arith, add-one, length-append}
 use mir.Val.{bool_byte}
 use Rattle.std.specs.Prelude.{nat_le, nat_lt}
-use Rattle.std.proofs.lemmas.Bool.{and_parts, cases_Bool, cases_lt, le-leb, leb-true, lt-ltb, ltb-true}
+use Rattle.std.proofs.lemmas.Bool.{and_parts, cases_Bool, cases_lt, le-leb, leb-true, lt-ltb, ltb-true, and_from}
 use Rattle.std.proofs.lemmas.List.{get_or_append_left}
 use Rattle.std.proofs.Math.Seq.{get_or-append_seam}
+use Rattle.std.specs.Cmp.{both_ways}
 use Rattle.label_base.specs.Bounded.{all_numbers, any_below}
 use Rattle.label_base.proofs.BoundedLemmas.{any_at, any_has, any_same}
 use Rattle.tree_model.specs.Extents.{in_extent}
@@ -22,12 +23,6 @@ at_most_one false = omega arith
 
 pub more_changed : (w : Walk) (n : ℕ) → changed_below w (n + 1) ≡ changed_below w n + one_if (is_changed_name w n)
 more_changed w n = ap (λ m. changed_below w m) (add-one n) ∙ filtered_more (is_changed_name w) (all_numbers n) n
-
-pub none_counted : (w : Walk) (counts : List ℕ) → counts ≡ 0 ∷ [] → AreCounted w 0 counts
-none_counted w counts is = record {
-  sized = ap length is;
-  each = λ e l. ap (λ ns. count_at ns e) is ∙ ap (λ i. count_at (0 ∷ []) i) {x = e} {y = 0} (omega (arith, l)) ∙ ap (λ i. changed_below w i) {x = 0} {y = e} (omega (arith, l));
-}
 
 each_more : (w : Walk) (n changed : ℕ) (counts : List ℕ) → AreCounted w n counts → changed ≡ changed_below w (n + 1)
     → (e : ℕ) → e ≤ n + 1 → count_at (counts ++ changed ∷ []) e ≡ changed_below w e
@@ -91,15 +86,6 @@ between w d (suc end) l h =
           ]
     ]
 
-both : (a b : Bool) → a ≡ true → b ≡ true → (a && b) ≡ true
-both true b p q = q
-both false b p q = absurd cc
-
-same_truth : (a b : Bool) → (a ≡ true → b ≡ true) → (b ≡ true → a ≡ true) → a ≡ b
-same_truth true b f g = sym (f refl)
-same_truth false true f g = g refl
-same_truth false false f g = refl
-
 abbrev is_within : Walk → ℕ → ℕ → ℕ → Bool
 is_within w d end e = (nat_le d e && nat_lt e end) && is_changed_name w e
 
@@ -111,12 +97,12 @@ rise_is w d end counts l m counted run =
     let first : count_at counts d ≡ changed_below w d = counted.each d (omega (arith, l, m)) in
     let last : count_at counts end ≡ changed_below w end = counted.each end m in
     ap₂ (λ a b. nat_lt a b) first last
-    ∙ same_truth (nat_lt (changed_below w d) (changed_below w end)) (any_below (count w) (is_within w d end))
+    ∙ both_ways (nat_lt (changed_below w d) (changed_below w end)) (any_below (count w) (is_within w d end))
     (λ t.
     let found = between w d end l (ltb-true (changed_below w d) (changed_below w end) t) in
     any_at (count w) (is_within w d end) found.0 (omega (arith, found.2, m))
-    (both (nat_le d found.0 && nat_lt found.0 end) (is_changed_name w found.0)
-    (both (nat_le d found.0) (nat_lt found.0 end) (le-leb d found.0 found.1) (lt-ltb found.0 end found.2)) found.3))
+    (and_from (nat_le d found.0 && nat_lt found.0 end) (is_changed_name w found.0)
+    (and_from (nat_le d found.0) (nat_lt found.0 end) (le-leb d found.0 found.1) (lt-ltb found.0 end found.2)) found.3))
     (λ t.
     let found = any_has (count w) (is_within w d end) t in
     let parts = and_parts (nat_le d found.0 && nat_lt found.0 end) (is_changed_name w found.0) found.2 in

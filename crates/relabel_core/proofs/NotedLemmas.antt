@@ -1,12 +1,13 @@
 -- What is noted of the entries that were looked up.
-use Rattle.std.proofs.Common.{◌≡◌, ◌≢◌, ◌∙◌, sym, refl, ap, subst, ℕ, zero, suc, ◌+◌, ◌<◌, ◌≤◌, ◌==◌, ◌&&◌, Bool, true, false, List, [], ◌∷◌, ◌++◌, length, set, Option, Some, None, IfSome, arith, ◌⊎◌, inl, inr, if◌then◌else◌, eq-eqb, ne_eqb, add-one, length-append, length-set, get_or-set_same, get_or-set_other}
-use Rattle.std.specs.Prelude.{filter, is_some, is_none, nat_lt, replicate}
+use Rattle.std.proofs.Common.{◌≡◌, ◌≢◌, ◌∙◌, sym, refl, ap, subst, ℕ, zero, suc, ◌+◌, ◌<◌, ◌≤◌, ◌==◌, ◌&&◌, Bool, true, false, List, [], ◌∷◌, ◌++◌, length, set, Option, Some, None, IfSome, arith, inl, inr, if◌then◌else◌, eq-eqb, ne_eqb, add-one, length-append, length-set, get_or-set_same, get_or-set_other}
+use Rattle.std.specs.Prelude.{filter, is_some, is_none, nat_lt}
 use Rattle.std.proofs.lemmas.Bool.{cases_eq, cases_lt, lt-ltb}
-use Rattle.std.proofs.lemmas.List.{get_or_append_left, get_or-replicate, length-replicate}
+use Rattle.std.proofs.lemmas.List.{get_or_append_left}
 use Rattle.std.proofs.lemmas.List.Elements.{filter-append}
 use Rattle.std.proofs.Math.Seq.{get_or-append_seam}
+use Rattle.relabel_core.proofs.PassLemmas.{kept}
 use Rattle.label_base.specs.Bounded.{all_numbers, found_or}
-use Rattle.label_base.proofs.BoundedLemmas.{least_case}
+use Rattle.label_base.proofs.BoundedLemmas.{least_case, below_or_last}
 use Rattle.tree_model.specs.Groups.{group_of, groups_in}
 use Rattle.relabel_core.specs.Numbers.{as_found, entered_at, entered_if, found_in, number_of}
 use Rattle.relabel_core.specs.Walk.{Walk, can_win, count, deciding, one_if, walked, walked_below, wanted, winner}
@@ -53,12 +54,6 @@ found_last numbers found k e l =
     ap (λ i. found_in (numbers ++ number_of found ∷ []) i) e
     ∙ ap as_found (get_or-append_seam numbers (number_of found) [] NONE) ∙ found_again found l
 
-unflagged : (b : Bool) (o : Option ℕ) (e : ℕ) → o ≡ found_or o e (b && false)
-unflagged true None e = refl
-unflagged true (Some k) e = refl
-unflagged false None e = refl
-unflagged false (Some k) e = refl
-
 other_place : (c : Bool) (numbers : List ℕ) (i e h : ℕ) → h ≢ i → found_in (if c then set numbers i e else numbers) h ≡ found_in numbers h
 other_place true numbers i e h n = ap as_found (get_or-set_other numbers i h e NONE n)
 other_place false numbers i e h n = refl
@@ -94,7 +89,7 @@ entered_there numbers i e h l m =
 pub entered_found : (flag : Bool) (numbers : List ℕ) (i e h : ℕ) → e < NONE → h < length numbers
     → found_in (entered_if flag numbers i e) h ≡ found_or (found_in numbers h) e ((i == h) && flag)
 entered_found true numbers i e h l m = entered_there numbers i e h l m
-entered_found false numbers i e h l m = unflagged (i == h) (found_in numbers h) e
+entered_found false numbers i e h l m = kept (i == h) (found_in numbers h) e
 
 set_if_length : (c : Bool) (numbers : List ℕ) (i e : ℕ) → length (if c then set numbers i e else numbers) ≡ length numbers
 set_if_length true numbers i e = length-set numbers i e
@@ -106,9 +101,6 @@ entered_length false numbers i e = refl
 
 -- ---- one entry more
 
-before_or_last : (n k : ℕ) → k < suc n → (k < n) ⊎ (n ≡ k)
-before_or_last n k l = elim (cases_lt k n) [ inl lt ↦ inl lt | inr ge ↦ inr (omega (arith, l, ge)) ]
-
 wins_is : (w : Walk) (e : ℕ) → is_some (given_at w.rules.rules (deciding w e)) ≡ is_some (wanted w e)
 unfolding wanted
 wins_is w e = refl
@@ -119,7 +111,7 @@ next_noted : (w : Walk) (e : ℕ) (decided winners : List ℕ) → AreNoted w e 
 next_noted w e decided winners noted l m = record {
   each_entry = omega (arith, length-append decided (number_of (deciding w e) ∷ []), noted.each_entry);
   decided_are = λ k before.
-      elim (before_or_last e k before) [
+      elim (below_or_last e k before) [
         | inl lt ↦ found_before decided (number_of (deciding w e)) k (omega (arith, lt, noted.each_entry)) ∙ noted.decided_are k lt
         | inr same ↦
             found_last decided (deciding w e) k (omega (arith, same, noted.each_entry)) m ∙ ap (λ i. deciding w i) same
@@ -144,14 +136,6 @@ noted_more w e decided winners more_decided more_winners found flag noted l is m
 pub few_indices : (found : Option ℕ) (n : ℕ) → IfSome found (λ i. i < n) → n ≤ NONE → IfSome found (λ i. i < NONE)
 few_indices None n h l = tt
 few_indices (Some i) n h l = omega (arith, h, l)
-
-pub nothing_is_noted : (w : Walk) (decided winners : List ℕ) → decided ≡ [] → winners ≡ replicate (groups_in w.entries) NONE → AreNoted w 0 decided winners
-nothing_is_noted w decided winners none is = record {
-  each_entry = ap length none;
-  decided_are = λ e l. absurd (omega (arith, l));
-  each_group = ap length is ∙ length-replicate (groups_in w.entries) NONE;
-  winners_are = λ g l. ap (λ ns. found_in ns g) is ∙ ap as_found (get_or-replicate (groups_in w.entries) g NONE NONE l);
-}
 
 -- ---- how many entries were looked at
 

@@ -1,6 +1,6 @@
 -- One pass over the entries makes what a walk means.
 use Rattle.std.proofs.Common.{◌≡◌, ◌∙◌, sym, refl, ap, ap₂, subst, ℕ, zero, suc, ◌<◌, ◌≤◌, ◌==◌, Bool, true, false, ◌&&◌, inl, inr, [], ◌∷◌, ◌++◌, Option, Some, None, if◌then◌else◌, arith}
-use Rattle.std.proofs.lemmas.Bool.{cases_lt, cases_Bool, eq-eqb, eqb-true}
+use Rattle.std.proofs.lemmas.Bool.{cases_lt, cases_Bool, eq-eqb, eqb-true, cond-false}
 use Rattle.std.proofs.lemmas.List.{map-append}
 use Rattle.std.proofs.lemmas.List.Elements.{filter_map-append}
 use Rattle.std.specs.Prelude.{is_some, map}
@@ -19,7 +19,7 @@ chosen true (Some k) e = refl
 chosen false None e = refl
 chosen false (Some k) e = refl
 
-kept : (b : Bool) (o : Option ℕ) (e : ℕ) → o ≡ found_or o e (b && false)
+pub kept : (b : Bool) (o : Option ℕ) (e : ℕ) → o ≡ found_or o e (b && false)
 kept true None e = refl
 kept true (Some k) e = refl
 kept false None e = refl
@@ -65,10 +65,6 @@ not_least n e p f = least_case n p (λ o. is_at o e ≡ false) refl (λ k l h. d
 
 -- ---- an entry's label and line by the table that it has itself entered
 
-not_chosen : {A : Type 0} (b : Bool) (x y : A) → b ≡ false → (if b then x else y) ≡ y
-not_chosen false x y h = refl
-not_chosen true x y h = absurd cc
-
 no_conflict : (w : Walk) (e : ℕ) (found : Option ℕ) → wanted w e ≡ None → conflict_with w e found ≡ None
 no_conflict w e None h = refl
 no_conflict w e (Some k) h = ap (λ c. conflict_line (path_at w k) (path_at w e) c (wanted w k)) h
@@ -76,7 +72,7 @@ no_conflict w e (Some k) h = ap (λ c. conflict_line (path_at w k) (path_at w e)
 -- where no context is decided for an entry, it has no line by its group's winner
 decided_by_none : (w : Walk) (e : ℕ) (found : Option ℕ) → is_at found e ≡ false → wanted w e ≡ None → decided_line w e found ≡ None
 decided_by_none w e found f h =
-    not_chosen (is_at found e) (winner_line w e found) (conflict_with w e found) f ∙ no_conflict w e found h
+    cond-false (is_at found e) (winner_line w e found) (conflict_with w e found) f ∙ no_conflict w e found h
 
 line_by_none : (w : Walk) (e : ℕ) (found : Option ℕ) (index : Option ℕ) → is_at found e ≡ false → wanted w e ≡ None
     → line_where w e found index ≡ line_where w e None index
@@ -84,7 +80,7 @@ line_by_none w e found None f h = refl
 line_by_none w e found (Some i) f h = decided_by_none w e found f h
 
 label_by_none : (w : Walk) (e : ℕ) (found : Option ℕ) → is_at found e ≡ false → label_with w e found ≡ label_in w.entries (group_of w.entries e)
-label_by_none w e found f = not_chosen (is_at found e) (new_label_with w (group_of w.entries e) found) (label_in w.entries (group_of w.entries e)) f
+label_by_none w e found f = cond-false (is_at found e) (new_label_with w (group_of w.entries e) found) (label_in w.entries (group_of w.entries e)) f
 
 wants_none : (a : Bool) (c : Option ContextValue) → a ≡ true → (a && is_some c) ≡ false → c ≡ None
 wants_none true None a f = refl

@@ -2,7 +2,7 @@
 use Rattle.std.proofs.Common.{◌≡◌, ◌∙◌, sym, refl, ap, ap₂, ℕ, zero, suc, ◌+◌, ◌<◌, ◌≤◌, ◌==◌, ◌&&◌, ◌||◌, Bool, true, false, not, List, [], ◌∷◌, ◌++◌, length, get_or, Option, Some, None, inl, inr, arith, if◌then◌else◌, eq-eqb, ne_eqb, add-one, length-append}
 use Rattle.std.specs.Prelude.{is_some, nat_le, nat_lt}
 use Rattle.std.specs.BTreeMap.{BTreeMap}
-use Rattle.std.proofs.lemmas.Bool.{and_parts, cases_eq, cases_lt, le-leb, le-ltb, lt-ltb, or_parts}
+use Rattle.std.proofs.lemmas.Bool.{and_parts, cases_eq, cases_lt, le-leb, le-ltb, lt-ltb, or_parts, and_right, and_left, false_from_ne_true}
 use Rattle.std.proofs.lemmas.List.{get_or_append_left}
 use Rattle.std.proofs.Math.Seq.{get_or-append_seam}
 use Rattle.label_base.specs.Bounded.{all_below, any_below, implies}
@@ -11,7 +11,7 @@ use Rattle.tree_model.specs.Extents.{in_extent, is_directory}
 use Rattle.tree_model.specs.Groups.{closed_at}
 use Rattle.tree_model.specs.Selection.{whole_at}
 use Rattle.tree_model.specs.Tree.{ByPath}
-use Rattle.tree_model.proofs.ExtentLemmas.{false_unless, in_behind, in_chain, in_itself}
+use Rattle.tree_model.proofs.ExtentLemmas.{in_behind, in_chain, in_itself}
 use Rattle.relabel_core.specs.Passed.{ArePassed, ArePassing, is_covered, is_first, is_not, kept_of, meets, needed, renewal, renews, skip_of, uses_digests}
 use Rattle.relabel_core.specs.Stored.{Adds, digests_in, told_before}
 use Rattle.relabel_core.specs.Walk.{Walk, count, digest_now, is_current, is_live, is_renewed, is_skipped, is_skipped_first, is_whole, skippable, skips, walked}
@@ -29,14 +29,6 @@ and_true : (a b : Bool) → b ≡ true → (a && b) ≡ a
 and_true true true h = refl
 and_true false b h = refl
 and_true true false h = absurd cc
-
-second_false : (a b : Bool) → b ≡ false → (a && b) ≡ false
-second_false true b h = h
-second_false false b h = refl
-
-first_false : (a b : Bool) → a ≡ false → (a && b) ≡ false
-first_false false b h = refl
-first_false true b h = absurd cc
 
 -- a test that holds only where another one does adds nothing to it
 absorbed : (a b : Bool) → (b ≡ true → a ≡ true) → (a || b) ≡ a
@@ -92,7 +84,7 @@ kept_if : (dry a i live skipped whole s : Bool) (digest : List ℕ) → skipped 
     ≡ (if dry then None else if whole && (((a && not i) && s) || (not dry && (a || i))) then Some digest else None)
 kept_if true a i live skipped whole s digest h f = refl
 kept_if false a i live true whole s digest h f = absurd cc
-kept_if false a i live false false s digest h f = ap (λ b. if b then Some digest else None) (second_false ((a || i) && (live && true)) false refl)
+kept_if false a i live false false s digest h f = ap (λ b. if b then Some digest else None) (and_right ((a || i) && (live && true)) false refl)
 kept_if false a i false false true s digest h f = (let e = f refl in absurd cc)
 kept_if false true true true false true s digest h f = refl
 kept_if false true false true false true true digest h f = refl
@@ -103,22 +95,22 @@ kept_if false false false true false true s digest h f = refl
 module _ (w : Walk) (up : ByPath w.entries) where
   -- an entry is below none behind it
   not_behind : (e d : ℕ) → e < d → d < count w → in_extent w.entries d e ≡ false
-  not_behind e d l m = false_unless (in_extent w.entries d e) (λ h. let from = in_behind w.entries up d e m h in omega (arith, from, l))
+  not_behind e d l m = false_from_ne_true (in_extent w.entries d e) (λ h. let from = in_behind w.entries up d e m h in omega (arith, from, l))
 
   skipped_at : (e : ℕ) → e < count w → is_skipped w e ≡ (is_covered w e e || skippable w e)
   unfolding is_skipped
   skipped_at e l =
       any_shrinks (count w) (suc e) (λ d. skippable w d && in_extent w.entries d e) (omega (arith, l))
-      (λ d a b. second_false (skippable w d) (in_extent w.entries d e) (not_behind e d (omega (arith, a)) b))
+      (λ d a b. and_right (skippable w d) (in_extent w.entries d e) (not_behind e d (omega (arith, a)) b))
       ∙ ap (λ b. is_covered w e e || b) (and_true (skippable w e) (in_extent w.entries e e) (in_itself w.entries up e))
 
   not_other : (e d : ℕ) → e ≤ d → d < count w → (skippable w d && in_extent w.entries d e && not (d == e)) ≡ false
   not_other e d l m =
       elim (cases_eq d e) [
-        | inl same ↦ second_false (skippable w d && in_extent w.entries d e) (not (d == e)) (ap not (eq-eqb d e same))
+        | inl same ↦ and_right (skippable w d && in_extent w.entries d e) (not (d == e)) (ap not (eq-eqb d e same))
         | inr differ ↦
-            first_false (skippable w d && in_extent w.entries d e) (not (d == e))
-            (second_false (skippable w d) (in_extent w.entries d e) (not_behind e d (omega (arith, l, differ)) m))
+            and_left (skippable w d && in_extent w.entries d e) (not (d == e))
+            (and_right (skippable w d) (in_extent w.entries d e) (not_behind e d (omega (arith, l, differ)) m))
       ]
 
   first_at : (e : ℕ) → e < count w → is_skipped_first w e ≡ (skippable w e && not (is_covered w e e))
@@ -339,9 +331,9 @@ pub none_of_file : (w : Walk) (d : ℕ) → is_directory w.entries d ≡ false �
 unfolding is_renewed
 none_of_file w d h =
     ap (λ b. if b then Some (digest_now w d) else None)
-    (second_false (not w.options.dry) (is_renewed w d)
-    (second_false ((w.options.digests || w.options.ignore_digests) && walked w d) (is_whole w d)
-    (first_false (is_directory w.entries d) (whole_at w.entries w.live d) h)))
+    (and_right (not w.options.dry) (is_renewed w d)
+    (and_right ((w.options.digests || w.options.ignore_digests) && walked w d) (is_whole w d)
+    (and_left (is_directory w.entries d) (whole_at w.entries w.live d) h)))
 
 -- ---- where no digests are asked for
 
@@ -355,14 +347,14 @@ none_skipped : (w : Walk) (e : ℕ) → uses_digests w.options ≡ false → ski
 unfolding is_skipped is_skipped_first
 none_skipped w e h =
     ap₂ (λ f s. if f then First else if s then Below else Not)
-    (first_false (skippable w e) (not (any_below (count w) (λ d. skippable w d && in_extent w.entries d e && not (d == e)))) (not_asked w e h))
-    (none_from (count w) (λ d. skippable w d && in_extent w.entries d e) (λ d l. first_false (skippable w d) (in_extent w.entries d e) (not_asked w d h)))
+    (and_left (skippable w e) (not (any_below (count w) (λ d. skippable w d && in_extent w.entries d e && not (d == e)))) (not_asked w e h))
+    (none_from (count w) (λ d. skippable w d && in_extent w.entries d e) (λ d l. and_left (skippable w d) (in_extent w.entries d e) (not_asked w d h)))
 
 none_renewed : (w : Walk) (d : ℕ) → uses_digests w.options ≡ false → renewal w d ≡ None
 unfolding is_renewed
 none_renewed w d h =
     ap (λ b. if b then Some (digest_now w d) else None)
-    (second_false (not w.options.dry) (is_renewed w d) (ap (λ b. b && walked w d && is_whole w d) h))
+    (and_right (not w.options.dry) (is_renewed w d) (ap (λ b. b && walked w d && is_whole w d) h))
 
 pub unasked : (w : Walk) (skips : List Skip) (made : BTreeMap ℕ (List ℕ)) → uses_digests w.options ≡ false → skips ≡ [] → made.entries ≡ []
     → ArePassed w skips made

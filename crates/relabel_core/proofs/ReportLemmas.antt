@@ -1,17 +1,16 @@
 -- The parts of a walk's report.
-use Rattle.std.proofs.Common.{◌≡◌, ◌∙◌, sym, refl, ap, ap₂, subst, ℕ, zero, suc, ◌+◌, ◌<◌, ◌≤◌, ◌==◌, ◌||◌, Bool, true, false, List, [], ◌∷◌, ◌++◌, length, drop, set, get_or, replicate, Option, Some, None, inl, inr, arith, if◌then◌else◌, eq-eqb, ne_eqb, add-one, append-nil, append_assoc, length-set, get_or-set_same, get_or-set_other}
-use Rattle.std.specs.Prelude.{nat_lt, slice_get}
+use Rattle.std.proofs.Common.{◌≡◌, ◌∙◌, sym, refl, ap, ap₂, ℕ, zero, suc, ◌+◌, ◌<◌, ◌≤◌, Bool, true, List, [], ◌∷◌, ◌++◌, length, drop, get_or, Option, Some, None, arith, if◌then◌else◌, add-one, append-nil, append_assoc}
+use Rattle.std.specs.Prelude.{slice_get}
 use Rattle.std.specs.List.{cons_option, filter_map, flat_map}
-use Rattle.std.proofs.lemmas.Bool.{cases_eq, lt-ltb}
 use Rattle.std.proofs.lemmas.Grind.{flat_map-append}
-use Rattle.std.proofs.lemmas.List.{at_drop_more, drop_all, get_or-replicate, length-replicate}
+use Rattle.std.proofs.lemmas.List.{at_drop_more, drop_all}
 use Rattle.std.proofs.lemmas.List.Elements.{filter_map-append}
 use Rattle.label_base.specs.Bounded.{all_numbers}
 use Rattle.file_paths.specs.Path.{Path}
 use Rattle.report_text.specs.Message.{MessageValue, Absent}
 use Rattle.report_text.specs.Texts.{line_of, report_of}
-use Rattle.relabel_core.specs.Report.{AreRaised, absent_text, optional_text, raised_at, text_below, unflagged_line}
-use Rattle.relabel_core.specs.Walk.{Walk, count, deciding, is_at, line_of_spec, unmatched_line, unmatched_lines}
+use Rattle.relabel_core.specs.Report.{AreRaised, absent_text, optional_text, text_below, unflagged_line}
+use Rattle.relabel_core.specs.Walk.{Walk, count, line_of_spec, unmatched_line, unmatched_lines}
 
 one_text : (message : Option MessageValue) → flat_map line_of (cons_option message []) ≡ optional_text message
 one_text None = refl
@@ -69,59 +68,6 @@ absent_end operands indices k to all l b =
     sym (append-nil to) ∙ ap (λ is. to ++ absent_text operands is) (sym (drop_all k indices l)) ∙ b
 
 -- ---- flags
-
-or_false : (b : Bool) → b ≡ b || false
-or_false true = refl
-or_false false = refl
-
-or_true : (b : Bool) → true ≡ b || true
-or_true true = refl
-or_true false = refl
-
-same_flag : (flags : List Bool) (i : ℕ) → i < length flags → get_or (raised_at flags (Some i)) i false ≡ true
-same_flag flags i l =
-    ap (λ b. get_or (if b then set flags i true else flags) i false) (lt-ltb i (length flags) l) ∙ get_or-set_same flags i true false l
-
-other_flag : (b : Bool) (flags : List Bool) (j i : ℕ) → (i ≡ j → ⊥) → get_or (if b then set flags j true else flags) i false ≡ get_or flags i false
-other_flag true flags j i n = get_or-set_other flags j i true false n
-other_flag false flags j i n = refl
-
-flag_raised : (flags : List Bool) (found : Option ℕ) (i : ℕ) → i < length flags
-    → get_or (raised_at flags found) i false ≡ (get_or flags i false || is_at found i)
-flag_raised flags None i l = or_false (get_or flags i false)
-flag_raised flags (Some j) i l =
-    elim (cases_eq j i) [
-      | inl same ↦
-          subst (λ k. get_or (raised_at flags (Some k)) i false ≡ (get_or flags i false || (k == i))) {x = i} {y = j} (sym same)
-          (same_flag flags i l ∙ or_true (get_or flags i false) ∙ ap (λ b. get_or flags i false || b) (sym (eq-eqb i i refl)))
-      | inr differ ↦
-          other_flag (nat_lt j (length flags)) flags j i (λ same. differ (sym same)) ∙ or_false (get_or flags i false)
-          ∙ ap (λ b. get_or flags i false || b) (sym (ne_eqb j i differ))
-    ]
-
-set_if_length : (b : Bool) (flags : List Bool) (i : ℕ) → length (if b then set flags i true else flags) ≡ length flags
-set_if_length true flags i = length-set flags i true
-set_if_length false flags i = refl
-
-raised_length : (flags : List Bool) (found : Option ℕ) → length (raised_at flags found) ≡ length flags
-raised_length flags None = refl
-raised_length flags (Some i) = set_if_length (nat_lt i (length flags)) flags i
-
-pub none_raised : (w : Walk) (flags : List Bool) → flags ≡ replicate (length w.rules.rules) false → AreRaised w 0 flags
-none_raised w flags is = record {
-  each_spec = ap length is ∙ length-replicate (length w.rules.rules) false;
-  raised = λ i l. ap (λ fs. get_or fs i false) is ∙ get_or-replicate (length w.rules.rules) i false false l;
-}
-
-next_raised : (w : Walk) (n : ℕ) (flags : List Bool) → AreRaised w n flags → AreRaised w (suc n) (raised_at flags (deciding w n))
-next_raised w n flags old = record {
-  each_spec = raised_length flags (deciding w n) ∙ old.each_spec;
-  raised = λ i l. flag_raised flags (deciding w n) i (omega (arith, l, old.each_spec)) ∙ ap (λ b. b || is_at (deciding w n) i) (old.raised i l);
-}
-
-pub raised_more : (w : Walk) (n : ℕ) (flags now : List Bool) (found : Option ℕ) → AreRaised w n flags → found ≡ deciding w n
-    → now ≡ raised_at flags found → AreRaised w (n + 1) now
-raised_more w n flags now found old is made = rw (add-one n, made, is) (next_raised w n flags old)
 
 unflagged_same : (w : Walk) (flags : List Bool) (m : ℕ) → AreRaised w (count w) flags → m ≤ length w.rules.rules
     → filter_map (unflagged_line w.rules flags) (all_numbers m) ≡ filter_map (unmatched_line w) (all_numbers m)

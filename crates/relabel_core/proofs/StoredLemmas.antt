@@ -14,7 +14,7 @@ use Rattle.find_records.specs.Record.{Record}
 use Rattle.setfattr_dump.specs.declared.dump.Attr.{Attr}
 use Rattle.setfattr_dump.specs.declared.dump.Section.{Section}
 use Rattle.relabel_core.specs.Walk.{is_at}
-use Rattle.relabel_core.specs.Stored.{KeepsAmong, KeepsFrom, digests_among, digests_at, digests_by, digests_in, directory_at, is_digest, no_digests}
+use Rattle.relabel_core.specs.Stored.{KeepsAmong, KeepsFrom, digests_among, digests_at, digests_in, directory_at, is_digest, no_digests}
 
 last_append : {A : Type 0} (o : Option A) (xs ys : List A) → last_or o (xs ++ ys) ≡ last_or (last_or o xs) ys
 last_append o [] ys = refl
@@ -82,11 +82,6 @@ pub section_of_none : (kept : BTreeMap ℕ (List ℕ)) (entries : List Record) (
     → directory_at entries section.name ≡ None → KeepsFrom kept kept entries (section ∷ [])
 section_of_none kept entries section none = λ e.
     ap (λ found. last_or (digests_in kept e) (flat_map (λ (s : Section). digests_among s.attrs) (if is_at found e then section ∷ [] else []))) (sym none)
-
--- all that a dump has, where nothing was kept before
-pub all_from : (old new : BTreeMap ℕ (List ℕ)) (entries : List Record) (sections : List Section) → old.entries ≡ [] → KeepsFrom old new entries sections
-    → digests_in new ≡ digests_by sections entries
-all_from old new entries sections none p = fun_ext (λ (d : ℕ). p d ∙ ap (λ es. last_or (lookup (is_at_key (nat_cmp d)) es) (digests_at sections entries d)) none)
 
 pub empty_keeps_none : (kept : BTreeMap ℕ (List ℕ)) → kept.entries ≡ [] → digests_in kept ≡ no_digests
 empty_keeps_none kept none = fun_ext (λ (d : ℕ). ap (λ es. lookup (is_at_key (nat_cmp d)) es) none)

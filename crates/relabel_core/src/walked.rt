@@ -59,7 +59,7 @@ impl<'a> Walked<'a> {
     ghost use Rattle.relabel_core.specs.Changes.{change_at, change_with, group_change};
     ghost use Rattle.label_rules.specs.LabelAfter.{label_told};
     ghost use Rattle.label_rules.specs.Verdicts.{verdict_of};
-    ghost use Rattle.relabel_core.specs.Walk.{conflict_with, count, deciding, decided_line, group_winner, has_conflict, is_changed_name, label_after, label_with, line, line_where, new_label, new_label_with, path_at, undecided_line, verdict_where, verdict_with, wanted, winner, winner_line};
+    ghost use Rattle.relabel_core.specs.Walk.{conflict_with, count, deciding, decided_line, group_winner, has_conflict, is_changed_name, label_after, label_with, line, new_label, new_label_with, path_at, undecided_line, verdict_where, verdict_with, wanted, winner, winner_line};
 
     /// The answer of a walk of which this is noted: what was found of the directories, for each entry a word with the index of the specification that decides
     /// it, and for each group of names of one inode a word with the index of its winner. The word of none is the greatest.

@@ -101,9 +101,6 @@ ends_explained files written store out out_now told meant (Differs count) unwrit
 ends_explained files written store out out_now told meant WriteFault unwritten explained = absurd (unwritten tt)
 ends_explained files written store out out_now told meant cause unwritten explained = explained
 
-after_policy : Command → List ℕ → Policy → Result Told Cause
-after_policy command bytes policy = and_then (entries_for command bytes) (λ entries. Ok (told_by command policy entries))
-
 pub file_explains : (command : Command) (told : Files) (bytes : List ℕ) (cause : Cause) → Explained (policy command told) cause → Explained (answer_for command told bytes) cause
 unfolding answer_for
 file_explains command told bytes cause explained =

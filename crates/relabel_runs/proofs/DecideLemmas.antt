@@ -5,6 +5,7 @@ use Rattle.std.specs.Cmp.Lexicographic.{slice_cmp}
 use Rattle.std.specs.Ordering.{eq_by_cmp, nat_cmp}
 use Rattle.std.specs.List.{list_any}
 use Rattle.std.proofs.lemmas.Slice.Eq.{bytes_eq-Decides}
+use Rattle.std.proofs.lemmas.Option.{same_Some}
 use Rattle.label_base.specs.Text.{same_bytes}
 use Rattle.context_syntax.specs.Context.{ContextValue, same_context, with_kind_of}
 use Rattle.context_syntax.specs.Equal.{context_decides}
@@ -24,9 +25,6 @@ label_given Keep label = refl
 label_given Customized label = refl
 label_given (Change context) label = refl
 
-some_is : {X : Type 0} (x y : X) → Some x ≡ Some y → x ≡ y
-some_is x y e = ap (λ o. unwrap_or o x) e
-
 -- a context of the wanted type is kept without force
 kind_kept : (types : NameSet) (current wanted : ContextValue) → current.kind ≡ wanted.kind → given (verdict_for (Is current) wanted false types) ≡ None
 kind_kept types current wanted e =
@@ -38,7 +36,7 @@ wanted_kept true types wanted = ap (λ b. given (cond b Keep (Change wanted))) (
 wanted_kept false types wanted = kind_kept types wanted wanted refl
 
 given_kept : (force : Bool) (types : NameSet) (new : Label) (wanted : ContextValue) → Some (Is wanted) ≡ Some new → given (verdict_for new wanted force types) ≡ None
-given_kept force types new wanted e = subst (λ l. given (verdict_for l wanted force types) ≡ None) (some_is (Is wanted) new e) (wanted_kept force types wanted)
+given_kept force types new wanted e = subst (λ l. given (verdict_for l wanted force types) ≡ None) (same_Some (Is wanted) new e) (wanted_kept force types wanted)
 
 force_kept : (types : NameSet) (wanted : ContextValue) (new : Label) (b : Bool) → given (cond b Keep (Change wanted)) ≡ Some new → given (verdict_for new wanted true types) ≡ None
 force_kept types wanted new true e = cc
@@ -48,7 +46,7 @@ kind_given : (types : NameSet) (current wanted : ContextValue) (new : Label) (a 
 kind_given types current wanted new true b e = cc
 kind_given types current wanted new false true e = cc
 kind_given types current wanted new false false e =
-    subst (λ l. given (verdict_for l wanted false types) ≡ None) (some_is (Is (with_kind_of current wanted)) new e) (kind_kept types (with_kind_of current wanted) wanted refl)
+    subst (λ l. given (verdict_for l wanted false types) ≡ None) (same_Some (Is (with_kind_of current wanted)) new e) (kind_kept types (with_kind_of current wanted) wanted refl)
 
 pub given_settles : (force : Bool) (types : NameSet) (label new : Label) (wanted : ContextValue) → given (verdict_for label wanted force types) ≡ Some new → given (verdict_for new wanted force types) ≡ None
 given_settles force types Absent new wanted e = given_kept force types new wanted e

@@ -3,6 +3,8 @@ use Rattle.std.proofs.Common.{◌≡◌, ◌∙◌, ap, ap₂, sym, refl, subst,
 use std.Path.{fun_ext}
 use Rattle.sha1.specs.Sha1.{sha1}
 use Rattle.std.proofs.lemmas.Slice.Eq.{bytes_eq-Decides}
+use Rattle.std.proofs.lemmas.List.{map_push}
+use Rattle.file_paths.proofs.PathMoves.{below_front}
 use Rattle.file_paths.specs.Path.{are_names, at_or_below}
 use Rattle.label_base.specs.Kind.{same_kind}
 use Rattle.label_base.specs.declared.kind.Asked.TheVariants.{Of}
@@ -29,7 +31,7 @@ use Rattle.relabel_runs.specs.Premises.{AreRuns, HasRun, IsDigested, terms_in}
 use Rattle.relabel_runs.specs.Runs.{Run, State, after, end, end_off, labelled, not_skipping, walk_at}
 use Rattle.relabel_runs.proofs.DecideLemmas.{given_alike, given_settles}
 use Rattle.relabel_runs.proofs.LabelledLemmas.{count_same, group_same, kind_in, kinds_same, label_there, path_in, paths_same, selected_same}
-use Rattle.relabel_runs.proofs.ToldLemmas.{below_front, context_told}
+use Rattle.relabel_runs.proofs.ToldLemmas.{context_told}
 use Rattle.relabel_runs.proofs.WalkLemmas.{as_decision, context_for, digest_after_same, kinds, label_same, run_by, run_of, state_of, tree_of}
 
 abbrev run_in : List Record → Run → runs.Run kinds
@@ -206,14 +208,10 @@ skipping_keeps_labels entries list all s bare e l =
     ∙ skipping_keeps kinds exact (tree_of entries) (map (run_in entries) list) (are_runs entries list all) (state_in s) bare (group_of entries e)
     ∙ sym (off_labels entries list s e l)
 
-map_more : {X Y : Type 0} (f : X → Y) (xs : List X) (x : X) → map f (xs ++ x ∷ []) ≡ map f xs ++ f x ∷ []
-map_more f [] x = refl
-map_more f (y ∷ xs) x = ap (λ ys. f y ∷ ys) (map_more f xs x)
-
 pub one_more_run_keeps_labels : OneMoreRunKeepsLabels
 one_more_run_keeps_labels entries stored run list all s bare now e l =
     let w = walk_for entries run.choice run.rules run.options stored in
-    let more = map_more (run_in entries) list run in
+    let more = map_push (run_in entries) list run in
     let like : IsLike (tree_of entries) (state_of w) (runs.after_all (tree_of entries) (state_in s) (map (run_in entries) list)) =
     like_through (record { labels = now.labels; digests = now.digests }) (like_end entries list s (state_in s) (like_itself (tree_of entries) (state_in s))) in
     label_same w (group_of entries e)

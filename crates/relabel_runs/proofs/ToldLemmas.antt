@@ -1,10 +1,8 @@
 -- The context that is decided for an entry is told by what is decided on the terms of its listing.
-use Rattle.std.proofs.Common.{◌≡◌, ◌∙◌, ap, sym, refl, subst, ℕ, ◌+◌, Bool, true, false, cond, List, [], ◌∷◌, ◌++◌, drop, length, filter, map, Option, Some, None, option_and_then, option_map, slice_get, append_assoc, length-append, arith}
+use Rattle.std.proofs.Common.{◌≡◌, ◌∙◌, ap, refl, subst, ℕ, ◌+◌, Bool, true, false, cond, List, [], ◌∷◌, ◌++◌, length, filter, map, Option, Some, None, option_and_then, option_map, slice_get, append_assoc, length-append, arith}
 use Rattle.std.specs.List.{enumerate_from, last_or}
-use Rattle.std.proofs.lemmas.Bool.{and_parts}
-use Rattle.std.proofs.lemmas.Slice.Eq.{bytes_eq-Decides}
-use Rattle.label_base.specs.Text.{same_bytes}
-use Rattle.file_paths.specs.Path.{Path, at_or_below, path_text}
+use Rattle.dir_digest.proofs.SpelledLemmas.{map_cond}
+use Rattle.file_paths.specs.Path.{Path, path_text}
 use Rattle.label_base.specs.declared.kind.Asked.{Asked}
 use Rattle.label_base.specs.declared.kind.Asked.TheVariants.{Of}
 use Rattle.label_base.specs.declared.kind.EntryKind.{EntryKind}
@@ -28,10 +26,6 @@ member_step : (all : List SpecValue) (n : ℕ) (s : SpecValue) (indices : List �
     → option_and_then (slice_get all) (last_or o (cond b (n ∷ indices) indices)) ≡ last_or p (cond b (s ∷ found) found)
 member_step all n s indices found true o p h e ih = ih (Some n) (Some s) h
 member_step all n s indices found false o p h e ih = ih o p e
-
-map_cond : {A B : Type 0} (f : A → B) (b : Bool) (x : A) (xs : List A) → map f (cond b (x ∷ xs) xs) ≡ cond b (f x ∷ map f xs) (map f xs)
-map_cond f true x xs = refl
-map_cond f false x xs = refl
 
 -- the last index is that of the last that passes
 member_from : (q : SpecValue → Bool) (done specs : List SpecValue) (n : ℕ) → n ≡ length done → (o : Option ℕ) (p : Option SpecValue)
@@ -63,11 +57,3 @@ unfolding index_asked decided_at
 context_told rules options path kind =
     let text = path_text (substituted rules.subs.first rules.subs.second path) in
     ap (option_and_then given_by) (member_is (Of kind) text rules.rules) ∙ given_of (last_match (Of kind) text rules.rules)
-
--- a path at or below another goes on behind it
-pub below_front : (path top : Path) → at_or_below path top ≡ true → path ≡ top ++ drop (length top) path
-below_front path [] h = refl
-below_front [] (m ∷ top) h = cc
-below_front (n ∷ path) (m ∷ top) h =
-    let both = and_parts (same_bytes m n) (at_or_below path top) h in
-    ap (λ k. k ∷ path) (sym ((bytes_eq-Decides m n).0 both.0)) ∙ ap (λ ks. m ∷ ks) (below_front path top both.1)

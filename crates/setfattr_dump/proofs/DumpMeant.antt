@@ -13,8 +13,8 @@ use Rattle.setfattr_dump.specs.declared.line.Said.TheVariants.{Ends, Names, Give
 use Rattle.setfattr_dump.specs.Grammar as grammar
 use Rattle.setfattr_dump.specs.Grammar.{AreAttrs, AreSections, DumpMeans, IsAttr, IsBad, IsName, leaves_open, open_after}
 use Rattle.setfattr_dump.specs.Reading.{dump_read, line_read, open_section, said_then, sections_from}
-use Rattle.setfattr_dump.proofs.LinesMeant.{LineMeans, line_sound}
-use Rattle.setfattr_dump.proofs.SectionsMeant.{Read, after_said, attrs_open, dump_complete, front_front, front_none, name_some, nothing_left, open_append, some_bytes}
+use Rattle.setfattr_dump.proofs.LinesMeant.{LineMeans, line_sound, nonempty}
+use Rattle.setfattr_dump.proofs.SectionsMeant.{Read, after_said, attrs_open, dump_complete, front_front, front_none, name_some, nothing_left, open_append}
 
 -- ---- lines that are joined
 
@@ -52,7 +52,7 @@ finished before sections name attrs (opened front others line path inner given a
 opens : (before : List (List ℕ)) (sections : List Section) (name : Option Path) (attrs : List Attr) → Stands before sections name attrs → leaves_open before ≡ is_some name
 opens before sections name attrs (closed lines others are ends) = ends
 opens before sections name attrs (opened front others line path inner given are is_name attributes) =
-    open_append false front (line ∷ inner) ∙ ap (λ o. open_after o inner) (some_bytes line (name_some line path is_name)) ∙ attrs_open inner attrs attributes
+    open_append false front (line ∷ inner) ∙ ap (λ o. open_after o inner) (nonempty line (name_some line path is_name)) ∙ attrs_open inner attrs attributes
 
 ended : (before : List (List ℕ)) (line : List ℕ) (sections : List Section) (name : Option Path) (attrs : List Attr) → line ≡ [] → Stands before sections name attrs → Stands (before ++ line ∷ []) (sections ++ open_section name attrs) None []
 ended before line sections name attrs e s =

@@ -86,7 +86,7 @@ key_cut line key given k = (
   ap (behind (λ b. b == EQUALS)) k.text ∙ behind_at EQUALS key given k.no_equals,
 )
 
-nonempty : (bytes : List ℕ) → 0 < length bytes → is_nonempty bytes ≡ true
+pub nonempty : (bytes : List ℕ) → 0 < length bytes → is_nonempty bytes ≡ true
 nonempty [] h = absurd (omega arith)
 nonempty (b ∷ bs) h = refl
 
@@ -152,9 +152,6 @@ LineMeans is_open line (Err why) = IsBad is_open line why
 
 apart : (line : List ℕ) → is_marked line ≡ true → is_marked line ≡ false → ⊥
 apart line t f = cc
-
-not_name : (line : List ℕ) (name : Path) → is_marked line ≡ false → ¬ IsName line name
-not_name line name f n = apart line (mark_found line n.spelled n.text) f
 
 no_name : (line spelled : List ℕ) → line ≡ FILE_MARK.now ++ spelled → name_read spelled ≡ Err BadName → (name : Path) → ¬ IsName line name
 no_name line spelled e h name n = let ok = name_complete line spelled name e n in cc

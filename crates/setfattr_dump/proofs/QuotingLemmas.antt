@@ -1,6 +1,7 @@
 -- What is written of a value reads as the value.
 use Rattle.std.proofs.Common.{◌≡◌, ◌∙◌, ap, refl, ℕ, ◌+◌, ◌/◌, ◌%◌, Bool, true, false, cond, List, [], ◌∷◌, ◌++◌}
-use Rattle.std.specs.Prelude.{◌==◌, ◌&&◌}
+use Rattle.std.specs.Cmp.{first_so, second_so}
+use Rattle.std.specs.Prelude.{◌==◌}
 use Rattle.std.specs.List.{list_all}
 use Rattle.label_base.specs.Escape.{is_plain}
 use Rattle.setfattr_dump.specs.declared.marks.TheConstants.{QUOTE_ESCAPE}
@@ -11,17 +12,9 @@ kept_byte true p b escape h = cc
 kept_byte false true b escape h = refl
 kept_byte false false b escape h = cc
 
-both_left : (x y : Bool) → (x && y) ≡ true → x ≡ true
-both_left true y h = refl
-both_left false y h = cc
-
-both_right : (x y : Bool) → (x && y) ≡ true → y ≡ true
-both_right true y h = h
-both_right false y h = cc
-
 -- bytes that stand for themselves are written as they are
 pub quoted_kept : (bytes : List ℕ) → list_all is_kept bytes ≡ true → quoted_bytes bytes ≡ bytes
 quoted_kept [] h = refl
 quoted_kept (b ∷ bs) h =
-    ap (λ xs. xs ++ quoted_bytes bs) (kept_byte (b == 34) (is_plain b) b (92 ∷ (48 + b / 64) ∷ (48 + b / 8 % 8) ∷ (48 + b % 8) ∷ []) (both_left (is_kept b) (list_all is_kept bs) h))
-    ∙ ap (λ xs. b ∷ xs) (quoted_kept bs (both_right (is_kept b) (list_all is_kept bs) h))
+    ap (λ xs. xs ++ quoted_bytes bs) (kept_byte (b == 34) (is_plain b) b (92 ∷ (48 + b / 64) ∷ (48 + b / 8 % 8) ∷ (48 + b % 8) ∷ []) (first_so (is_kept b) (list_all is_kept bs) h))
+    ∙ ap (λ xs. b ∷ xs) (quoted_kept bs (second_so (is_kept b) (list_all is_kept bs) h))

@@ -16,7 +16,7 @@ use Rattle.setfattr_dump.specs.declared.marks.TheConstants.{FILE_MARK}
 use Rattle.setfattr_dump.specs.Grammar as grammar
 use Rattle.setfattr_dump.specs.Grammar.{AreAttrs, AreSections, DumpMeans, IsBad, IsName, IsRefusedAt, leaves_open, open_after}
 use Rattle.setfattr_dump.specs.Reading.{dump_read, line_read, open_section, said_then, sections_from}
-use Rattle.setfattr_dump.proofs.LinesMeant.{attr_line_read, attr_some, bad_line_read, empty_line_read, name_line_read}
+use Rattle.setfattr_dump.proofs.LinesMeant.{attr_line_read, attr_some, bad_line_read, empty_line_read, name_line_read, nonempty}
 
 abbrev pub Read : Type 0
 Read = Result (List Section) (RefusedLine DumpWhy)
@@ -55,14 +55,10 @@ pub open_append : (is_open : Bool) (first second : List (List ℕ)) → open_aft
 open_append is_open [] second = refl
 open_append is_open (line ∷ lines) second = open_append (is_nonempty line) lines second
 
-pub some_bytes : (line : List ℕ) → 0 < length line → is_nonempty line ≡ true
-some_bytes [] h = absurd (omega arith)
-some_bytes (b ∷ bs) h = refl
-
 pub attrs_open : (lines : List (List ℕ)) (attrs : List Attr) → AreAttrs lines attrs → open_after true lines ≡ true
 attrs_open lines attrs grammar.none = refl
 attrs_open lines attrs (grammar.more line attr rest others is_attr are) =
-    ap (λ o. open_after o rest) (some_bytes line (attr_some line attr is_attr)) ∙ attrs_open rest others are
+    ap (λ o. open_after o rest) (nonempty line (attr_some line attr is_attr)) ∙ attrs_open rest others are
 
 pub name_some : (line : List ℕ) (name : Path) → IsName line name → 0 < length line
 name_some line name n = omega (arith, ap length n.text, length-append FILE_MARK.now n.spelled)
@@ -103,7 +99,7 @@ last_section line name inner attrs is_name attributes = record {
   name = Some name;
   attrs = attrs;
   all_are = refl;
-  opens = ap (λ lines. open_after (is_nonempty line) lines) (append-nil inner) ∙ ap (λ o. open_after o inner) (some_bytes line (name_some line name is_name)) ∙ attrs_open inner attrs attributes;
+  opens = ap (λ lines. open_after (is_nonempty line) lines) (append-nil inner) ∙ ap (λ o. open_after o inner) (nonempty line (name_some line name is_name)) ∙ attrs_open inner attrs attributes;
   reads = λ number after.
       section_read number line name inner [] after attrs is_name attributes
       ∙ ap (λ n. sections_from n (Some name) attrs after) (omega (arith, ap length (append-nil inner)))
@@ -117,7 +113,7 @@ more_sections line name inner attrs rest others is_name attributes are some r sa
   attrs = r.attrs;
   all_are = ap (λ sections. record { name = name; attrs = attrs } ∷ sections) r.all_are;
   opens =
-      ap (λ o. open_after o (inner ++ rest)) (some_bytes line (name_some line name is_name))
+      ap (λ o. open_after o (inner ++ rest)) (nonempty line (name_some line name is_name))
       ∙ open_append true inner rest
       ∙ ap (λ o. open_after o rest) (attrs_open inner attrs attributes)
       ∙ sym same

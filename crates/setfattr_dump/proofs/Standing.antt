@@ -1,9 +1,10 @@
 -- What is written of a value stands for it, byte by byte.
 use Rattle.std.proofs.Common.{◌≡◌, ◌∙◌, ap, sym, refl, subst, ℕ, suc, ◌+◌, ◌/◌, ◌%◌, ◌*◌, ◌<◌, ◌≤◌, Bool, true, false, cond, List, [], ◌∷◌, ◌++◌, get_or, arith}
-use Rattle.std.specs.Prelude.{◌==◌, ◌&&◌, ◌||◌, nat_le, nat_lt, Option, Some, None}
-use Rattle.std.proofs.lemmas.Bool.{eqb-true, ne_eqb}
+use Rattle.std.specs.Prelude.{◌==◌, ◌&&◌, nat_le, nat_lt, Option, Some}
+use Rattle.std.proofs.lemmas.Bool.{eqb-true, ne_eqb, or_from, le-leb, lt-leb}
 use Rattle.std.proofs.lemmas.Bool.Decides.{nat_tests}
-use Rattle.label_base.specs.Escape.{is_octal, is_plain, octal_byte, octal_value}
+use Rattle.label_base.proofs.EscapeLemmas.{plain_apart, octal_of}
+use Rattle.label_base.specs.Escape.{is_plain}
 use Rattle.setfattr_dump.specs.Grammar as grammar
 use Rattle.setfattr_dump.specs.Grammar.{AreDigits, IsText, IsValue}
 use Rattle.setfattr_dump.specs.declared.marks.TheConstants.{HEX_MARK, QUOTE_ESCAPE, QUOTE_MARK}
@@ -11,31 +12,12 @@ use Rattle.setfattr_dump.specs.Values.{digit_value, hex_bytes, hex_digit, is_dig
 
 -- ---- between quotes
 
-plain_apart : (b : ℕ) → is_plain b ≡ true → (b == 92) ≡ false
-plain_apart b h = grind (arith, nat_tests)
-
-octal_digit : (q : ℕ) → q < 8 → is_octal (48 + q) ≡ true
-octal_digit q h = grind (arith, nat_tests)
-
-small : (n : ℕ) → n < 256 → nat_lt n 256 ≡ true
-small n h = grind (arith, nat_tests)
-
-all_hold : (p q r s : Bool) (v b : ℕ) → p ≡ true → q ≡ true → r ≡ true → s ≡ true → v ≡ b → cond (p && q && r && s) (Some v) None ≡ Some b
-all_hold p q r s v b hp hq hr hs e = rw (hp, hq, hr, hs) (ap Some e)
-
-octal_of : (b : ℕ) → b < 256 → octal_byte (48 + b / 64) (48 + b / 8 % 8) (48 + b % 8) ≡ Some b
-octal_of b h =
-    all_hold _ _ _ _ _ b (octal_digit (b / 64) (omega arith)) (octal_digit (b / 8 % 8) (omega arith)) (octal_digit (b % 8) (omega arith)) (small (octal_value (48 + b / 64) (48 + b / 8 % 8) (48 + b % 8)) (omega arith)) (omega arith)
-
-neither : (x y : Bool) → x ≡ false → y ≡ false → (x || y) ≡ false
-neither x y h k = rw (h, k) refl
-
 digit_apart : (q : ℕ) → q < 8 → is_escapable (48 + q) ≡ false
-digit_apart q h = neither (48 + q == 34) (48 + q == 92) (ne_eqb (48 + q) 34 (λ e. absurd (omega arith))) (ne_eqb (48 + q) 92 (λ e. absurd (omega arith)))
+digit_apart q h = or_from (48 + q == 34) (48 + q == 92) (ne_eqb (48 + q) 34 (λ e. absurd (omega arith))) (ne_eqb (48 + q) 92 (λ e. absurd (omega arith)))
 
 byte_stands : (b : ℕ) (rest bytes : List ℕ) (q p : Bool) → b < 256 → (b == 34) ≡ q → is_plain b ≡ p → IsText rest bytes → IsText (cond q QUOTE_ESCAPE.now (cond p (b ∷ []) (92 ∷ (48 + b / 64) ∷ (48 + b / 8 % 8) ∷ (48 + b % 8) ∷ [])) ++ rest) (b ∷ bytes)
 byte_stands b rest bytes true p h e f t = subst (λ c. IsText (QUOTE_ESCAPE.now ++ rest) (c ∷ bytes)) (sym (eqb-true b 34 e)) (grammar.octal 48 52 50 34 rest bytes refl refl t)
-byte_stands b rest bytes false true h e f t = grammar.plain b rest bytes (neither (b == 34) (b == 92) e (plain_apart b f)) t
+byte_stands b rest bytes false true h e f t = grammar.plain b rest bytes (or_from (b == 34) (b == 92) e (plain_apart b f)) t
 byte_stands b rest bytes false false h e f t = grammar.octal (48 + b / 64) (48 + b / 8 % 8) (48 + b % 8) b rest bytes (digit_apart (b / 64) (omega arith)) (octal_of b h) t
 
 text_stands : (bytes : List ℕ) → ((k : ℕ) → get_or bytes k 0 < 256) → IsText (quoted_bytes bytes) bytes
@@ -43,12 +25,6 @@ text_stands [] h = grammar.none
 text_stands (b ∷ bs) h = byte_stands b (quoted_bytes bs) bs (b == 34) (is_plain b) (h 0) refl refl (text_stands bs (λ k. h (suc k)))
 
 -- ---- in digits
-
-below : (n m : ℕ) → n ≤ m → nat_le n m ≡ true
-below n m h = grind (arith, nat_tests)
-
-above : (n m : ℕ) → m < n → nat_le n m ≡ false
-above n m h = grind (arith, nat_tests)
 
 first_of_three : (p q : Bool) (x y : Option ℕ) → p ≡ true → q ≡ true → cond (p && q) x y ≡ x
 first_of_three p q x y hp hq = rw (hp, hq) refl
@@ -58,11 +34,11 @@ second_of_three true q r s x y z hq hr hs = rw (hq, hr, hs) refl
 second_of_three false q r s x y z hq hr hs = rw (hr, hs) refl
 
 low_digit : (n : ℕ) → n < 10 → digit_value (48 + n) ≡ Some n
-low_digit n h = first_of_three (nat_le 48 (48 + n)) (nat_le (48 + n) 57) _ _ (below 48 (48 + n) (omega arith)) (below (48 + n) 57 (omega arith)) ∙ ap Some (omega arith)
+low_digit n h = first_of_three (nat_le 48 (48 + n)) (nat_le (48 + n) 57) _ _ (le-leb 48 (48 + n) (omega arith)) (le-leb (48 + n) 57 (omega arith)) ∙ ap Some (omega arith)
 
 high_digit : (n : ℕ) → 10 ≤ n → n < 16 → digit_value (87 + n) ≡ Some n
 high_digit n h k =
-    second_of_three (nat_le 48 (87 + n)) (nat_le (87 + n) 57) (nat_le 97 (87 + n)) (nat_le (87 + n) 102) _ _ _ (above (87 + n) 57 (omega arith)) (below 97 (87 + n) (omega arith)) (below (87 + n) 102 (omega arith))
+    second_of_three (nat_le 48 (87 + n)) (nat_le (87 + n) 57) (nat_le 97 (87 + n)) (nat_le (87 + n) 102) _ _ _ (lt-leb (87 + n) 57 (omega arith)) (le-leb 97 (87 + n) (omega arith)) (le-leb (87 + n) 102 (omega arith))
     ∙ ap Some (omega arith)
 
 is_low : (n : ℕ) → nat_lt n 10 ≡ true → n < 10

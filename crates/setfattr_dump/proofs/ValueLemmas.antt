@@ -2,18 +2,14 @@
 use Rattle.std.proofs.Common.{◌≡◌, ◌∙◌, ap, sym, refl, subst, ℕ, zero, suc, ◌<◌, ◌≤◌, Bool, true, false, cond, List, [], ◌∷◌, ◌++◌, length, get_or, take, drop, append_assoc, append-nil, arith}
 use Rattle.std.proofs.Math.Seq.{take-length, drop-length}
 use Rattle.std.specs.Prelude.{Option, Some, None, ◌==◌, ◌||◌, Result, Ok, Err}
-use Rattle.std.proofs.lemmas.Bool.{eqb-true, eqb-false, false_from_ne_true, ne_eqb}
+use Rattle.std.proofs.lemmas.Bool.{eqb-true, eqb-false, false_from_ne_true, ne_eqb, or_parts, cond-true, cond-false}
 use Rattle.memchr.specs.Find.{Nowhere, Passes, is_byte2}
-use Rattle.label_base.specs.Answers.{Answers, Explains}
+use Rattle.label_base.specs.Answers.{Answers}
 use Rattle.label_base.specs.Escape.{in_front, led_by, octal_byte}
 use Rattle.label_base.proofs.EscapeLemmas.{in_front-nil, in_front-append}
 use Rattle.setfattr_dump.specs.declared.fault.DumpWhy.{DumpWhy}
 use Rattle.setfattr_dump.specs.declared.fault.DumpWhy.TheVariants.{BadValue}
 use Rattle.setfattr_dump.specs.Values.{behind_zero, is_digits_mark, Nothing, Backslash, One, closed, digits_read, is_escapable, pair_value, text_read, value_or_bad, value_read}
-
-pub both_false : (x y : Bool) → (x || y) ≡ false → (x ≡ false) × (y ≡ false)
-both_false true y h = cc
-both_false false y h = (refl, h)
 
 pub last_chosen : (p q : Bool) (x y z : Option (List ℕ)) → p ≡ false → q ≡ false → cond p x (cond q y z) ≡ z
 last_chosen p q x y z hp hq = rw (hp, hq) refl
@@ -24,7 +20,7 @@ unfolding text_read
 plain_front text zero h f = sym (in_front-nil (text_read Nothing text))
 plain_front [] (suc k) h f = absurd (omega arith)
 plain_front (b ∷ bs) (suc k) h f =
-    let plain = both_false (b == 34) (b == 92) (false_from_ne_true (is_byte2 34 92 b) (f 0 (omega arith) (omega arith))) in
+    let plain = or_parts (b == 34) (b == 92) (false_from_ne_true (is_byte2 34 92 b) (f 0 (omega arith) (omega arith))) in
     last_chosen (b == 34) (b == 92) (closed bs) (text_read Backslash bs) (led_by (Some b) (text_read Nothing bs)) plain.0 plain.1
     ∙ ap (in_front (b ∷ [])) (plain_front bs k (omega arith) (λ i low high. f (suc i) (omega arith) (omega arith)))
     ∙ in_front-append (b ∷ []) (take k bs) (text_read Nothing (drop k bs))
@@ -37,23 +33,17 @@ plain_whole text f =
 
 -- ---- an escape, behind its backslash
 
-pub chosen_first : (v : Bool) (x y : Option (List ℕ)) → v ≡ true → cond v x y ≡ x
-chosen_first v x y h = rw h refl
-
-pub chosen_second : (v : Bool) (x y : Option (List ℕ)) → v ≡ false → cond v x y ≡ y
-chosen_second v x y h = rw h refl
-
 pub escaped_itself : (text : List ℕ) → 1 ≤ length text → is_escapable (get_or text 0 0) ≡ true → text_read Backslash text ≡ led_by (Some (get_or text 0 0)) (text_read Nothing (drop 1 text))
 unfolding text_read
 escaped_itself [] h e = absurd (omega arith)
-escaped_itself (x ∷ rest) h e = chosen_first (is_escapable x) (led_by (Some x) (text_read Nothing rest)) (text_read (One x) rest) e
+escaped_itself (x ∷ rest) h e = cond-true (is_escapable x) (led_by (Some x) (text_read Nothing rest)) (text_read (One x) rest) e
 
 pub escaped_octal : (text : List ℕ) → 1 ≤ length text → 2 ≤ length (drop 1 text) → is_escapable (get_or text 0 0) ≡ false → text_read Backslash text ≡ led_by (octal_byte (get_or text 0 0) (get_or (drop 1 text) 0 0) (get_or (drop 1 text) 1 0)) (text_read Nothing (drop 2 (drop 1 text)))
 unfolding text_read
 escaped_octal [] h k e = absurd (omega arith)
 escaped_octal (x ∷ []) h k e = absurd (omega arith)
 escaped_octal (x ∷ y ∷ []) h k e = absurd (omega arith)
-escaped_octal (x ∷ y ∷ z ∷ rest) h k e = chosen_second (is_escapable x) (led_by (Some x) (text_read Nothing (y ∷ z ∷ rest))) (led_by (octal_byte x y z) (text_read Nothing rest)) e
+escaped_octal (x ∷ y ∷ z ∷ rest) h k e = cond-false (is_escapable x) (led_by (Some x) (text_read Nothing (y ∷ z ∷ rest))) (led_by (octal_byte x y z) (text_read Nothing rest)) e
 
 pub escaped_nothing : (text : List ℕ) → length text < 1 → text_read Backslash text ≡ None
 unfolding text_read
@@ -63,16 +53,9 @@ escaped_nothing (x ∷ rest) h = absurd (omega arith)
 pub escaped_short : (text : List ℕ) → 1 ≤ length text → length (drop 1 text) < 2 → is_escapable (get_or text 0 0) ≡ false → text_read Backslash text ≡ None
 unfolding text_read
 escaped_short [] h k e = absurd (omega arith)
-escaped_short (x ∷ []) h k e = chosen_second (is_escapable x) (led_by (Some x) (text_read Nothing [])) None e
-escaped_short (x ∷ y ∷ []) h k e = chosen_second (is_escapable x) (led_by (Some x) (text_read Nothing (y ∷ []))) None e
+escaped_short (x ∷ []) h k e = cond-false (is_escapable x) (led_by (Some x) (text_read Nothing [])) None e
+escaped_short (x ∷ y ∷ []) h k e = cond-false (is_escapable x) (led_by (Some x) (text_read Nothing (y ∷ []))) None e
 escaped_short (x ∷ y ∷ z ∷ rest) h k e = absurd (omega arith)
-
--- ---- answers
-
-pub bad_kept : (cause : Option DumpWhy) (o : Option (List ℕ)) (read : List ℕ) (meant : Option (List ℕ)) → Explains cause (value_or_bad o) → in_front read o ≡ meant → Explains cause (value_or_bad meant)
-bad_kept None o read meant h e = tt
-bad_kept (Some why) None read meant h e = ap value_or_bad (sym e) ∙ h
-bad_kept (Some why) (Some value) read meant h e = cc
 
 -- ---- where plain bytes end
 
@@ -200,12 +183,12 @@ zero_nothing (b ∷ bs) h = absurd (omega arith)
 pub zero_digits : (rest : List ℕ) → 1 ≤ length rest → is_digits_mark (get_or rest 0 0) ≡ true → behind_zero rest ≡ digits_read (drop 1 rest)
 unfolding behind_zero
 zero_digits [] h e = absurd (omega arith)
-zero_digits (x ∷ digits) h e = chosen_first (is_digits_mark x) (digits_read digits) None e
+zero_digits (x ∷ digits) h e = cond-true (is_digits_mark x) (digits_read digits) None e
 
 pub zero_other : (rest : List ℕ) → 1 ≤ length rest → is_digits_mark (get_or rest 0 0) ≡ false → behind_zero rest ≡ None
 unfolding behind_zero
 zero_other [] h e = absurd (omega arith)
-zero_other (x ∷ digits) h e = chosen_second (is_digits_mark x) (digits_read digits) None e
+zero_other (x ∷ digits) h e = cond-false (is_digits_mark x) (digits_read digits) None e
 
 -- what another text reads as
 pub same_value : {F : Type 0} (view : F → Option DumpWhy) (result : Result (List ℕ) F) (read meant : Option (List ℕ)) → meant ≡ read → Answers (λ (v : List ℕ). v) view result (value_or_bad read) → Answers (λ (v : List ℕ). v) view result (value_or_bad meant)

@@ -1,12 +1,12 @@
 -- A value reads as the bytes that its grammar gives it.
-use Rattle.std.proofs.Common.{◌≡◌, ◌∙◌, ap, sym, refl, subst, ℕ, ◌+◌, ◌*◌, Bool, true, false, cond, List, [], ◌∷◌, ◌++◌}
-use Rattle.std.specs.Prelude.{◌==◌, ◌||◌, Option, Some, None}
-use Rattle.std.proofs.lemmas.Bool.{eqb-true}
+use Rattle.std.proofs.Common.{◌≡◌, ◌∙◌, ap, sym, refl, subst, ℕ, ◌+◌, ◌*◌, true, false, cond, List, [], ◌∷◌, ◌++◌}
+use Rattle.std.specs.Prelude.{◌==◌, Option, Some, None}
+use Rattle.std.proofs.lemmas.Bool.{eqb-true, or_from, or_parts, cond-true, cond-false}
 use Rattle.label_base.specs.Escape.{in_front, led_by, octal_byte}
 use Rattle.setfattr_dump.specs.Grammar as grammar
 use Rattle.setfattr_dump.specs.Grammar.{AreDigits, IsText, IsValue}
 use Rattle.setfattr_dump.specs.Values.{Before, Nothing, Backslash, One, Two, behind_zero, both_digits, closed, digit_value, digits_read, is_digits_mark, is_escapable, text_read, value_read}
-use Rattle.setfattr_dump.proofs.ValueLemmas.{both_false, last_chosen, chosen_first, chosen_second}
+use Rattle.setfattr_dump.proofs.ValueLemmas.{last_chosen}
 
 -- ---- what the grammar gives is read
 
@@ -14,17 +14,17 @@ pub text_complete : (text value : List ℕ) → IsText text value → text_read 
 unfolding text_read
 text_complete text value grammar.none = refl
 text_complete text value (grammar.plain b rest bytes other h) =
-    let plain = both_false (b == 34) (b == 92) other in
+    let plain = or_parts (b == 34) (b == 92) other in
     let left = rest ++ 34 ∷ [] in
     last_chosen (b == 34) (b == 92) (closed left) (text_read Backslash left) (led_by (Some b) (text_read Nothing left)) plain.0 plain.1
     ∙ ap (in_front (b ∷ [])) (text_complete rest bytes h)
 text_complete text value (grammar.itself b rest bytes escapable h) =
     let left = rest ++ 34 ∷ [] in
-    chosen_first (is_escapable b) (led_by (Some b) (text_read Nothing left)) (text_read (One b) left) escapable
+    cond-true (is_escapable b) (led_by (Some b) (text_read Nothing left)) (text_read (One b) left) escapable
     ∙ ap (in_front (b ∷ [])) (text_complete rest bytes h)
 text_complete text value (grammar.octal x y z b rest bytes other digits h) =
     let left = rest ++ 34 ∷ [] in
-    chosen_second (is_escapable x) (led_by (Some x) (text_read Nothing (y ∷ z ∷ left))) (led_by (octal_byte x y z) (text_read Nothing left)) other
+    cond-false (is_escapable x) (led_by (Some x) (text_read Nothing (y ∷ z ∷ left))) (led_by (octal_byte x y z) (text_read Nothing left)) other
     ∙ ap (λ o. led_by o (text_read Nothing left)) digits
     ∙ ap (in_front (b ∷ [])) (text_complete rest bytes h)
 
@@ -38,7 +38,7 @@ digits_complete digits value (grammar.more high low h l rest bytes eh el are) =
 
 marked_digits : (x : ℕ) (spelled : List ℕ) → is_digits_mark x ≡ true → behind_zero (x ∷ spelled) ≡ digits_read spelled
 unfolding behind_zero
-marked_digits x spelled h = chosen_first (is_digits_mark x) (digits_read spelled) None h
+marked_digits x spelled h = cond-true (is_digits_mark x) (digits_read spelled) None h
 
 pub value_complete : (given value : List ℕ) → IsValue given value → value_read given ≡ Some value
 unfolding value_read
@@ -109,9 +109,6 @@ octal_end x y z b rest value bytes other digits e whole = record {
   stands = subst (IsText (92 ∷ x ∷ y ∷ z ∷ e.text)) whole (grammar.octal x y z b e.text bytes other digits e.stands);
 }
 
-neither : (x y : Bool) → x ≡ false → y ≡ false → (x || y) ≡ false
-neither x y h k = rw (h, k) refl
-
 text_sound : (before : Before) (rest value : List ℕ) → CanStand before → text_read before rest ≡ Some value → IsEnd before rest value
 unfolding text_read
 text_sound Nothing [] value can h = cc
@@ -126,7 +123,7 @@ text_sound Nothing (b ∷ rest) value can h =
             | true ↦ λ t h. subst (λ c. IsEnd Nothing (c ∷ rest) value) (sym (eqb-true b 92 t)) (escape_end rest value (text_sound Backslash rest value tt h))
             | false ↦ λ g h.
                 let l = leads b (text_read Nothing rest) value h in
-                plain_end b rest value l.rest (neither (b == 34) (b == 92) f g) (text_sound Nothing rest l.rest tt l.found) l.whole
+                plain_end b rest value l.rest (or_from (b == 34) (b == 92) f g) (text_sound Nothing rest l.rest tt l.found) l.whole
           ] refl h
     ] refl h
 text_sound Backslash (x ∷ rest) value can h =

@@ -1,8 +1,9 @@
 -- What was read can be written.
-use Rattle.std.proofs.Common.{◌≡◌, ◌∙◌, ap, sym, refl, subst, ℕ, ◌<◌, ◌≤◌, Bool, true, false, cond, List, [], ◌∷◌, ◌++◌, length, drop, append_assoc, arith}
+use Rattle.std.proofs.Common.{◌≡◌, ◌∙◌, ap, sym, refl, subst, ℕ, ◌≤◌, Bool, true, false, cond, List, [], ◌∷◌, ◌++◌, length, drop, append_assoc, arith}
 use Rattle.std.specs.Prelude.{◌==◌, ◌&&◌, not, nat_le, nat_lt, filter, Contains, slice_index, Ok, Err, if◌then◌else◌}
 use Rattle.std.specs.List.{AllByRecursion, list_all, list_any, slice_split, onto_first}
 use Rattle.std.proofs.lemmas.Bool.Decides.{nat_tests}
+use Rattle.std.proofs.lemmas.Bool.{and_from, or_parts}
 use Rattle.label_base.specs.LineGrammar as cuts
 use Rattle.label_base.specs.LineGrammar.{AreLines}
 use Rattle.label_base.specs.Text.{is_nonempty}
@@ -18,8 +19,7 @@ use Rattle.setfattr_dump.specs.Grammar.{AreAttrs, AreSections, IsAttr, IsName}
 use Rattle.setfattr_dump.specs.Reading.{dump_read, with_slash}
 use Rattle.setfattr_dump.specs.Texts.{are_writable, is_key, is_marked, is_readable}
 use Rattle.setfattr_dump.proofs.DumpMeant.{dump_means}
-use Rattle.setfattr_dump.proofs.LinesMeant.{mark_found, marked_rest}
-use Rattle.setfattr_dump.proofs.ValueLemmas.{both_false}
+use Rattle.setfattr_dump.proofs.LinesMeant.{mark_found, marked_rest, nonempty}
 
 -- ---- names
 
@@ -29,10 +29,6 @@ record IsRead (bytes : List ℕ) (name : Path) : Type 0 where
   pub absolute : (slice_index bytes 0 == 47) ≡ true
   pub no_dots : list_any is_dot_part (path_names bytes) ≡ false
   pub names : path_names bytes ≡ name
-
-not_true : (v : Bool) → not v ≡ false → v ≡ true
-not_true true h = refl
-not_true false h = cc
 
 told : (a b c d e : Bool) (n p : Path) → (if a then Err Empty else if b then Err PathTooLong else if c then Err HasNul else if not d then Err NotAbsolute else if e then Err DotPart else Ok n) ≡ Ok p → (a ≡ false) × (b ≡ false) × (d ≡ true) × (e ≡ false) × (n ≡ p)
 told true b c d e n p h = cc
@@ -67,12 +63,9 @@ names_short (x ∷ bs) name r =
     let long : length (x ∷ bs) ≤ 4095 = few (length (x ∷ bs)) r.short in
     text_short name (subst (λ n. length (with_slashes n) ≤ 4095) (sym same) (omega (arith, short_text bs)))
 
-both : (x y : Bool) → x ≡ true → y ≡ true → (x && y) ≡ true
-both x y h k = rw (h, k) refl
-
 readable : (bytes : List ℕ) (name : Path) → IsRead bytes name → is_readable name ≡ true
 readable bytes name r =
-    both (nat_le (length (path_text name)) 4095) (not (list_any is_dot_part name)) (within (length (path_text name)) (names_short bytes name r))
+    and_from (nat_le (length (path_text name)) 4095) (not (list_any is_dot_part name)) (within (length (path_text name)) (names_short bytes name r))
     (ap not (ap (list_any is_dot_part) (sym r.names) ∙ r.no_dots))
 
 name_readable : (line : List ℕ) (name : Path) → IsName line name → is_readable name ≡ true
@@ -87,7 +80,7 @@ none_of byte (b ∷ bs) h = rw (lacks_first byte b bs h) (none_of byte bs (lacks
 none_in_front : (byte : ℕ) (front rest : List ℕ) → list_any (λ b. b == byte) (front ++ rest) ≡ false → list_any (λ b. b == byte) front ≡ false
 none_in_front byte [] rest h = refl
 none_in_front byte (b ∷ bs) rest h =
-    let parts = both_false (b == byte) (list_any (λ b. b == byte) (bs ++ rest)) h in
+    let parts = or_parts (b == byte) (list_any (λ b. b == byte) (bs ++ rest)) h in
     rw parts.0 (none_in_front byte bs rest parts.1)
 
 unmarked : (line key rest : List ℕ) (v : Bool) → line ≡ key ++ rest → is_marked line ≡ false → is_marked key ≡ v → v ≡ false
@@ -97,10 +90,6 @@ unmarked line key rest true e h k =
     let text : line ≡ FILE_MARK.now ++ (behind ++ rest) = e ∙ ap (λ t. t ++ rest) (marked_rest key k) ∙ append_assoc FILE_MARK.now behind rest in
     let marked = mark_found line (behind ++ rest) text in
     cc
-
-nonempty : (bytes : List ℕ) → 0 < length bytes → is_nonempty bytes ≡ true
-nonempty [] h = absurd (omega arith)
-nonempty (b ∷ bs) h = refl
 
 four : (p q r s : Bool) → p ≡ true → q ≡ false → r ≡ false → s ≡ false → (p && not q && not r && not s) ≡ true
 four p q r s hp hq hr hs = rw (hp, hq, hr, hs) refl
@@ -130,14 +119,14 @@ behind (line ∷ lines) second h = behind lines second h.1
 attrs_writable : (inner rest : List (List ℕ)) (attrs : List Attr) → AllByRecursion NoFeed (inner ++ rest) → AreAttrs inner attrs → list_all (λ attr. is_key attr.key) attrs ≡ true
 attrs_writable inner rest attrs lack grammar.none = refl
 attrs_writable inner rest attrs lack (grammar.more line attr lines others is_attr are) =
-    both (is_key attr.key) (list_all (λ attr. is_key attr.key) others) (key_writable line attr lack.0 is_attr) (attrs_writable lines rest others lack.1 are)
+    and_from (is_key attr.key) (list_all (λ attr. is_key attr.key) others) (key_writable line attr lack.0 is_attr) (attrs_writable lines rest others lack.1 are)
 
 sections_writable : (lines : List (List ℕ)) (sections : List Section) → AllByRecursion NoFeed lines → AreSections lines sections → are_writable sections ≡ true
 sections_writable lines sections lack grammar.none = refl
 sections_writable lines sections lack (grammar.empty rest others are) = sections_writable rest sections lack.1 are
 sections_writable lines sections lack (grammar.section line name inner attrs rest others is_name attributes are) =
-    both (is_readable name && list_all (λ attr. is_key attr.key) attrs) (are_writable others)
-    (both (is_readable name) (list_all (λ attr. is_key attr.key) attrs) (name_readable line name is_name) (attrs_writable inner rest attrs lack.1 attributes))
+    and_from (is_readable name && list_all (λ attr. is_key attr.key) attrs) (are_writable others)
+    (and_from (is_readable name) (list_all (λ attr. is_key attr.key) attrs) (name_readable line name is_name) (attrs_writable inner rest attrs lack.1 attributes))
     (sections_writable rest others (behind inner rest lack.1) are)
 
 -- what was read can be written

@@ -1,15 +1,16 @@
 -- The lines of what is written, and that none of its parts has a line feed.
-use Rattle.std.proofs.Common.{◌≡◌, ◌∙◌, ap, sym, refl, subst, ℕ, zero, suc, ◌+◌, ◌/◌, ◌%◌, ◌<◌, ◌≤◌, Bool, true, false, cond, List, [], ◌∷◌, ◌++◌, length, append_assoc, arith}
-use Rattle.std.specs.Prelude.{◌==◌, ◌&&◌, ◌||◌, not, nat_lt, Contains, Result, Ok, Err, IfOk}
+use Rattle.std.proofs.Common.{◌≡◌, ◌∙◌, ap, sym, refl, subst, ℕ, ◌+◌, ◌/◌, ◌%◌, ◌<◌, ◌≤◌, Bool, true, false, cond, List, [], ◌∷◌, ◌++◌, length, append_assoc, arith}
+use Rattle.std.specs.Prelude.{◌==◌, ◌&&◌, not, nat_lt, Contains, Result, Ok, Err, IfOk}
 use Rattle.std.specs.List.{AllByRecursion, list_all, list_any}
-use Rattle.std.proofs.lemmas.Bool.{eqb-false, ne_eqb}
+use Rattle.std.proofs.lemmas.Bool.{eqb-false, ne_eqb, or_from, or_parts}
 use Rattle.std.proofs.lemmas.Bool.Decides.{nat_tests}
+use Rattle.std.specs.Cmp.{first_so, second_so}
 use Rattle.label_base.specs.Escape.{escaped, escaped_byte, is_plain}
 use Rattle.label_base.specs.LineGrammar as cuts
 use Rattle.label_base.specs.LineGrammar.{AreLines}
 use Rattle.label_base.specs.Text.{is_nonempty}
 use Rattle.file_paths.specs.Path.{Path, path_read, path_text}
-use Rattle.label_base.proofs.FirstCut.{lacks_nothing}
+use Rattle.label_base.proofs.FirstCut.{lacks_nothing, lacks_more}
 use Rattle.setfattr_dump.specs.declared.dump.Attr.{Attr}
 use Rattle.setfattr_dump.specs.declared.dump.Section.{Section}
 use Rattle.setfattr_dump.specs.declared.marks.TheConstants.{FILE_MARK, HEX_MARK, QUOTE_ESCAPE, QUOTE_MARK}
@@ -20,29 +21,21 @@ use Rattle.setfattr_dump.specs.ReadsBack.{AttrReads, NameReads, SectionReads}
 use Rattle.setfattr_dump.specs.Texts.{are_writable, attr_line, attrs_text, dump_text, is_key, is_marked, is_readable, is_writable, section_text}
 use Rattle.setfattr_dump.specs.Values.{hex_byte, hex_bytes, hex_digit, is_digest, quoted_byte, quoted_bytes, value_text}
 use Rattle.setfattr_dump.proofs.LinesMeant.{mark_found, marked_rest}
-use Rattle.setfattr_dump.proofs.ValueLemmas.{both_false}
 use Rattle.setfattr_dump.proofs.SectionsMeant.{sections_read}
 
 -- ---- bytes without a certain one
 
-lacks_more : (b x : ℕ) (xs : List ℕ) → (x ≡ b → ⊥) → ¬ Contains xs b → ¬ Contains (x ∷ xs) b
-lacks_more b x xs other h (zero, within, here) = other here
-lacks_more b x xs other h (suc k, within, here) = h (k, omega arith, here)
-
 pub lacks : (byte : ℕ) (bytes : List ℕ) → list_any (λ b. b == byte) bytes ≡ false → ¬ Contains bytes byte
 lacks byte [] h = lacks_nothing byte
 lacks byte (b ∷ bs) h =
-    let parts = both_false (b == byte) (list_any (λ b. b == byte) bs) h in
+    let parts = or_parts (b == byte) (list_any (λ b. b == byte) bs) h in
     lacks_more byte b bs (λ e. eqb-false b byte parts.0 e) (lacks byte bs parts.1)
-
-either_false : (x y : Bool) → x ≡ false → y ≡ false → (x || y) ≡ false
-either_false x y h k = rw (h, k) refl
 
 joined : (byte : ℕ) (first second : List ℕ) → list_any (λ b. b == byte) first ≡ false → list_any (λ b. b == byte) second ≡ false → list_any (λ b. b == byte) (first ++ second) ≡ false
 joined byte [] second h k = k
 joined byte (b ∷ bs) second h k =
-    let parts = both_false (b == byte) (list_any (λ b. b == byte) bs) h in
-    either_false (b == byte) (list_any (λ b. b == byte) (bs ++ second)) parts.0 (joined byte bs second parts.1 k)
+    let parts = or_parts (b == byte) (list_any (λ b. b == byte) bs) h in
+    or_from (b == byte) (list_any (λ b. b == byte) (bs ++ second)) parts.0 (joined byte bs second parts.1 k)
 
 abbrev no_feed : List ℕ → Type 0
 no_feed bytes = list_any (λ b. b == 10) bytes ≡ false
@@ -77,8 +70,8 @@ hex_feed n true = digit_feed (48 + n) (omega arith)
 hex_feed n false = digit_feed (87 + n) (omega arith)
 
 pair_feed : (b : ℕ) → no_feed (hex_byte b)
-pair_feed b = either_false (hex_digit (b / 16) == 10) (list_any (λ b. b == 10) (hex_digit (b % 16) ∷ [])) (hex_feed (b / 16) (nat_lt (b / 16) 10))
-    (either_false (hex_digit (b % 16) == 10) false (hex_feed (b % 16) (nat_lt (b % 16) 10)) refl)
+pair_feed b = or_from (hex_digit (b / 16) == 10) (list_any (λ b. b == 10) (hex_digit (b % 16) ∷ [])) (hex_feed (b / 16) (nat_lt (b / 16) 10))
+    (or_from (hex_digit (b % 16) == 10) false (hex_feed (b % 16) (nat_lt (b % 16) 10)) refl)
 
 digits_feed : (bytes : List ℕ) → no_feed (hex_bytes bytes)
 digits_feed [] = refl
@@ -120,11 +113,11 @@ is_key_of key h =
 begins_key : (mark key more rest : List ℕ) → list_any (λ b. b == 61) mark ≡ false → key ++ 61 ∷ more ≡ mark ++ rest → (others : List ℕ) × (key ≡ mark ++ others)
 begins_key [] key more rest h e = (key, refl)
 begins_key (m ∷ ms) [] more rest h e =
-    let parts = both_false (m == 61) (list_any (λ b. b == 61) ms) h in
+    let parts = or_parts (m == 61) (list_any (λ b. b == 61) ms) h in
     let same : m ≡ 61 = cc in
     absurd (eqb-false m 61 parts.0 same)
 begins_key (m ∷ ms) (k ∷ ks) more rest h e =
-    let parts = both_false (m == 61) (list_any (λ b. b == 61) ms) h in
+    let parts = or_parts (m == 61) (list_any (λ b. b == 61) ms) h in
     let head : k ≡ m = cc in
     let tail : ks ++ 61 ∷ more ≡ ms ++ rest = cc in
     let found = begins_key ms ks more rest parts.1 tail in
@@ -159,14 +152,6 @@ record AttrsWritten (attrs : List Attr) (rest : List ℕ) (lines : List (List �
   pub cut : AreLines (attrs_text attrs ++ rest) (inner ++ lines)
   pub are : AreAttrs inner attrs
 
-both_left : (x y : Bool) → (x && y) ≡ true → x ≡ true
-both_left true y h = refl
-both_left false y h = cc
-
-both_right : (x y : Bool) → (x && y) ≡ true → y ≡ true
-both_right true y h = h
-both_right false y h = cc
-
 attrs_cut : (attr : Attr) (attrs : List Attr) (rest : List ℕ) → (attr.key ++ 61 ∷ value_text attr.key attr.value) ++ 10 ∷ (attrs_text attrs ++ rest) ≡ attrs_text (attr ∷ attrs) ++ rest
 unfolding attrs_text
 attrs_cut attr attrs rest = sym (attr_cut attr.key attr.value (attrs_text attrs ++ rest)) ∙ sym (append_assoc (attr_line attr.key attr.value) (attrs_text attrs) rest)
@@ -175,8 +160,8 @@ attrs_written : (attrs : List Attr) (rest : List ℕ) (lines : List (List ℕ)) 
 unfolding attrs_text
 attrs_written [] rest lines cut keys reads = record { inner = []; cut = cut; are = grammar.none }
 attrs_written (attr ∷ attrs) rest lines cut keys reads =
-    let w = attrs_written attrs rest lines cut (both_right (is_key attr.key) (list_all (λ attr. is_key attr.key) attrs) keys) reads.1 in
-    let k = is_key_of attr.key (both_left (is_key attr.key) (list_all (λ attr. is_key attr.key) attrs) keys) in
+    let w = attrs_written attrs rest lines cut (second_so (is_key attr.key) (list_all (λ attr. is_key attr.key) attrs) keys) reads.1 in
+    let k = is_key_of attr.key (first_so (is_key attr.key) (list_all (λ attr. is_key attr.key) attrs) keys) in
     let line : List ℕ = attr.key ++ 61 ∷ value_text attr.key attr.value in
     record {
       inner = line ∷ w.inner;
@@ -209,11 +194,11 @@ written : (sections : List Section) → are_writable sections ≡ true → AllBy
 unfolding dump_text
 written [] can reads = record { lines = []; cut = cuts.none; are = grammar.none }
 written (section ∷ sections) can reads =
-    let this = both_left (is_writable section) (list_all is_writable sections) can in
-    let w = written sections (both_right (is_writable section) (list_all is_writable sections) can) reads.1 in
-    let name = (reads.0).name (both_left (is_readable section.name) (list_all (λ attr. is_key attr.key) section.attrs) this) in
+    let this = first_so (is_writable section) (list_all is_writable sections) can in
+    let w = written sections (second_so (is_writable section) (list_all is_writable sections) can) reads.1 in
+    let name = (reads.0).name (first_so (is_readable section.name) (list_all (λ attr. is_key attr.key) section.attrs) this) in
     let last : AreLines (10 ∷ dump_text sections) ([] ∷ w.lines) = cuts.more [] (dump_text sections) w.lines (lacks_nothing 10) w.cut in
-    let a = attrs_written section.attrs (10 ∷ dump_text sections) ([] ∷ w.lines) last (both_right (is_readable section.name) (list_all (λ attr. is_key attr.key) section.attrs) this) (reads.0).attrs in
+    let a = attrs_written section.attrs (10 ∷ dump_text sections) ([] ∷ w.lines) last (second_so (is_readable section.name) (list_all (λ attr. is_key attr.key) section.attrs) this) (reads.0).attrs in
     let line : List ℕ = FILE_MARK.now ++ escaped (path_text section.name) in
     record {
       lines = line ∷ (a.inner ++ [] ∷ w.lines);

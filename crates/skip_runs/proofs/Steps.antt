@@ -1,6 +1,7 @@
 -- One run, and what is kept of the earlier ones.
-use Rattle.std.proofs.Common.{◌≡◌, ◌∙◌, ap, sym, refl, subst, ℕ, ◌<◌, Bool, true, false, not, cond, ◌==◌, ◌&&◌, ◌⊎◌, Option, Some, None, unwrap_or, inl, inr, eqb-true, eq-eqb}
+use Rattle.std.proofs.Common.{◌≡◌, ◌∙◌, ap, sym, refl, subst, ℕ, ◌<◌, Bool, true, false, not, cond, ◌==◌, ◌&&◌, ◌⊎◌, Option, Some, None, inl, inr, eqb-true, eq-eqb}
 use Rattle.std.proofs.lemmas.Bool.{and_parts, and_right, and_from, or_left, cases_Bool, cond_both, not_from_true, not-true, not-false, false≢true}
+use Rattle.std.proofs.lemmas.Option.{same_Some}
 use Rattle.label_base.specs.Bounded.{all_below, any_below, implies}
 use Rattle.skip_runs.specs.Relabel.{Kinds, Tree, Run, State, closed, whole, digests_in, is_current, skippable, skipped, walked, winner, wanted_by, relabelled, new_label, changed, above_change, renewed, zeroed, new_digest, after, after_off}
 use Rattle.skip_runs.specs.Skipping.{AreExact, AreRuns}
@@ -200,9 +201,6 @@ older t Past r labels labels' d digest same o =
       settled = settled_on t o.run labels labels' d same o.settled;
     }
 
-some_is : {X : Type 0} (x y : X) → Some x ≡ Some y → x ≡ y
-some_is x y e = ap (λ o. unwrap_or o x) e
-
 -- what stays of a stored digest
 record Stays (K : Kinds) (stored : Option K.Digest) (void : Bool) (digest : K.Digest) : Type 0 where
   stored_is : stored ≡ Some digest
@@ -210,7 +208,7 @@ record Stays (K : Kinds) (stored : Option K.Digest) (void : Bool) (digest : K.Di
 
 stays : (K : Kinds) → AreExact K → (stored : Option K.Digest) (void : Bool) (digest : K.Digest) → zeroed K stored void ≡ Some digest → K.same_digest digest K.zero_digest ≡ false → Stays K stored void digest
 stays K exact None void digest h n = cc
-stays K exact (Some y) true digest h n = absurd (false≢true (sym n ∙ (exact.digests digest K.zero_digest).1 (sym (some_is K.zero_digest digest h))))
+stays K exact (Some y) true digest h n = absurd (false≢true (sym n ∙ (exact.digests digest K.zero_digest).1 (sym (same_Some K.zero_digest digest h))))
 stays K exact (Some y) false digest h n = record { stored_is = h; not_void = refl }
 
 -- labels in the extent of a directory that is above no change
@@ -237,7 +235,7 @@ kept_at {K} t Among Past r s d digest true ready was h n =
       past = inl refl;
       digests = a.1;
       whole_in = b.1;
-      digest_is = sym (some_is (K.digest_of (r.listing d)) digest h);
+      digest_is = sym (same_Some (K.digest_of (r.listing d)) digest h);
       settled = renewed_settled t Among Past r s d ready b.1;
     }
 kept_at {K} t Among Past r s d digest false ready was h n =

@@ -5,6 +5,7 @@ use Rattle.std.proofs.lemmas.List.Elements.{All-push}
 use Rattle.std.proofs.lemmas.Option.{get_or_from_slice_get, slice_get_within}
 use Rattle.std.proofs.Math.ListN.{get_or-append}
 use Rattle.std.proofs.lemmas.List.{get_or-drop, take_more, take-append-drop}
+use Rattle.pattern_match.proofs.Reading.{less_opens}
 use Rattle.std.specs.List.{All}
 use Rattle.pattern_match.specs.States.{AreStatesOf, Progress, StandsFor}
 use Rattle.pattern_syntax.specs.Language.{In, Opens}
@@ -16,9 +17,6 @@ use Rattle.spec_match.specs.StatesFor.{patterns_of, spec_in}
 use Rattle.spec_match.specs.Stepping.{GoesOn, IsDropped, IsWritten}
 use Rattle.spec_match.specs.declared.rule.Rule.{Rule}
 use Rattle.spec_reader.specs.SpecValue.{SpecValue}
-
-pub less_opens : (t : Tree) (text more : List ℕ) → Opens t (text ++ more) → Opens t text
-less_opens t text more (rest, i) = (more ++ rest, subst (λ w. In t w) (append_assoc text more rest) i)
 
 pub none_more : (ps : List Tree) (text more : List ℕ) (from below : ℕ) → NoneAlive ps text from below → NoneAlive ps (text ++ more) from below
 none_more ps text more from below h i l m o = h i l m (less_opens (pattern_at ps i) text more o)
@@ -77,12 +75,6 @@ pub record IsStepped (ps : List Tree) (tail : List ℕ) (list draft : List Alive
   pub so_far : (text : List ℕ) (old new : ℕ) → AreAliveFrom ps text old (length ps) list → (rest : List Alive)
       → AreAliveFrom ps (text ++ tail) new (bound_at (length ps) list k) rest
       → AreAliveFrom ps (text ++ tail) new (length ps) (draft ++ rest)
-
-pub none_stepped : (ps : List Tree) (tail : List ℕ) (list draft : List Alive) → draft ≡ [] → IsStepped ps tail list draft 0
-none_stepped ps tail list draft e = subst (λ d. IsStepped ps tail list d 0) (sym e) (record {
-  own = λ k d l. absurd (omega (arith, l));
-  so_far = λ text f g a rest r. r;
-})
 
 from_or_past : (i n : ℕ) → n ≤ i → (i ≡ n) ⊎ (n + 1 ≤ i)
 from_or_past i n l = elim (cases_lt n i) [ inl past ↦ inr (omega (arith, past)) | inr here ↦ inl (omega (arith, here, l)) ]
@@ -147,12 +139,6 @@ stepped_to ps tail list draft k l s text floor a =
 pub record IsStarted (ps : List Tree) (draft : List Alive) (left : ℕ) : Type 0 where
   pub own : All (IsOwn ps) draft
   pub so_far : (rest : List Alive) → AreAlive ps [] left rest → AreAlive ps [] (length ps) (draft ++ rest)
-
-pub none_started : (ps : List Tree) (draft : List Alive) (n : ℕ) → draft ≡ [] → n ≡ length ps → IsStarted ps draft n
-none_started ps draft n e f = subst (λ d. IsStarted ps d n) (sym e) (record {
-  own = λ k d l. absurd (omega (arith, l));
-  so_far = λ rest r. subst (λ m. AreAlive ps [] m rest) f r;
-})
 
 pub started_on : (ps : List Tree) (pattern : Tree) (states : Progress) (old new : List Alive) (i left : ℕ) → i + 1 ≡ left → i < length ps → pattern ≡ pattern_at ps i → AreStatesOf pattern states → StandsFor pattern states [] → new ≡ old ++ alive i states (wanted pattern states) ∷ [] → IsStarted ps old left → IsStarted ps new i
 started_on ps pattern states old new i left n l e made stands more s =

@@ -1,11 +1,10 @@
 -- The first of a list that fits is the last specification that does.
 use Rattle.std.proofs.Common.{◌≡◌, ◌∙◌, refl, sym, ap, subst, ℕ, zero, suc, ◌+◌, ◌<◌, ◌≤◌, inl, inr, Bool, true, false, cond, List, [], ◌∷◌, ◌++◌, length, get_or, drop, map, filter, Some, None, append-nil, arith}
-use Rattle.std.specs.Prelude.{◌&&◌}
-use Rattle.std.proofs.lemmas.Bool.{cases_lt}
+use Rattle.std.proofs.lemmas.Bool.{cases_lt, and_right}
 use Rattle.std.proofs.lemmas.List.{length-map}
 use Rattle.label_base.specs.Kind.{applies}
 use Rattle.label_base.specs.declared.kind.Asked.{Asked}
-use Rattle.pattern_match.proofs.Reading.{not_holds}
+use Rattle.pattern_match.proofs.Reading.{not_holds, less_opens}
 use Rattle.pattern_match.specs.States.{StandsFor}
 use Rattle.pattern_syntax.specs.Language.{In, Opens, holds}
 use Rattle.spec_match.specs.Alive.{Alive, AreAliveFrom, NoneAlive, alive_at, pattern_at}
@@ -14,7 +13,7 @@ use Rattle.spec_match.specs.LastMatch.{Fits, fits}
 use Rattle.spec_match.specs.Remembering.{IsAnswer}
 use Rattle.spec_match.specs.StatesFor.{patterns_of, spec_in}
 use Rattle.spec_match.specs.declared.rule.Rule.{Rule}
-use Rattle.spec_match.proofs.AliveLemmas.{bound_at, bound_next, covers_opens, less_opens, member_at, none_left, pattern_of_spec}
+use Rattle.spec_match.proofs.AliveLemmas.{bound_at, bound_next, covers_opens, member_at, none_left, pattern_of_spec}
 use Rattle.spec_match.proofs.LastLemmas.{found_index, found_member, found_decides, none_index, none_member, none_decides, none_past}
 use Rattle.spec_reader.specs.SpecValue.{SpecValue}
 
@@ -26,13 +25,9 @@ pattern_of_rule (r ∷ rules) (suc i) d l = pattern_of_rule rules i d (omega (ar
 pub count_rules : (rules : List Rule) → length (patterns_of rules) ≡ length rules
 count_rules rules = length-map rules (λ (r : Rule). r.spec.pattern)
 
-pub both_false : (x y : Bool) → y ≡ false → (x && y) ≡ false
-both_false true y e = e
-both_false false y e = refl
-
 -- what is dead behind a text doesn't fit it
 pub dead_fits : (asked : Asked) (text : List ℕ) (spec : SpecValue) → (Opens spec.pattern text → ⊥) → fits asked text spec ≡ false
-dead_fits asked text spec h = both_false (applies spec.kind asked) (holds spec.pattern text) (sym (not_holds spec.pattern text (holds spec.pattern text) refl h))
+dead_fits asked text spec h = and_right (applies spec.kind asked) (holds spec.pattern text) (sym (not_holds spec.pattern text (holds spec.pattern text) refl h))
 
 -- nor one that begins with it
 pub dead_behind : (asked : Asked) (front more : List ℕ) (spec : SpecValue) → (Opens spec.pattern front → ⊥) → fits asked (front ++ more) spec ≡ false
@@ -88,9 +83,6 @@ right front rules list floor = AreAliveFrom (patterns_of rules) front floor (len
 abbrev pub IsPassed : Asked → List ℕ → List ℕ → List Rule → List Alive → ℕ → Type 0
 IsPassed asked front text rules list k =
     (floor : ℕ) → right front rules list floor → NoneFits asked text rules (bound_at (length (patterns_of rules)) list k)
-
-pub none_passed : (asked : Asked) (front text : List ℕ) (rules : List Rule) (list : List Alive) → IsPassed asked front text rules list 0
-none_passed asked front text rules list floor h = past asked text rules (length (patterns_of rules)) (omega (arith, count_rules rules))
 
 -- lists that are right behind a front of the text, so that what is dead there doesn't fit the text
 module _ (asked : Asked) (front text : List ℕ) (dead : (spec : SpecValue) → (Opens spec.pattern front → ⊥) → fits asked text spec ≡ false) where

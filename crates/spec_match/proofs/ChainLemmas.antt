@@ -1,10 +1,12 @@
 -- The last specification that fits, by the chains of those whose literal start the text begins with.
 use Rattle.std.proofs.Common.{◌≡◌, ◌≢◌, ◌∙◌, refl, sym, ap, ap₂, subst, ℕ, zero, suc, ◌+◌, ◌<◌, ◌≤◌, ◌==◌, ◌⊎◌, inl, inr, Bool, true, false, List, [], ◌∷◌, ◌++◌, Option, None, Some, length, length-append, length-set, get_or, get_or-set_same, get_or-set_other, set, slice_index, take, map, eqb-true, eq-eqb, true≢false, arith}
-use Rattle.std.specs.Prelude.{◌&&◌, ◌||◌, slice_get, IfSome}
+use Rattle.std.specs.Prelude.{◌&&◌, ◌||◌, IfSome}
 use Rattle.std.proofs.Math.ListN.{get_or-append}
 use Rattle.std.proofs.Math.Seq.{take-append_seam}
-use Rattle.std.proofs.lemmas.Bool.{cases_lt}
+use Rattle.std.proofs.lemmas.Bool.{cases_lt, and_left}
 use Rattle.std.proofs.lemmas.List.{get_or_default, get_or_push, take_more}
+use Rattle.spec_match.proofs.LastLemmas.{at_place}
+use Rattle.std.specs.Cmp.{second_so}
 use Rattle.label_base.specs.Bounded.{any_below, greater, greatest_below, last_or_found}
 use Rattle.label_base.specs.declared.kind.Asked.{Asked}
 use Rattle.label_base.specs.Kind.{applies}
@@ -29,7 +31,7 @@ hashed_on hash (b ∷ text) byte = hashed_on (mixed hash b) text byte
 pub hashed_more : (text : List ℕ) (i : ℕ) (d : ℕ) → i < length text → hashed 0 (take (i + 1) text) ≡ mixed (hashed 0 (take i text)) (get_or text i d)
 hashed_more text i d l = ap (hashed 0) (take_more text i d l) ∙ hashed_on 0 (take i text) (get_or text i d)
 
-before_or_last : (i n : ℕ) → i < n + 1 → (i < n) ⊎ (n ≡ i)
+pub before_or_last : (i n : ℕ) → i < n + 1 → (i < n) ⊎ (n ≡ i)
 before_or_last i n l = elim (cases_lt i n) [ inl before ↦ inl before | inr after ↦ inr (omega (arith, after, l)) ]
 
 -- ---- chains are made
@@ -92,10 +94,6 @@ linked (Some j) i e = ap Some (omega (arith, e))
 unlinked : (found : Option ℕ) → 0 ≡ link found → found ≡ None
 unlinked None e = refl
 unlinked (Some j) e = absurd (omega (arith, e))
-
-and_left : (a b : Bool) → a ≡ false → (a && b) ≡ false
-and_left true b e = cc
-and_left false b e = refl
 
 and_here : (a b c : Bool) → a ≡ true → b ≡ c → (a && b) ≡ c
 and_here true b c e f = f
@@ -207,18 +205,9 @@ module _ (rules : List Rule) (count : ℕ) (text : List ℕ) (q : ℕ → Bool) 
 
 -- ---- what fits begins with its literal start
 
-and_right : (a b : Bool) → (a && b) ≡ true → b ≡ true
-and_right true b h = h
-and_right false b h = cc
-
-pub spec_at : (rules : List Rule) (i : ℕ) (d : Rule) → i < length rules → slice_get (map spec_in rules) i ≡ Some (spec_in (get_or rules i d))
-spec_at [] i d h = absurd (omega (arith, h))
-spec_at (r ∷ rules) zero d h = refl
-spec_at (r ∷ rules) (suc i) d h = spec_at rules i d (omega (arith, h))
-
 module _ (asked : Asked) (text : List ℕ) where
   pub fits_here : (rules : List Rule) (i : ℕ) (rule : Rule) → i < length rules → rule ≡ get_or rules i rule → fits_at asked text rules i ≡ fits asked text rule.spec
-  fits_here rules i rule l e = ap (does_fit asked text) (spec_at rules i rule l) ∙ ap (λ (r : Rule). fits asked text r.spec) (sym e)
+  fits_here rules i rule l e = ap (does_fit asked text) (at_place rules i rule l) ∙ ap (λ (r : Rule). fits asked text r.spec) (sym e)
 
   pub fits_from_here : (rules : List Rule) (at i : ℕ) (rule : Rule) → i < length rules → rule ≡ get_or rules i rule → fits_from at asked text rules i ≡ ((length (literal_start_of rule.spec.pattern) == at) && fits asked text rule.spec)
   fits_from_here rules at i rule l e =
@@ -228,7 +217,7 @@ module _ (asked : Asked) (text : List ℕ) where
   start_seen : (rules : List Rule) (count i : ℕ) (spec : SpecValue) → spec.pattern ≡ pattern_at (patterns_of rules) i → fits asked text spec ≡ true → is_seen rules count text (fits_at asked text rules) (suc (length text)) i ≡ true
   start_seen rules count i spec e t =
       let start = literal_start_of spec.pattern in
-      let held : holds spec.pattern text ≡ true = and_right (applies spec.kind asked) (holds spec.pattern text) t in
+      let held : holds spec.pattern text ≡ true = second_so (applies spec.kind asked) (holds spec.pattern text) t in
       let cut = (cut_behind_start spec.pattern text).0 ((holds_tells spec.pattern text).0 held) in
       let front : take (length start) text ≡ start = ap (take (length start)) cut.1 ∙ take-append_seam start cut.0 in
       let low : length start < suc (length text) = omega (arith, ap (λ (w : List ℕ). length w) cut.1, length-append start cut.0) in
@@ -244,17 +233,17 @@ module _ (asked : Asked) (text : List ℕ) where
       at [] i l t = absurd (omega (arith, l))
       at (r ∷ rs) i l t =
           start_seen (r ∷ rs) count i (spec_in (get_or (r ∷ rs) i r)) (pattern_of_rule (r ∷ rs) i r l)
-          (sym (ap (does_fit asked text) (spec_at (r ∷ rs) i r l)) ∙ t)
+          (sym (ap (does_fit asked text) (at_place (r ∷ rs) i r l)) ∙ t)
 
   none_at : (rules : List Rule) (d : Rule) (j : ℕ) → j < length rules → fits_at asked text rules j ≡ false → fits asked text (spec_in (get_or rules j d)) ≡ false
-  none_at rules d j l e = sym (ap (does_fit asked text) (spec_at rules j d l)) ∙ e
+  none_at rules d j l e = sym (ap (does_fit asked text) (at_place rules j d l)) ∙ e
 
   answered : (rules : List Rule) (d : Rule) (found : Option ℕ) → IsGreatest (length rules) (fits_at asked text rules) found → IsAnswer asked text (map spec_in rules) found
   answered rules d None g =
       none_answer asked text rules (none_back asked text rules 0 (length rules) d (omega arith) (λ j a b c. none_at rules d j c (g j c)) (past asked text rules (length rules) (omega arith)))
   answered rules d (Some i) g =
       let l : i < length rules = g.0 in
-      found_answer asked text rules i d l (sym (ap (does_fit asked text) (spec_at rules i d l)) ∙ g.1)
+      found_answer asked text rules i d l (sym (ap (does_fit asked text) (at_place rules i d l)) ∙ g.1)
       (none_back asked text rules (suc i) (length rules) d (omega (arith, l)) (λ j a b c. none_at rules d j c (g.2 j (omega (arith, a)) c)) (past asked text rules (length rules) (omega arith)))
 
   pub answer_by : (rules : List Rule) (found : Option ℕ) → found ≡ greatest_below (length rules) (fits_at asked text rules) → IsAnswer asked text (map spec_in rules) found

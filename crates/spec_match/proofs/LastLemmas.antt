@@ -1,6 +1,8 @@
 -- The last specification that fits, from the end.
 use Rattle.std.proofs.Common.{◌≡◌, ◌∙◌, sym, refl, ap, ℕ, suc, zero, ◌+◌, ◌<◌, ◌≤◌, Bool, true, false, cond, List, [], ◌∷◌, drop, length, get_or, map, arith}
-use Rattle.std.specs.Prelude.{◌&&◌, filter, Option, Some, None, slice_get, option_and_then}
+use Rattle.std.proofs.lemmas.Bool.{and_from}
+use Rattle.std.specs.Cmp.{first_so, second_so}
+use Rattle.std.specs.Prelude.{filter, Option, Some, None, slice_get, option_and_then}
 use Rattle.std.specs.List.{enumerate_from, last_or}
 use Rattle.label_base.specs.Kind.{applies}
 use Rattle.label_base.specs.declared.kind.Asked.{Asked}
@@ -24,18 +26,6 @@ by_first false n x pairs o k h = h o
 by_member : (v : Bool) (x : SpecValue) (o : Option SpecValue) (kept : List SpecValue) (y : SpecValue) → ((o' : Option SpecValue) → last_or o' kept ≡ Some y) → last_or o (cond v (x ∷ kept) kept) ≡ Some y
 by_member true x o kept y h = h (Some x)
 by_member false x o kept y h = h o
-
-and_first : (x y : Bool) → (x && y) ≡ true → x ≡ true
-and_first true y h = refl
-and_first false y h = cc
-
-and_second : (x y : Bool) → (x && y) ≡ true → y ≡ true
-and_second true y h = h
-and_second false y h = cc
-
-and_both : (x y : Bool) → x ≡ true → y ≡ true → (x && y) ≡ true
-and_both true y h k = k
-and_both false y h k = cc
 
 rest_none : (v : Bool) (x : SpecValue) (kept : List SpecValue) → cond v (x ∷ kept) kept ≡ [] → kept ≡ []
 rest_none true x kept h = cc
@@ -90,8 +80,8 @@ module _ (asked : Asked) (text : List ℕ) where
 
   fit_tells : (spec : SpecValue) → (fits asked text spec ≡ true → Fits asked text spec) × (Fits asked text spec → fits asked text spec ≡ true)
   fit_tells spec = (
-    λ e. (and_first (applies spec.kind asked) _ e, (holds_tells spec.pattern text).0 (and_second (applies spec.kind asked) _ e)),
-    λ f. and_both (applies spec.kind asked) _ f.0 ((holds_tells spec.pattern text).1 f.1),
+    λ e. (first_so (applies spec.kind asked) _ e, (holds_tells spec.pattern text).0 (second_so (applies spec.kind asked) _ e)),
+    λ f. and_from (applies spec.kind asked) _ f.0 ((holds_tells spec.pattern text).1 f.1),
   )
 
   none_fits : (specs : List SpecValue) → filter (fits asked text) specs ≡ [] → (j : ℕ) (spec : SpecValue) → slice_get specs j ≡ Some spec → Fits asked text spec → ⊥

@@ -1,7 +1,7 @@
 -- Members, and the words of their marks.
 use Rattle.std.proofs.Common.{◌≡◌, ◌∙◌, refl, sym, ap, ap₂, subst, ℕ, zero, suc, ◌+◌, ◌<◌, ◌≤◌, List, [], ◌∷◌, ◌++◌, Option, length, length-drop, length-take, get_or, take, drop, map, arith}
 use Rattle.std.proofs.Math.Seq.{drop-append_seam}
-use Rattle.std.proofs.lemmas.List.{take-append-le, drop-append-le, take_all, take-append-drop}
+use Rattle.std.proofs.lemmas.List.{take-append-le, drop-append-le, take_all, take-append-drop, map_push}
 use Rattle.pattern_match.specs.States.{progress}
 use Rattle.spec_match.specs.Alive.{alive}
 use Rattle.spec_match.specs.Members.{AreLaidOut, alive_in}
@@ -31,10 +31,6 @@ all_kept words more end at (m ∷ ms) l h =
     ap₂ (λ x xs. x ∷ xs)
     (ap (λ marks. alive m.index (progress m.seen marks) m.wants) (kept words more m.start m.width (omega (arith, h.0, laid_end end (at + m.width) ms h.1))))
     (all_kept words more end (at + m.width) ms l h.1)
-
-map_push : {X Y : Type 0} (f : X → Y) (xs : List X) (x : X) → map f (xs ++ x ∷ []) ≡ map f xs ++ f x ∷ []
-map_push f [] x = refl
-map_push f (y ∷ xs) x = ap (λ ys. f y ∷ ys) (map_push f xs x)
 
 last : (words more : List ℕ) (start len : ℕ) → start ≡ length words → len ≡ length more → take len (drop start (words ++ more)) ≡ more
 last words more start len e f = rw (e, f, drop-append_seam words more) (take_all (length more) more (omega arith))

@@ -1,5 +1,5 @@
 -- The specifications that can decide at or below a path.
-use Rattle.std.proofs.Common.{◌≡◌, ◌∙◌, refl, sym, ap, subst, ℕ, zero, suc, ◌+◌, ◌-◌, ◌<◌, ◌≤◌, ◌==◌, Bool, true, false, cond, List, [], ◌∷◌, ◌++◌, drop, length, get_or, map, filter, append_assoc, append-nil, arith}
+use Rattle.std.proofs.Common.{◌≡◌, ◌∙◌, refl, sym, ap, subst, ℕ, zero, suc, ◌+◌, ◌-◌, ◌<◌, ◌≤◌, Bool, true, false, cond, List, [], ◌∷◌, ◌++◌, drop, length, get_or, map, filter, append_assoc, append-nil, arith}
 use Rattle.std.proofs.lemmas.List.{get_or_default}
 use Rattle.std.specs.List.{enumerate_from}
 use Rattle.file_paths.specs.Path.{Path, path_text}
@@ -75,10 +75,6 @@ no_names (name ∷ names) e = cc
 pub some_names : (path : Path) → false ≡ is_root_path path → length path ≡ 0 → ⊥
 some_names [] e h = cc
 some_names (name ∷ names) e h = omega arith
-
-pub root_test : (path : Path) (n : ℕ) → n ≡ length path → (n == 0) ≡ is_root_path path
-root_test [] n e = rw e refl
-root_test (name ∷ names) n e = let p : length (name ∷ names) ≡ suc (length names) = refl in grind arith
 
 -- what is dead behind the path's text can't decide
 pub dead_decides : (path : Path) (spec : SpecValue) → (Opens spec.pattern (path_text path) → ⊥) → can_decide path spec ≡ false

@@ -1,8 +1,8 @@
 -- The states for specifications with their matchers are those for the specifications.
-use Rattle.std.proofs.Common.{◌≡◌, ◌≢◌, ◌∙◌, sym, refl, ap, subst, ℕ, zero, suc, ◌+◌, ◌<◌, ◌==◌, Bool, true, false, true≢false, eqb-true, eq-eqb, set, length-set, get_or-set_same, get_or-set_other, ◌⊎◌, inl, inr, List, [], ◌∷◌, ◌++◌, map, take, take-suc, length, length-append, get_or, add-one, arith}
+use Rattle.std.proofs.Common.{◌≡◌, ◌≢◌, ◌∙◌, sym, refl, ap, subst, ℕ, zero, suc, ◌+◌, ◌<◌, ◌==◌, Bool, true, false, true≢false, eqb-true, eq-eqb, set, length-set, get_or-set_same, get_or-set_other, inl, inr, List, [], ◌∷◌, ◌++◌, map, take, take-suc, length, length-append, get_or, add-one, arith}
 use Rattle.std.proofs.Math.ListN.{get_or-append}
-use Rattle.std.proofs.lemmas.Bool.{cases_lt}
 use Rattle.std.proofs.lemmas.List.{get_or_default, get_or_push, length-map}
+use Rattle.spec_match.proofs.ChainLemmas.{before_or_last}
 use Rattle.pattern_match.specs.States.{AreStatesOf, Progress}
 use Rattle.pattern_syntax.specs.Tree.{Tree, Nothing}
 use Rattle.spec_match.specs.StatesFor.{AreStatesFor, no_progress, pattern_in, patterns_of, spec_in}
@@ -49,13 +49,10 @@ module _ (rules : List Rule) (specs : List SpecValue) (same : map spec_in rules 
   unfolding StandsAt
   stands_by carried path at = (at.0, subst (λ ps. AreAlive ps (path_text path) (length ps) carried.alive) (sym patterns_same) at.1)
 
-at_or_before : (k n : ℕ) → k < n + 1 → (k < n) ⊎ (n ≡ k)
-at_or_before k n h = elim (cases_lt k n) [ inl below ↦ inl below | inr above ↦ inr (omega arith) ]
-
 one_more : (patterns : List Tree) (pattern : Tree) (states : List Progress) (new : Progress) → AreStatesFor patterns states → AreStatesOf pattern new → AreStatesFor (patterns ++ pattern ∷ []) (states ++ new ∷ [])
 one_more patterns pattern states new own this = record {
   count = length-append states (new ∷ []) ∙ ap (λ n. n + 1) own.count ∙ sym (length-append patterns (pattern ∷ []));
-  own = λ k below. elim (at_or_before k (length patterns) (omega (arith, length-append patterns (pattern ∷ [])))) [
+  own = λ k below. elim (before_or_last k (length patterns) (omega (arith, length-append patterns (pattern ∷ [])))) [
     | inl before ↦ rw (get_or-append patterns (pattern ∷ []) Nothing k before, get_or-append states (new ∷ []) no_progress k (omega (arith, own.count))) (own.own k before)
     | inr last ↦ rw (get_or_push patterns pattern Nothing k last, get_or_push states new no_progress k (own.count ∙ last)) this
   ];

@@ -1,9 +1,9 @@
 -- What is remembered stays right while lists are added and entries are noted.
-use Rattle.std.proofs.Common.{◌≡◌, ◌≢◌, ◌∙◌, sym, refl, ap, subst, ℕ, zero, suc, ◌+◌, ◌-◌, ◌*◌, ◌/◌, ◌%◌, ◌<◌, ◌≤◌, ◌==◌, ◌⊎◌, inl, inr, Bool, true, false, List, [], ◌∷◌, ◌++◌, Option, append-nil, length, length-append, length-set, get_or, get_or-set_same, get_or-set_other, set, slice_index, replicate, eqb-true, eq-eqb, true≢false, arith}
+use Rattle.std.proofs.Common.{◌≡◌, ◌≢◌, ◌∙◌, sym, refl, ap, subst, ℕ, zero, suc, ◌+◌, ◌-◌, ◌*◌, ◌/◌, ◌%◌, ◌<◌, ◌≤◌, ◌==◌, inl, inr, Bool, true, false, List, [], ◌∷◌, ◌++◌, Option, append-nil, length, length-append, length-set, get_or, get_or-set_same, get_or-set_other, set, slice_index, replicate, eqb-true, eq-eqb, true≢false, arith}
 use Rattle.std.proofs.Math.ListN.{get_or-append}
-use Rattle.std.proofs.lemmas.Bool.{cases_lt}
 use Rattle.std.proofs.lemmas.List.{get_or_default, get_or_push, length-replicate}
-use Rattle.std.specs.List.{All, slice_index_or}
+use Rattle.spec_match.proofs.ChainLemmas.{before_or_last}
+use Rattle.std.specs.List.{All}
 use Rattle.label_base.specs.declared.kind.Asked.{Asked}
 use Rattle.label_base.specs.declared.kind.Asked.TheVariants.{Any, Of}
 use Rattle.label_base.specs.declared.kind.EntryKind.TheVariants.{Regular, Directory, Link, Pipe, Socket, Block, Char, Other}
@@ -75,9 +75,6 @@ nothing_kept ps specs cuts = record {
   stays = λ i l. absurd (omega (arith, l));
 }
 
-before_or_last : (i n : ℕ) → i < n + 1 → (i < n) ⊎ (n ≡ i)
-before_or_last i n l = elim (cases_lt i n) [ inl before ↦ inl before | inr after ↦ inr (omega (arith, after, l)) ]
-
 own_more : (ps : List Tree) (lists : List (List Alive)) (new : List Alive) → ((i : ℕ) → i < length lists → All (IsOwn ps) (list_of lists i)) → All (IsOwn ps) new → (i : ℕ) → i < length (lists ++ new ∷ []) → All (IsOwn ps) (list_of (lists ++ new ∷ []) i)
 own_more ps lists new own this i l = elim (before_or_last i (length lists) (omega (arith, l, length-append lists (new ∷ [])))) [
   | inl before ↦ subst (All (IsOwn ps)) (sym (list_kept lists (new ∷ []) i before)) (own i before)
@@ -93,17 +90,6 @@ stays_more IsFor lists new row n s i l e = elim (before_or_last i (length lists)
   | inl before ↦ subst (Stays IsFor) (sym (list_kept lists (new ∷ []) i before)) (s i before (sym (get_or-append row (false ∷ []) false i (omega (arith, n, before))) ∙ e))
   | inr here ↦ absurd (true≢false (sym e ∙ get_or_push row false false i (n ∙ here)))
 ]
-
-stays_set : (IsFor : List ℕ → List Alive → Type 0) (lists : List (List Alive)) (row : List Bool) (number : ℕ) (flag : Bool) → number < length row → (flag ≡ true → Stays IsFor (list_of lists number)) → AreStaying IsFor lists row → AreStaying IsFor lists (set row number flag)
-stays_set IsFor lists row number flag w this s i l e = at (i == number) refl
-  where
-    at : (same : Bool) → (i == number) ≡ same → Stays IsFor (list_of lists i)
-    at true t =
-        let same : i ≡ number = eqb-true i number t in
-        subst (λ k. Stays IsFor (list_of lists k)) (sym same) (this (sym (get_or-set_same row number flag false w) ∙ ap (λ k. slice_index_or (set row number flag) k false) (sym same) ∙ e))
-    at false t =
-        let other : i ≢ number = λ same. true≢false (sym (eq-eqb i number same) ∙ t) in
-        s i l (sym (get_or-set_other row number i flag false other) ∙ e)
 
 pub added : (ps : List Tree) (specs : List SpecValue) (k : Kept) (new : List Alive) → IsTableOf ps specs k → All (IsOwn ps) new → (length k.lists ≡ 0 → AreAlive ps [] (length ps) new) → IsTableOf ps specs (with_list k new)
 added ps specs k new t own first = record {
@@ -130,18 +116,6 @@ step_noted ps specs k from byte to t f b o leads = record {
   answers = t.answers;
   stays_rows = t.stays_rows;
   stays = t.stays;
-}
-
-pub stays_noted : (ps : List Tree) (specs : List SpecValue) (k : Kept) (number : ℕ) (flag : Bool) → IsTableOf ps specs k → number < length k.lists → (flag ≡ true → Stays (IsListed k.cuts ps specs) (list_of k.lists number)) → IsTableOf ps specs (kept k.cuts k.lists k.next k.answers (set k.stays number flag))
-stays_noted ps specs k number flag t l this = record {
-  own = t.own;
-  first = t.first;
-  rows = t.rows;
-  answer_rows = t.answer_rows;
-  steps = t.steps;
-  answers = t.answers;
-  stays_rows = length-set k.stays number flag ∙ t.stays_rows;
-  stays = stays_set (IsListed k.cuts ps specs) k.lists k.stays number flag (omega (arith, t.stays_rows, l)) this t.stays;
 }
 
 -- what the flag of a list tells

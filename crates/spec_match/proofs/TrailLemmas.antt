@@ -1,9 +1,9 @@
 -- The trail of the text that was read last.
-use Rattle.std.proofs.Common.{◌≡◌, ◌∙◌, refl, sym, ap, subst, ℕ, zero, suc, ◌+◌, ◌-◌, ◌*◌, ◌<◌, ◌≤◌, ◌⊎◌, inl, inr, min, Bool, true, false, List, [], ◌∷◌, ◌++◌, length, length-drop, length-take, length-set, get_or, get_or-set_same, get_or-set_other, set, slice_index, take, drop, if◌then◌else◌, nat_lt, arith}
+use Rattle.std.proofs.Common.{◌≡◌, ◌∙◌, refl, sym, ap, subst, ℕ, zero, suc, ◌+◌, ◌-◌, ◌*◌, ◌<◌, ◌≤◌, inl, inr, min, Bool, true, false, List, [], ◌∷◌, ◌++◌, length, length-drop, length-take, length-set, get_or, get_or-set_same, get_or-set_other, set, slice_index, take, drop, if◌then◌else◌, nat_lt, arith}
 use Rattle.std.proofs.Math.Seq.{take-add}
-use Rattle.std.proofs.lemmas.Bool.{cases_lt}
 use Rattle.std.proofs.lemmas.Bool.Decides.{nat_tests}
 use Rattle.std.proofs.lemmas.List.{get_or-drop, take_all, take-append-drop}
+use Rattle.spec_match.proofs.ChainLemmas.{before_or_last}
 use Rattle.pattern_match.specs.Onwards.{AreTextBytes}
 use Rattle.spec_match.specs.Alive.{Alive, list_of}
 use Rattle.spec_match.specs.Listed.{Stays}
@@ -73,9 +73,6 @@ begun IsFor lists text old new n known room inside same some first lists_are kno
 
 noted_at : (numbers : List ℕ) (i v k : ℕ) → k < i → slice_index (set numbers i v) k ≡ slice_index numbers k
 noted_at numbers i v k l = get_or-set_other numbers i k v 0 (λ e. omega (arith, l, e))
-
-before_or_last : (i n : ℕ) → i < n + 1 → (i < n) ⊎ (n ≡ i)
-before_or_last i n l = elim (cases_lt i n) [ inl before ↦ inl before | inr after ↦ inr (omega (arith, after, l)) ]
 
 -- the text is read by a byte more, whose list is noted where there is room for it
 pub read_more_by : (IsFor : List ℕ → List Alive → Type 0) (lists : List (List Alive)) (text old new : List ℕ) (i list : ℕ) (has_room : Bool)

@@ -1,4 +1,4 @@
-ghost use Rattle.std.specs.Prelude.{◌≡◌, ◌<◌, ◌^◌, ◌++◌, ◌∷◌, [], false, true, IfOk, IfSome, OnOk, length, map};
+ghost use Rattle.std.specs.Prelude.{◌≡◌, ◌<◌, ◌^◌, ◌++◌, ◌∷◌, [], false, IfOk, IfSome, OnOk, length, map};
 ghost use Rattle.std.specs.List.{All};
 ghost use Rattle.file_paths.specs.Path.{Path, path_text};
 ghost use Rattle.pattern_match.specs.States.{AreStatesOf, StandsFor};

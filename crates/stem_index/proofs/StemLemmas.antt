@@ -1,7 +1,7 @@
 -- Candidates by the greatest of those that are left.
 use Rattle.std.proofs.Common.{◌≡◌, ◌∙◌, ap, ap₂, sym, refl, subst, ℕ, zero, suc, ◌<◌, ◌≤◌, ◌^◌, ◌-◌, Bool, true, false, cond, ◌==◌, List, [], ◌∷◌, ◌++◌, length, get_or, arith, length-append, ◌⊎◌, inl, inr}
 use Rattle.std.specs.Prelude.{Option, Some, None, IfSome, ◌&&◌, ◌||◌, not}
-use Rattle.std.proofs.lemmas.Bool.{cases_lt, eqb-true, true≢false}
+use Rattle.std.proofs.lemmas.Bool.{cases_lt, eqb-true, true≢false, or_parts}
 use Rattle.std.proofs.lemmas.List.{get_or_append_left}
 use Rattle.std.proofs.Math.Seq.{get_or-append_seam}
 use Rattle.std.proofs.lemmas.Slice.Eq.{bytes_eq-Decides}
@@ -29,14 +29,6 @@ found_case stems name n o false h = h
 by_greatest : (stems : List (List ℕ)) (name : List ℕ) (n : ℕ) → candidates_below stems n name ≡ from_found stems name (greatest_below n (λ i. fits name (stem_at stems i)))
 by_greatest stems name zero = refl
 by_greatest stems name (suc n) = found_case stems name n (greatest_below n (λ i. fits name (stem_at stems i))) (fits name (stem_at stems n)) (by_greatest stems name n)
-
-or_first : (a b : Bool) → (a || b) ≡ false → a ≡ false
-or_first true b h = cc
-or_first false b h = refl
-
-or_second : (a b : Bool) → (a || b) ≡ false → b ≡ false
-or_second true b h = cc
-or_second false b h = h
 
 module _ (stems : List (List ℕ)) (name : List ℕ) (bound : ℕ) (free own : Option ℕ) (heads : AreHeads stems name bound free own) where
   greatest_is : greater free own ≡ greatest_below bound (λ i. fits name (stem_at stems i))
@@ -89,14 +81,14 @@ module _ (stems : List (List ℕ)) (name : List ℕ) (bound : ℕ) (free own : O
       within = omega (arith, heads.within, within k found);
       free_is = e ∙ ap (last_with stems k) (empty_is (stem_at stems k) h);
       own_is = heads.own_is ∙ greatest_shrinks bound k (λ i. is_stem name (stem_at stems i)) (omega (arith, within k found))
-          (from_k (λ i. is_stem name (stem_at stems i)) (none_then_own (stem_at stems k) h) (λ j a b. or_second (is_none (stem_at stems j)) (is_stem name (stem_at stems j)) (none_above j a b)));
+          (from_k (λ i. is_stem name (stem_at stems i)) (none_then_own (stem_at stems k) h) (λ j a b. (or_parts (is_none (stem_at stems j)) (is_stem name (stem_at stems j)) (none_above j a b)).1));
     }
 
     pub below_own : (before : Option ℕ) → is_none (stem_at stems k) ≡ false → before ≡ last_with stems k (stem_at stems k) → AreHeads stems name k free before
     below_own before h e = record {
       within = omega (arith, heads.within, within k found);
       free_is = heads.free_is ∙ greatest_shrinks bound k (λ i. is_none (stem_at stems i)) (omega (arith, within k found))
-          (from_k (λ i. is_none (stem_at stems i)) h (λ j a b. or_first (is_none (stem_at stems j)) (is_stem name (stem_at stems j)) (none_above j a b)));
+          (from_k (λ i. is_none (stem_at stems i)) h (λ j a b. (or_parts (is_none (stem_at stems j)) (is_stem name (stem_at stems j)) (none_above j a b)).0));
       own_is = e ∙ greatest_agree k (λ i. same_bytes (stem_at stems k) (stem_at stems i)) (λ i. is_stem name (stem_at stems i))
           (λ j l. same_own (stem_at stems k) (stem_at stems j) h (own_is (stem_at stems k) h fits_it));
     }
@@ -141,15 +133,6 @@ module _ (stems : List (List ℕ)) (stem : List ℕ) where
         links = λ i l. links_by before earlier i kept.sized kept.links (r ∙ kept.last stem) (below_or_last (length stems) i (omega (arith, l, count)));
         few = omega (arith, count, few);
       }
-
--- nothing is kept
-pub kept_none : {A : Type 0} → IsKept {A = A} [] [] []
-kept_none = record {
-  last = λ s. refl;
-  sized = refl;
-  links = λ i l. absurd (omega (arith, l));
-  few = omega arith;
-}
 
 -- ---- the heads of all texts
 

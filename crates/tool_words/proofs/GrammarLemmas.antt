@@ -88,10 +88,6 @@ any_operand tool first index word f =
     ap (λ v. cond v ([], ahead Operands first) (cond (is_cluster word) (letters_taken first (letters_say tool index (drop 1 word))) (operand_taken tool Any first index word))) (not_end word (end_is_cluster word f))
     ∙ ap (λ v. cond v (letters_taken first (letters_say tool index (drop 1 word))) (operand_taken tool Any first index word)) f
 
--- what the words say from a word on that was taken so
-from_taken : (tool : Tool) (index : ℕ) (words : List (List ℕ)) → Taken → List Item
-from_taken tool index words t = t.0 ++ items_from tool t.1 (index + 1) words
-
 any_from : (tool : Tool) (first : Bool) (index : ℕ) (word : List ℕ) (words : List (List ℕ)) (t : Taken) → any_taken tool first index word ≡ t → items_from tool (ahead Any first) index (word ∷ words) ≡ t.0 ++ items_from tool t.1 (index + 1) words
 unfolding items_from
 any_from tool first index word words t e = ap (λ (u : Taken). u.0 ++ items_from tool u.1 (index + 1) words) e

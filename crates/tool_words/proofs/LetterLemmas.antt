@@ -1,12 +1,11 @@
 -- One letter more, and that letters are bytes of ASCII.
 use Rattle.std.proofs.Common.{◌≡◌, ◌∙◌, Bool, inl, inr, ap, sym, refl, subst, ℕ, ◌<◌, ◌≤◌, true, false, cond, List, [], ◌∷◌, ◌++◌, length, drop, get_or, append_assoc, arith}
-use Rattle.std.specs.Prelude.{◌⊎◌, ◌==◌, nat_lt, ◌&&◌, ◌||◌}
+use Rattle.std.specs.Prelude.{◌⊎◌, ◌==◌, nat_lt, ◌||◌}
 use Rattle.std.specs.List.{list_all}
-use Rattle.std.proofs.lemmas.Bool.{eqb-true, ltb-true}
-use Rattle.tool_words.specs.Items.{Item, flag, is_cluster, letters_say, with_letter}
+use Rattle.std.proofs.lemmas.Bool.{eqb-true, ltb-true, and_parts}
+use Rattle.tool_words.specs.Items.{Item, flag, letters_say, with_letter}
 use Rattle.tool_words.specs.Tools.{flags_of, is_among, letter_of, valued_of}
 use Rattle.tool_words.specs.declared.cutting.Expects.TheVariants.{Any}
-use Rattle.tool_words.specs.declared.cutting.TheConstants.{DASH}
 use Rattle.tool_words.specs.declared.tool.Letter.{Letter}
 use Rattle.tool_words.specs.declared.tool.Letter.TheVariants.{Alone, WithValue, Unknown}
 use Rattle.tool_words.specs.declared.tool.Tool.{Tool}
@@ -42,14 +41,10 @@ same_or x b any same later h =
       | false ↦ λ _ rest. later rest
     ] refl h
 
-both : (p q : Bool) → (p && q) ≡ true → (p ≡ true) × (q ≡ true)
-both true q h = (refl, h)
-both false q h = absurd (cc)
-
 among_ascii : (letters : List ℕ) (b : ℕ) → list_all (λ x. nat_lt x 128) letters ≡ true → is_among letters b ≡ true → b < 128
 among_ascii [] b all any = cc
 among_ascii (x ∷ xs) b all any =
-    let parts = both (nat_lt x 128) (list_all (λ x. nat_lt x 128) xs) all in
+    let parts = and_parts (nat_lt x 128) (list_all (λ x. nat_lt x 128) xs) all in
     same_or x b (is_among xs b) (λ e. subst (λ y. y < 128) e (ltb-true x 128 parts.0)) (among_ascii xs b parts.1) any
 
 flags_ascii : (tool : Tool) → list_all (λ x. nat_lt x 128) (flags_of tool) ≡ true
@@ -80,14 +75,3 @@ alone_ascii tool b h = elim (option_ascii tool b) [ inl e ↦ absurd (cc) | inr 
 
 pub valued_letter_ascii : (tool : Tool) (b : ℕ) → letter_of tool b ≡ WithValue → b < 128
 valued_letter_ascii tool b h = elim (option_ascii tool b) [ inl e ↦ absurd (cc) | inr l ↦ l ]
-
--- a word of letters begins with a dash
-pub cluster_some : (word : List ℕ) → is_cluster word ≡ true → 0 < length word
-cluster_some [] h = absurd (cc)
-cluster_some (b ∷ []) h = omega arith
-cluster_some (b ∷ c ∷ bs) h = omega arith
-
-pub cluster_ascii : (word : List ℕ) → is_cluster word ≡ true → get_or word 0 0 < 128
-cluster_ascii [] h = absurd (cc)
-cluster_ascii (b ∷ []) h = absurd (cc)
-cluster_ascii (b ∷ c ∷ bs) h = subst (λ y. y < 128) (sym (eqb-true b DASH h)) (omega arith)

@@ -1,9 +1,10 @@
 -- What the words say stands in them, and the first that is wrong is so.
-use Rattle.std.proofs.Common.{◌≡◌, ◌∙◌, Bool, inl, inr, ap, sym, refl, subst, ℕ, ◌+◌, ◌-◌, ◌<◌, true, false, cond, List, [], ◌∷◌, ◌++◌, length, drop, append_assoc, length-append, arith}
+use Rattle.std.proofs.Common.{◌≡◌, ◌∙◌, Bool, inl, inr, ap, sym, refl, subst, ℕ, ◌+◌, ◌-◌, ◌<◌, true, false, cond, List, [], ◌∷◌, ◌++◌, length, drop, append_assoc, arith}
 use Rattle.std.specs.Prelude.{◌⊎◌, ◌≢◌, ◌↔◌, ⊤, ◌==◌, nat_le, not, Some, None, Result, Ok, Err, slice_get}
 use Rattle.std.specs.List.{AllByRecursion, cons_option, filter_map}
-use Rattle.std.specs.Option.{unwrap_or}
-use Rattle.std.proofs.lemmas.Bool.{eqb-false, eqb-true, leb-false, lt-leb}
+use Rattle.std.proofs.lemmas.Bool.{eqb-false, eqb-true, leb-false, lt-leb, ne_eqb}
+use Rattle.std.proofs.lemmas.Option.{same_Some}
+use Rattle.std.proofs.lemmas.List.{length_push}
 use Rattle.label_base.specs.Lines.{first_of}
 use Rattle.label_base.specs.Number.{number_of}
 use Rattle.label_base.specs.Text.{same_bytes}
@@ -43,9 +44,6 @@ all_middle P (z ∷ xs) x ys a = all_middle P xs x ys a.1
 at_end : (before : List (List ℕ)) (word : List ℕ) (words : List (List ℕ)) → slice_get (before ++ word ∷ words) (length before) ≡ Some word
 at_end [] word words = refl
 at_end (w ∷ before) word words = at_end before word words
-
-length_before : (before : List (List ℕ)) (word : List ℕ) → length (before ++ word ∷ []) ≡ length before + 1
-length_before before word = length-append before (word ∷ [])
 
 -- ---- the letters of a word
 
@@ -137,7 +135,7 @@ missing_stands tool all before last index (ValueOf letter) e i h =
         word = last;
         found = ap (λ ws. slice_get ws (index - 1)) e ∙ ap (slice_get (before ++ last ∷ [])) here ∙ at_end before last [];
         stands = (letter, h.0, h.1);
-        last = ap (λ n. n + 1) here ∙ sym (length_before before last) ∙ ap length (sym e);
+        last = ap (λ n. n + 1) here ∙ sym (length_push before last) ∙ ap length (sym e);
       },
       tt,
     )
@@ -149,7 +147,7 @@ unfolding items_from
 items_stand tool a all before last [] index e i h = missing_stands tool all before last index a.expects e i h
 items_stand tool a all before last (word ∷ words) index e i h =
     let longer : all ≡ (before ++ last ∷ []) ++ word ∷ words = e ∙ sym (append_assoc before (last ∷ []) (word ∷ words)) in
-    let here : index ≡ length (before ++ last ∷ []) = i ∙ sym (length_before before last) in
+    let here : index ≡ length (before ++ last ∷ []) = i ∙ sym (length_push before last) in
     let found : slice_get all index ≡ Some word = ap (λ ws. slice_get ws index) longer ∙ ap (slice_get ((before ++ last ∷ []) ++ word ∷ words)) here ∙ at_end (before ++ last ∷ []) word words in
     let t = word_stands tool all index word found a.expects a.first in
     all_join (IsThere tool all) (taken tool a index word).0 (items_from tool (taken tool a index word).1 (index + 1) words) t.0
@@ -160,39 +158,33 @@ all_there tool word words = items_stand tool _ (word ∷ words) [] word words 1 
 
 -- ---- what is wrong
 
-some_same : {A : Type 0} (x y : A) → Some x ≡ Some y → x ≡ y
-some_same x y e = ap (λ o. unwrap_or o x) e
-
 no_path : (text : List ℕ) (why : UsageWhy) → path_wrong (path_read text) ≡ Some why → (BadPath ≡ why) × IsNoPath text
 no_path text why h =
     elim (path_read text) as (λ r. path_read text ≡ r → path_wrong r ≡ Some why → (BadPath ≡ why) × IsNoPath text) [
       | Ok path ↦ λ e k. absurd (cc)
-      | Err fault ↦ λ e k. (some_same BadPath why k, λ path is. let both : Err fault ≡ Ok path = sym e ∙ is in cc)
+      | Err fault ↦ λ e k. (same_Some BadPath why k, λ path is. let both : Err fault ≡ Ok path = sym e ∙ is in cc)
     ] refl h
-
-past_most : (most n : ℕ) → nat_le n most ≡ false → most < n
-past_most most n f = leb-false n most f
 
 number_bad : (most : ℕ) (text : List ℕ) (why : UsageWhy) → unless_some BadNumber (up_to most (number_of text)) ≡ Some why → (BadNumber ≡ why) × IsPast most text
 number_bad most text why h =
     elim (number_of text) as (λ r. number_of text ≡ r → unless_some BadNumber (up_to most r) ≡ Some why → (BadNumber ≡ why) × IsPast most text) [
-      | None ↦ λ e k. (some_same BadNumber why k, λ n is. let both : None ≡ Some n = sym e ∙ is in absurd (cc))
+      | None ↦ λ e k. (same_Some BadNumber why k, λ n is. let both : None ≡ Some n = sym e ∙ is in absurd (cc))
       | Some m ↦ λ e k.
           elim (nat_le m most) as (λ v. nat_le m most ≡ v → unless_some BadNumber (cond v (Some m) None) ≡ Some why → (BadNumber ≡ why) × IsPast most text) [
             | true ↦ λ t l. absurd (cc)
-            | false ↦ λ f l. (some_same BadNumber why l, λ n is. subst (λ o. most < o) (some_same m n (sym e ∙ is)) (past_most most m f))
+            | false ↦ λ f l. (same_Some BadNumber why l, λ n is. subst (λ o. most < o) (same_Some m n (sym e ∙ is)) (leb-false m most f))
           ] refl k
     ] refl h
 
 kind_bad : (text : List ℕ) (why : UsageWhy) → unless_some BadKind (kind_named text) ≡ Some why → (BadKind ≡ why) × (kind_named text ≡ None)
 kind_bad text why h =
     elim (kind_named text) as (λ r. kind_named text ≡ r → unless_some BadKind r ≡ Some why → (BadKind ≡ why) × (kind_named text ≡ None)) [
-      | None ↦ λ e k. (some_same BadKind why k, e)
+      | None ↦ λ e k. (same_Some BadKind why k, e)
       | Some kind ↦ λ e k. absurd (cc)
     ] refl h
 
 name_bad : (text : List ℕ) (why : UsageWhy) → name_wrong text ≡ Some why → (BadPath ≡ why) × (text ≡ [])
-name_bad [] why h = (some_same BadPath why h, refl)
+name_bad [] why h = (same_Some BadPath why h, refl)
 name_bad (b ∷ bs) why h = absurd (cc)
 
 count_bad : (letter : ℕ) (text : List ℕ) (why : UsageWhy) → letter ≢ WORKERS → letter ≢ ASKED → letter ≢ EXCLUDED → cond (letter == COUNT) (unless_some BadNumber (count_named text)) (name_wrong text) ≡ Some why → IsBad (Given letter) text why
@@ -225,13 +217,13 @@ said_bad : (says : Says) (text : List ℕ) (why : UsageWhy) → says_wrong says 
 said_bad (Flag letter) text why h = absurd (cc)
 said_bad (Given letter) text why h = value_bad letter text why h
 said_bad Operand text why h = let bad = no_path text why h in subst (λ w. IsBad Operand text w) bad.0 bad.1
-said_bad (Wrong other) text why h = some_same other why h
+said_bad (Wrong other) text why h = same_Some other why h
 
 item_bad : (item : Item) (wrong : Usage) → item_wrong item ≡ Some wrong → (item.index ≡ wrong.index) × IsBad item.says item.text wrong.why
 item_bad item wrong h =
     elim (says_wrong item.says item.text) as (λ r. says_wrong item.says item.text ≡ r → at_index item.index r ≡ Some wrong → (item.index ≡ wrong.index) × IsBad item.says item.text wrong.why) [
       | None ↦ λ e k. absurd (cc)
-      | Some why ↦ λ e k. subst (λ (u : Usage). (item.index ≡ u.index) × IsBad item.says item.text u.why) (some_same _ wrong k) (refl, said_bad item.says item.text why e)
+      | Some why ↦ λ e k. subst (λ (u : Usage). (item.index ≡ u.index) × IsBad item.says item.text u.why) (same_Some _ wrong k) (refl, said_bad item.says item.text why e)
     ] refl h
 
 -- ---- the first that is wrong
@@ -267,10 +259,10 @@ end_lacks : (tool : Tool) (items : List Item) (count : ℕ) (wrong : Usage) → 
 unfolding end_wrong
 end_lacks tool items count wrong h =
     elim (has_operand tool items) as (λ v. has_operand tool items ≡ v → cond (not v) (Some (usage count MissingOperand)) (cond (lacks_output tool items) (Some (usage count NoOutput)) None) ≡ Some wrong → (wrong.index ≡ count) × Lacks tool items wrong.why) [
-      | false ↦ λ f k. subst (λ (u : Usage). (u.index ≡ count) × Lacks tool items u.why) (some_same _ wrong k) (refl, f)
+      | false ↦ λ f k. subst (λ (u : Usage). (u.index ≡ count) × Lacks tool items u.why) (same_Some _ wrong k) (refl, f)
       | true ↦ λ t k.
           elim (lacks_output tool items) as (λ v. lacks_output tool items ≡ v → cond v (Some (usage count NoOutput)) None ≡ Some wrong → (wrong.index ≡ count) × Lacks tool items wrong.why) [
-            | true ↦ λ l m. subst (λ (u : Usage). (u.index ≡ count) × Lacks tool items u.why) (some_same _ wrong m) (refl, (t, l))
+            | true ↦ λ l m. subst (λ (u : Usage). (u.index ≡ count) × Lacks tool items u.why) (same_Some _ wrong m) (refl, (t, l))
             | false ↦ λ _ m. absurd (cc)
           ] refl k
     ] refl h
@@ -324,13 +316,6 @@ refusal_is_wrong (word ∷ words) wrong h =
 
 -- ---- what is wrong is refused
 
-differ : (a b : ℕ) → a ≢ b → (a == b) ≡ false
-differ a b h =
-    elim (a == b) as (λ v. (a == b) ≡ v → v ≡ false) [
-      | true ↦ λ t. absurd (h (eqb-true a b t))
-      | false ↦ λ _. refl
-    ] refl
-
 path_is : (text : List ℕ) → IsNoPath text → path_wrong (path_read text) ≡ Some BadPath
 path_is text bad =
     elim (path_read text) as (λ r. path_read text ≡ r → path_wrong r ≡ Some BadPath) [
@@ -351,15 +336,15 @@ name_is text e = ap name_wrong e
 plain_is : (letter : ℕ) (text : List ℕ) → letter ≢ WORKERS → letter ≢ ASKED → letter ≢ COUNT → text ≡ [] → plain_value_wrong letter text ≡ Some BadPath
 unfolding plain_value_wrong
 plain_is letter text w a c e =
-    ap (λ v. cond v (unless_some BadNumber (workers_named text)) (cond (letter == ASKED) (unless_some BadKind (kind_named text)) (cond (letter == COUNT) (unless_some BadNumber (count_named text)) (name_wrong text)))) (differ letter WORKERS w)
-    ∙ ap (λ v. cond v (unless_some BadKind (kind_named text)) (cond (letter == COUNT) (unless_some BadNumber (count_named text)) (name_wrong text))) (differ letter ASKED a)
-    ∙ ap (λ v. cond v (unless_some BadNumber (count_named text)) (name_wrong text)) (differ letter COUNT c)
+    ap (λ v. cond v (unless_some BadNumber (workers_named text)) (cond (letter == ASKED) (unless_some BadKind (kind_named text)) (cond (letter == COUNT) (unless_some BadNumber (count_named text)) (name_wrong text)))) (ne_eqb letter WORKERS w)
+    ∙ ap (λ v. cond v (unless_some BadKind (kind_named text)) (cond (letter == COUNT) (unless_some BadNumber (count_named text)) (name_wrong text))) (ne_eqb letter ASKED a)
+    ∙ ap (λ v. cond v (unless_some BadNumber (count_named text)) (name_wrong text)) (ne_eqb letter COUNT c)
     ∙ name_is text e
 
 path_value_is : (letter : ℕ) (text : List ℕ) → ((letter ≡ EXCLUDED) × IsNoPath text) ⊎ (NamesFile letter × (text ≡ [])) → value_wrong letter text ≡ Some BadPath
 path_value_is letter text (inl bad) = ap (λ l. value_wrong l text) bad.0 ∙ path_is text bad.1
 path_value_is letter text (inr bad) =
-    ap (λ v. cond v (path_wrong (path_read text)) (plain_value_wrong letter text)) (differ letter EXCLUDED bad.0.2)
+    ap (λ v. cond v (path_wrong (path_read text)) (plain_value_wrong letter text)) (ne_eqb letter EXCLUDED bad.0.2)
     ∙ plain_is letter text bad.0.0 bad.0.1 bad.0.3 bad.1
 
 number_value_is : (letter : ℕ) (text : List ℕ) → ((letter ≡ WORKERS) × IsPast MOST_WORKERS text) ⊎ ((letter ≡ COUNT) × IsPast MOST_FILES text) → value_wrong letter text ≡ Some BadNumber

@@ -6,7 +6,7 @@ use Rattle.std.specs.Ordering.{is_eq, nat_cmp, ordering_then, ordering_reverse}
 use Rattle.std.specs.declared.cmp.Ordering.{Ordering}
 use Rattle.std.specs.declared.cmp.Ordering.TheVariants.{Less, Equal, Greater}
 use Rattle.std.proofs.lemmas.Cmp.{tied_itself}
-use Rattle.tree_model.proofs.SameLemmas.{and_true}
+use Rattle.std.proofs.lemmas.Bool.{and_from}
 use Rattle.label_base.specs.Text.{same_bytes}
 use Rattle.file_paths.specs.Path.{Path, at_or_below, path_cmp}
 
@@ -15,7 +15,7 @@ name_total = nat_list_cmp_total
 
 pub below_itself : (p : Path) → at_or_below p p ≡ true
 below_itself [] = refl
-below_itself (n ∷ ns) = and_true (same_bytes n n) (at_or_below ns ns) ((bytes_decides n n).1 refl) (below_itself ns)
+below_itself (n ∷ ns) = and_from (same_bytes n n) (at_or_below ns ns) ((bytes_decides n n).1 refl) (below_itself ns)
 
 pub same_head : (n m : _) (ns ms : Path) → at_or_below (n ∷ ns) (m ∷ ms) ≡ true → m ≡ n
 same_head n m ns ms h = (bytes_decides m n).0 (first_so (same_bytes m n) (at_or_below ns ms) h)
@@ -29,7 +29,7 @@ below_chain z y [] h k = refl
 below_chain z [] (a ∷ x) h k = cc
 below_chain [] (b ∷ y) (a ∷ x) h k = cc
 below_chain (c ∷ z) (b ∷ y) (a ∷ x) h k =
-    and_true (same_bytes a c) (at_or_below z x) ((bytes_decides a c).1 (same_head b a y x k ∙ same_head c b z y h))
+    and_from (same_bytes a c) (at_or_below z x) ((bytes_decides a c).1 (same_head b a y x k ∙ same_head c b z y h))
     (below_chain z y x (rest_below c b z y h) (rest_below b a y x k))
 
 then_equal : (o r : Ordering) → o ≡ Equal → ordering_then o r ≡ r
@@ -59,9 +59,6 @@ longer (n ∷ ns) (m ∷ ms) h l =
 tied_name : (n m : _) → slice_cmp nat_cmp n m ≡ Equal → n ≡ m
 tied_name n m h = (bytes_decides n m).0 (texts_ties n m ∙ ap is_eq h)
 
-reversed : (n m : _) (o : Ordering) → slice_cmp nat_cmp n m ≡ o → slice_cmp nat_cmp m n ≡ ordering_reverse o
-reversed n m o h = name_total.antisymm m n ∙ ap ordering_reverse h
-
 -- the first names of paths in order, where the first and the last path begin with the same name
 middle : (o p r s : Ordering) → p ≡ ordering_reverse o → ordering_then o r ≡ Less → ordering_then p s ≡ Less → (o ≡ Equal) × (r ≡ Less) × (s ≡ Less)
 middle Less p r s e h k = absurd (cc)
@@ -77,5 +74,5 @@ between (a ∷ x) (b ∷ y) (c ∷ z) h k l =
     let same = same_head c a z x h in
     let parts = middle (slice_cmp nat_cmp a b) (slice_cmp nat_cmp b c) (path_cmp x y) (path_cmp y z)
     (ap (slice_cmp nat_cmp b) (sym same) ∙ name_total.antisymm b a) k l in
-    and_true (same_bytes a b) (at_or_below y x) ((bytes_decides a b).1 (tied_name a b parts.0))
+    and_from (same_bytes a b) (at_or_below y x) ((bytes_decides a b).1 (tied_name a b parts.0))
     (between x y z (rest_below c a z x h) parts.1 parts.2)

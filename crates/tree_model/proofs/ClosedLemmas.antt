@@ -1,9 +1,10 @@
 -- Which runs have all entries of the groups in them.
 use Rattle.std.proofs.Common.{◌≡◌, ◌∙◌, ap, sym, refl, subst, ℕ, zero, suc, ◌+◌, ◌<◌, ◌≤◌, ◌==◌, min, max, Bool, true, false, cond, List, length, set, replicate, get_or, arith, ◌⊎◌, inl, inr, get_or-set_same, get_or-set_other, length-set}
 use Rattle.std.specs.Prelude.{◌&&◌, nat_le, nat_lt}
-use Rattle.std.proofs.lemmas.Bool.{cases_lt, cases_eq, and_parts, eq-eqb, ne_eqb, eqb-true, eqb-false, true≢false}
+use Rattle.std.proofs.lemmas.Bool.{cases_lt, cases_eq, and_parts, eq-eqb, ne_eqb, eqb-true, eqb-false, true≢false, and_from}
 use borrow.Author.Tests.{lt-ltb, le-leb, ltb-true, leb-true}
 use Rattle.std.proofs.lemmas.List.{length-replicate}
+use Rattle.std.specs.Cmp.{both_ways}
 use Rattle.label_base.specs.Bounded.{all_below, implies}
 use Rattle.label_base.proofs.BoundedLemmas.{all_at, all_from, implies_at}
 use Rattle.tree_model.specs.GroupLists.{next_at}
@@ -46,24 +47,6 @@ greatest_more f a b c v w r s = elim (cases_lt w v) [
     met = s.met;
   }))
 ]
-
-pub least_one : (f : ℕ → ℕ) (a v : ℕ) → v ≡ f a → IsLeastIn f a (a + 1) v
-least_one f a v e = record {
-  low = λ k l h. (let same : a ≡ k = omega (arith, l, h) in omega (arith, e ∙ ap f same));
-  place = a;
-  from = omega arith;
-  upto = omega arith;
-  met = sym e;
-}
-
-pub greatest_one : (f : ℕ → ℕ) (a v : ℕ) → v ≡ f a → IsGreatestIn f a (a + 1) v
-greatest_one f a v e = record {
-  high = λ k l h. (let same : a ≡ k = omega (arith, l, h) in omega (arith, e ∙ ap f same));
-  place = a;
-  from = omega arith;
-  upto = omega arith;
-  met = sym e;
-}
 
 -- the next run behind those that were passed
 module _ (groups ends first last : List ℕ) (e c : ℕ) (runs : AreRuns groups ends first last) (within : e < length groups) (behind : e < c) (more : c < get_or ends e 0) where
@@ -164,21 +147,12 @@ pub implied : (a b : Bool) → (a ≡ true → b ≡ true) → implies a b ≡ t
 implied true b f = f refl
 implied false b f = refl
 
-pub both : (a b : Bool) → a ≡ true → b ≡ true → (a && b) ≡ true
-both true b p q = q
-both false b p q = cc
-
-pub one_answer : (v w : Bool) → (v ≡ true → w ≡ true) → (w ≡ true → v ≡ true) → v ≡ w
-one_answer true w f g = sym (f refl)
-one_answer false true f g = g refl
-one_answer false false f g = refl
-
 -- an entry of a run
 pub run_parts : (ends : List ℕ) (d e : ℕ) → in_run ends d e ≡ true → (d ≤ e) × (e < get_or ends d 0)
 run_parts ends d e h = let p = and_parts (nat_le d e) (nat_lt e (get_or ends d 0)) h in (leb-true d e p.0, ltb-true e (get_or ends d 0) p.1)
 
 pub run_from : (ends : List ℕ) (d e : ℕ) → d ≤ e → e < get_or ends d 0 → in_run ends d e ≡ true
-run_from ends d e l h = both (nat_le d e) (nat_lt e (get_or ends d 0)) (le-leb d e l) (lt-ltb e (get_or ends d 0) h)
+run_from ends d e l h = and_from (nat_le d e) (nat_lt e (get_or ends d 0)) (le-leb d e l) (lt-ltb e (get_or ends d 0) h)
 
 module _ (groups ends : List ℕ) (d least greatest : ℕ) (within : get_or ends d 0 ≤ length groups)
     (low : IsLeastIn (first_name groups) d (get_or ends d 0) least) (high : IsGreatestIn (last_name groups) d (get_or ends d 0) greatest) where
@@ -204,7 +178,7 @@ module _ (groups ends : List ℕ) (d least greatest : ℕ) (within : get_or ends
       let below = closed_at_both low.place (first_name groups low.place) h low.from low.upto a.0 a.1 in
       let z = last_told groups high.place high.place (omega (arith, high.upto, within)) refl in
       let above = closed_at_both high.place (last_name groups high.place) h high.from high.upto z.within z.own in
-      both (nat_le d least) (nat_lt greatest end) (le-leb d least (omega (arith, below.0, low.met))) (lt-ltb greatest end (omega (arith, above.1, high.met)))
+      and_from (nat_le d least) (nat_lt greatest end) (le-leb d least (omega (arith, below.0, low.met))) (lt-ltb greatest end (omega (arith, above.1, high.met)))
 
   closed_entry : d ≤ least → greatest < end → (e x : ℕ) → d ≤ e → e < end → x < length groups → get_or groups x 0 ≡ get_or groups e 0 → in_run ends d x ≡ true
   unfolding end
@@ -230,7 +204,7 @@ module _ (groups ends : List ℕ) (d least greatest : ℕ) (within : get_or ends
 
   pub flag_is : (nat_le d least && nat_lt greatest (get_or ends d 0)) ≡ closed_run groups ends d
   unfolding end
-  flag_is = one_answer (nat_le d least && nat_lt greatest end) (closed_run groups ends d) from_flag flag_from
+  flag_is = both_ways (nat_le d least && nat_lt greatest end) (closed_run groups ends d) from_flag flag_from
 
 -- one more run passed
 low_case : (groups ends low : List ℕ) (e least k : ℕ) → e < length groups → IsLeastIn (first_name groups) e (get_or ends e 0) least → AreLow groups ends (e + 1) low

@@ -1,16 +1,17 @@
 -- The flags of entries are kept as the next place without one.
 use Rattle.std.proofs.Common.{◌≡◌, ◌∙◌, ap, sym, refl, subst, ℕ, zero, suc, ◌+◌, ◌<◌, ◌≤◌, ◌==◌, Bool, true, false, not, List, [], ◌∷◌, ◌++◌, ◌-◌, length, length-append, map, replicate, get_or, arith, inl, inr}
 use Rattle.std.specs.Prelude.{◌&&◌, nat_le, nat_lt}
-use Rattle.std.proofs.lemmas.Bool.{cases_lt, and_parts, eq-eqb, ne_eqb, true≢false, le-leb, leb-true, lt-ltb, ltb-true}
+use Rattle.std.proofs.lemmas.Bool.{cases_lt, and_parts, eq-eqb, ne_eqb, true≢false, le-leb, leb-true, lt-ltb, ltb-true, and_from}
 use Rattle.std.proofs.lemmas.List.{ext_get_or, get_or-map, length-map, get_or_append_left, get_or-append_right, get_or-replicate, length-replicate}
 use Rattle.std.proofs.Math.Seq.{get_or-append_seam}
+use Rattle.std.specs.Cmp.{both_ways}
 use Rattle.label_base.specs.Bounded.{all_below, all_numbers, implies, greatest_below}
 use Rattle.label_base.proofs.BoundedLemmas.{IsGreatest, all_at, all_from, count_numbers, greatest_told, implies_at}
 use Rattle.std.specs.Prelude.{Option, Some, None}
 use Rattle.find_records.specs.Record.{Record}
 use Rattle.tree_model.specs.Extents.{extent_of, in_extent, one_behind}
 use Rattle.tree_model.specs.LiveLists.{AreDead, AreFlags, IsDead, KeepsFlags, live_from, live_of}
-use Rattle.tree_model.proofs.ClosedLemmas.{both, implied, one_answer}
+use Rattle.tree_model.proofs.ClosedLemmas.{implied}
 
 length_live : (dead : List ℕ) (place : ℕ) → length (live_from place dead) ≡ length dead
 length_live [] place = refl
@@ -52,15 +53,6 @@ flag_case live e dead false l h r = elim (cases_lt e dead) [
 -- an entry is live where the next place without a flag is another
 pub flag_told : (live : List Bool) (e dead : ℕ) → e < length live → IsDead live e dead → not (dead == e) ≡ get_or live e false
 flag_told live e dead l r = flag_case live e dead (get_or live e false) l refl r
-
--- behind the words every entry is live
-pub none_dead : (live : List Bool) (dead : List ℕ) (count e : ℕ) → KeepsFlags live dead count → length dead ≤ e → e < length live → IsDead live e count
-none_dead live dead count e r a b = record {
-  low = omega (arith, b, r.count_is);
-  high = omega (arith, r.count_is);
-  lives = λ k l m. r.dead_are.ends.lives k (omega (arith, a, l)) (omega (arith, m, r.count_is));
-  dies = λ m. absurd (omega (arith, m, r.count_is));
-}
 
 kept_at : (live : List Bool) (dead : List ℕ) (count e : ℕ) → KeepsFlags live dead count → e < length live → get_or (live_of dead count) e false ≡ get_or live e false
 kept_at live dead count e r l = elim (cases_lt e (length dead)) [
@@ -109,7 +101,7 @@ module _ (entries : List Record) (live : List Bool) (d end dead : ℕ) (sized : 
   all_live = all_below (length entries) (λ e. implies (in_extent entries d e) (get_or live e false))
 
   inside_run : (e : ℕ) → e < length entries → d ≤ e → e < end → in_extent entries d e ≡ true
-  inside_run e l a b = run e l ∙ both (nat_le d e) (nat_lt e end) (le-leb d e a) (lt-ltb e end b)
+  inside_run e l a b = run e l ∙ and_from (nat_le d e) (nat_lt e end) (le-leb d e a) (lt-ltb e end b)
 
   from_dead : nat_le end dead ≡ true → all_live ≡ true
   from_dead h = all_from (length entries) (λ e. implies (in_extent entries d e) (get_or live e false))
@@ -131,4 +123,4 @@ module _ (entries : List Record) (live : List Bool) (d end dead : ℕ) (sized : 
   ]
 
   pub whole_is : nat_le end dead ≡ all_below (length entries) (λ e. implies (in_extent entries d e) (get_or live e false))
-  whole_is = one_answer (nat_le end dead) all_live from_dead to_dead
+  whole_is = both_ways (nat_le end dead) all_live from_dead to_dead

@@ -1,8 +1,9 @@
 -- The numbers of doubled records are the verdict on the numbered records.
 use Rattle.std.proofs.Common.{◌≡◌, ◌∙◌, ap, sym, refl, subst, ℕ, ◌+◌, ◌≤◌, Bool, true, false, cond, List, [], ◌∷◌, ◌++◌, length, arith, append_assoc, append-nil, inl, inr}
-use Rattle.std.specs.Prelude.{Option, Some, None}
+use Rattle.std.specs.Prelude.{Some, None}
 use Rattle.std.specs.List.{list_any}
 use Rattle.std.proofs.lemmas.Bool.{true≢false, false_from_ne_true}
+use Rattle.tree_model.proofs.RunLemmas.{by_place}
 use Rattle.file_paths.specs.Path.{Path}
 use Rattle.find_records.specs.Record.{Record}
 use Rattle.tree_model.specs.Numbered.{Numbered}
@@ -97,10 +98,6 @@ module _ (earlier : List Record) (r : Record) (rs : List Record) (calm : Calm ea
     ]
   ]
 
-by_cases : (v : Bool) (all : List Numbered) (A B : Option (ℕ × ℕ)) → (v ≡ true → Verdict all A) → (v ≡ false → Verdict all B) → Verdict all (cond v A B)
-by_cases true all A B f g = f refl
-by_cases false all A B f g = g refl
-
 calm_verdict : (earlier : List Record) → Calm earlier → Verdict (numbered_from 1 (earlier ++ [])) None
 calm_verdict earlier calm = λ a b ha hb.
     calm a.item b.item (subst (λ l. Has l a.item) (append-nil earlier) (in_item 1 (earlier ++ []) a ha)) (subst (λ l. Has l b.item) (append-nil earlier) (in_item 1 (earlier ++ []) b hb))
@@ -108,7 +105,7 @@ calm_verdict earlier calm = λ a b ha hb.
 doubled_after_right : (rest earlier : List Record) → Calm earlier → Verdict (numbered_from 1 (earlier ++ rest)) (doubled_after earlier rest)
 doubled_after_right [] earlier calm = calm_verdict earlier calm
 doubled_after_right (r ∷ rs) earlier calm =
-    by_cases (list_any (conflict r) earlier) (numbered_from 1 (earlier ++ r ∷ rs)) (Some (first_from 1 r.path earlier, length earlier + 1)) (doubled_after (earlier ++ r ∷ []) rs)
+    by_place (list_any (conflict r) earlier) (numbered_from 1 (earlier ++ r ∷ rs)) (Some (first_from 1 r.path earlier, length earlier + 1)) (doubled_after (earlier ++ r ∷ []) rs)
     (λ t. let y = any_has (conflict r) earlier t in second_here earlier r rs calm y.0 y.1 y.2)
     (λ f. subst (λ l. Verdict (numbered_from 1 l) (doubled_after (earlier ++ r ∷ []) rs)) (append_assoc earlier (r ∷ []) rs) (doubled_after_right rs (earlier ++ r ∷ []) (calm_more earlier r rs calm f)))
 

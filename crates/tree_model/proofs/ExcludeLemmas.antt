@@ -1,7 +1,7 @@
 -- What is at or below a path stands together.
 use Rattle.std.proofs.Common.{◌≡◌, ◌∙◌, ap, sym, refl, subst, ℕ, ◌<◌, ◌≤◌, Bool, true, false, List, length, get_or, arith, inl, inr, ◌⊎◌}
 use Rattle.std.specs.Prelude.{◌&&◌, nat_lt}
-use Rattle.std.proofs.lemmas.Bool.{cases_eq, and_parts, ltb-true, true≢false}
+use Rattle.std.proofs.lemmas.Bool.{cases_eq, and_parts, ltb-true, true≢false, false_from_ne_true}
 use borrow.Author.Tests.{lt-ltb}
 use Rattle.std.specs.Ordering.{is_eq, ordering_reverse}
 use Rattle.std.specs.declared.cmp.Ordering.{Ordering}
@@ -14,7 +14,7 @@ use Rattle.find_records.specs.Places.{no_record}
 use Rattle.tree_model.specs.Tree.{ByPath, IsFrom}
 use Rattle.tree_model.proofs.AboveLemmas.{below_chain, below_itself, between, not_before}
 use Rattle.tree_model.proofs.ExtentLemmas.{extent_has, extent_told}
-use Rattle.tree_model.proofs.MarkLemmas.{cleared_all, cleared_more, cleared_none, not_true}
+use Rattle.tree_model.proofs.MarkLemmas.{cleared_all, cleared_more, cleared_none}
 use Rattle.tree_model.proofs.RunLemmas.{path_total}
 use Rattle.tree_model.proofs.SameLemmas.{path_exact, same_path_is}
 
@@ -29,7 +29,7 @@ module _ (entries : List Record) (up : ByPath entries) (ends : List ℕ) (kept :
   is_under e = at_or_below (entry_at entries e).path path
 
   pub under_none : (first : ℕ) (old : List Bool) → length old ≡ length entries → IsFrom path entries first → IsClearedTo is_under first old old
-  under_none first old s r = cleared_none is_under first old (λ e l m. not_true (is_under e) (λ h. not_before (entry_at entries e).path path h (r.before e l)))
+  under_none first old s r = cleared_none is_under first old (λ e l m. false_from_ne_true (is_under e) (λ h. not_before (entry_at entries e).path path h (r.before e l)))
 
   module _ (c : ℕ) (test : (nat_lt c (length entries) && is_under c) ≡ true) where
     pub under_within : c < length entries
@@ -66,7 +66,7 @@ module _ (entries : List Record) (up : ByPath entries) (ends : List ℕ) (kept :
       → IsClearedTo is_under c start new → IsCleared is_under start new
   under_all first c start new s from l test r =
       cleared_all is_under c start new r
-      (λ e a m. not_true (is_under e) (λ t.
+      (λ e a m. false_from_ne_true (is_under e) (λ t.
       let w : c < length entries = omega (arith, a, m, s) in
       let out : is_under c ≡ false = sym (ap (λ b. b && is_under c) (lt-ltb c (length entries) w)) ∙ test in
       elim (cases_eq e c) [

@@ -1,8 +1,7 @@
 -- Extents, among entries in the order of their paths.
-use Rattle.std.proofs.Common.{◌≡◌, ◌∙◌, ap, sym, refl, subst, ℕ, ◌+◌, ◌-◌, ◌<◌, ◌≤◌, ◌⊎◌, inl, inr, Bool, true, false, List, length, arith}
-use Rattle.std.proofs.lemmas.Bool.{cases_lt}
+use Rattle.std.proofs.Common.{◌≡◌, ◌∙◌, ap, sym, refl, subst, ℕ, ◌+◌, ◌-◌, ◌<◌, ◌≤◌, ◌⊎◌, inl, inr, true, false, List, length, arith}
+use Rattle.std.proofs.lemmas.Bool.{cases_lt, false_from_ne_true}
 use Rattle.std.proofs.lemmas.Bool.{lt-ltb, le-ltb, le-leb, lt-leb}
-use Rattle.std.proofs.lemmas.Bool.Decides.{nat_tests}
 use Rattle.std.specs.Prelude.{Option, Some, None, ◌&&◌, nat_le, nat_lt}
 use Rattle.std.specs.declared.cmp.Ordering.TheVariants.{Less}
 use Rattle.label_base.specs.Bounded.{greatest_below}
@@ -13,13 +12,6 @@ use Rattle.tree_model.specs.Extents.{entry_at, extent_of, in_extent, one_behind}
 use Rattle.find_records.specs.Places.{no_record}
 use Rattle.tree_model.specs.Tree.{ByPath}
 use Rattle.tree_model.proofs.AboveLemmas.{below_itself, below_chain, between, not_before}
-
-pub less_from : (a b : ℕ) → nat_lt a b ≡ true → a < b
-less_from a b h = grind (arith, nat_tests)
-
-pub false_unless : (b : Bool) → (b ≡ true → ⊥) → b ≡ false
-false_unless true f = absurd (f refl)
-false_unless false f = refl
 
 same_or_less : (a b : ℕ) → a ≤ b → (a < b) ⊎ (a ≡ b)
 same_or_less a b l = elim (cases_lt a b) [ inl lt ↦ inl lt | inr ge ↦ inr (omega arith) ]
@@ -65,7 +57,7 @@ module _ (entries : List Record) (up : ByPath entries) where
   extent_is d c h =
       let n = length entries in
       let out : (j : ℕ) → c - 1 < j → j < n → in_extent entries d j ≡ false =
-      λ j a b. false_unless (in_extent entries d j) (λ t.
+      λ j a b. false_from_ne_true (in_extent entries d j) (λ t.
       let cn : c < n ⊎ n ≤ c = cases_lt c n in
       let l : c < n = omega (arith, a, b, h.behind) in
       let there = in_between d c j (omega (arith, h.behind)) (omega (arith, a, h.behind)) b t in
@@ -106,9 +98,9 @@ module _ (entries : List Record) (up : ByPath entries) where
 
   pub extent_law : (d e : ℕ) → d < length entries → e < length entries → in_extent entries d e ≡ (nat_le d e && nat_lt e (extent_of entries d))
   extent_law d e l m = elim (cases_lt e d) [
-    | inl before ↦ false_unless (in_extent entries d e) (λ h. let from = in_behind d e l h in omega (arith, from, before)) ∙ sym (ap (λ b. b && nat_lt e (extent_of entries d)) (lt-leb d e before))
+    | inl before ↦ false_from_ne_true (in_extent entries d e) (λ h. let from = in_behind d e l h in omega (arith, from, before)) ∙ sym (ap (λ b. b && nat_lt e (extent_of entries d)) (lt-leb d e before))
     | inr from ↦ elim (cases_lt e (extent_of entries d)) [
       | inl lt ↦ extent_has d e l from lt ∙ (let p = le-leb d e from in let q = lt-ltb e (extent_of entries d) lt in rw (p, q) refl)
-      | inr ge ↦ false_unless (in_extent entries d e) (λ h. let t = has_extent d e l m h in omega (arith, t.1, ge)) ∙ (let p = le-leb d e from in let q = le-ltb e (extent_of entries d) ge in rw (p, q) refl)
+      | inr ge ↦ false_from_ne_true (in_extent entries d e) (λ h. let t = has_extent d e l m h in omega (arith, t.1, ge)) ∙ (let p = le-leb d e from in let q = le-ltb e (extent_of entries d) ge in rw (p, q) refl)
     ]
   ]

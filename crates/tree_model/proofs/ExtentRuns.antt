@@ -1,7 +1,7 @@
 -- The extents of entries are runs, and what is told of runs is told of them.
 use Rattle.std.proofs.Common.{◌≡◌, ◌∙◌, ap, ap₂, sym, refl, subst, ℕ, ◌-◌, ◌<◌, ◌≤◌, ◌^◌, ◌==◌, ◌||◌, Bool, true, false, not, List, length, get_or, arith}
 use Rattle.std.specs.Prelude.{◌&&◌, nat_le, nat_lt}
-use Rattle.std.proofs.lemmas.Bool.{and_parts, eq-eqb, eqb-true}
+use Rattle.std.proofs.lemmas.Bool.{and_parts, eq-eqb, eqb-true, and_from}
 use Rattle.label_base.specs.Bounded.{all_below, implies}
 use Rattle.label_base.proofs.BoundedLemmas.{all_from, all_same}
 use Rattle.find_records.specs.Record.{Record}
@@ -12,7 +12,7 @@ use Rattle.tree_model.specs.RunLists.{AreEnds, closed_run, in_run}
 use Rattle.tree_model.specs.Selection.{admits, stays_on}
 use Rattle.tree_model.specs.Tree.{ByPath}
 use Rattle.file_paths.specs.declared.choice.Choice.{Choice}
-use Rattle.tree_model.proofs.ClosedLemmas.{implied, both}
+use Rattle.tree_model.proofs.ClosedLemmas.{implied}
 use Rattle.tree_model.proofs.ExtentLemmas.{extent_has, extent_law, extent_told, has_extent, in_chain, in_itself}
 use Rattle.tree_model.proofs.GroupLemmas.{groups_of, group_at, count_groups}
 use Rattle.tree_model.proofs.MarkLemmas.{and_true}
@@ -82,7 +82,7 @@ module _ (entries : List Record) (up : ByPath entries) (ends : List ℕ) (kept :
       sym (ap (λ b. in_extent entries o e && ((b || (o == e)) && (not choice.one_device || stays_on entries o e))) r
       ∙ and_case (in_extent entries o e) (o == e) (not choice.one_device || stays_on entries o e)
       (λ h. let same : o ≡ e = eqb-true o e h in
-      both (in_extent entries o e) (not choice.one_device || stays_on entries o e)
+      and_from (in_extent entries o e) (not choice.one_device || stays_on entries o e)
       (subst (λ k. in_extent entries o k ≡ true) same (in_itself entries up o))
       (ap (λ b. not choice.one_device || b) (subst (λ k. stays_on entries o k ≡ true) same (stays_itself o l)) ∙ or_case (not choice.one_device))))
 

@@ -1,21 +1,22 @@
 -- Where a path stands among entries.
 use Rattle.std.proofs.Common.{◌≡◌, ◌∙◌, ap, sym, refl, subst, ℕ, ◌+◌, ◌<◌, ◌≤◌, Bool, true, false, cond, List, length, arith, ◌⊎◌, inl, inr}
-use Rattle.std.proofs.lemmas.Bool.{cases_lt, true≢false}
+use Rattle.std.proofs.lemmas.Bool.{cases_lt, true≢false, and_parts}
 use Rattle.std.proofs.lemmas.Bool.Decides.{nat_tests}
 use borrow.Author.Tests.{lt-ltb, le-ltb}
 use Rattle.std.specs.Prelude.{◌&&◌, Some, None, nat_lt}
 use Rattle.std.specs.List.{position, position_or_len}
 use Rattle.std.specs.Ordering.{is_eq, is_lt}
 use Rattle.std.specs.declared.cmp.Ordering.{Ordering}
-use Rattle.std.specs.declared.cmp.Ordering.TheVariants.{Less, Equal, Greater}
+use Rattle.std.specs.declared.cmp.Ordering.TheVariants.{Less}
 use Rattle.std.proofs.lemmas.List.Sums.{position_or_len_is}
+use Rattle.tree_model.proofs.UpLemmas.{less_from}
 use Rattle.file_paths.specs.Path.{Path, path_cmp}
 use Rattle.find_records.specs.Places.{no_record}
 use Rattle.find_records.specs.Record.{Record}
 use Rattle.tree_model.specs.Extents.{entry_at}
 use Rattle.tree_model.specs.Search.{IsBetween, stands_at}
 use Rattle.tree_model.specs.Tree.{find_in, is_at, ByPath, IsFrom}
-use Rattle.tree_model.proofs.SameLemmas.{both_true, path_exact, same_path_is}
+use Rattle.tree_model.proofs.SameLemmas.{path_exact, same_path_is}
 use Rattle.tree_model.proofs.RunLemmas.{path_total}
 
 position_at : (p : Record → Bool) (xs : List Record) (i : ℕ) → position_or_len p xs ≡ i → i < length xs → position p xs ≡ Some i
@@ -28,14 +29,9 @@ position_none p xs e =
     let t : nat_lt (position_or_len p xs) (length xs) ≡ false = subst (λ k. nat_lt k (length xs) ≡ false) (sym e) (le-ltb (length xs) (length xs) (omega arith)) in
     ap (λ b. cond b (Some (position_or_len p xs)) None) t
 
-and_false : (x y : Bool) → x ≡ true → (x && y) ≡ false → y ≡ false
+pub and_false : (x y : Bool) → x ≡ true → (x && y) ≡ false → y ≡ false
 and_false true y h e = e
 and_false false y h e = cc
-
-less_from : (o : Ordering) → is_lt o ≡ true → o ≡ Less
-less_from Less h = refl
-less_from Equal h = cc
-less_from Greater h = cc
 
 not_tied : (o : Ordering) → o ≡ Less → is_eq o ≡ false
 not_tied o h = ap is_eq h
@@ -89,7 +85,7 @@ module _ (entries : List Record) (path : Path) (up : ByPath entries) (i : ℕ) (
   -- the entry there has the path
   pub found_where : stands_at path entries i ≡ true → find_in path entries ≡ Some i
   found_where h =
-      let both = both_true (nat_lt i (length entries)) (is_at path (entry_at entries i)) h in
+      let both = and_parts (nat_lt i (length entries)) (is_at path (entry_at entries i)) h in
       let known : i < length entries = grind (arith, nat_tests) in
       position_at (is_at path) entries i
       (position_or_len_is (is_at path) entries i no_record first.upto (λ k m. not_at_less k m) (λ m. both.1))

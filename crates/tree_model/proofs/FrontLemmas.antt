@@ -1,6 +1,6 @@
 -- The nearest directory above a path, found by the paths above it.
 use Rattle.std.proofs.Common.{◌≡◌, ◌∙◌, ap, sym, refl, subst, ℕ, suc, ◌<◌, ◌≤◌, inl, inr, Bool, true, false, List, [], ◌∷◌, ◌++◌, length, arith}
-use Rattle.std.proofs.lemmas.Bool.{cases_lt, lt-ltb, true≢false}
+use Rattle.std.proofs.lemmas.Bool.{cases_lt, lt-ltb, and_from, false_from_ne_true}
 use Rattle.std.proofs.lemmas.Bool.Decides.{nat_tests}
 use Rattle.std.proofs.lemmas.List.Quantifiers.{position-Some}
 use Rattle.std.specs.Cmp.{second_so}
@@ -16,10 +16,10 @@ use Rattle.tree_model.specs.Extents.{entry_at, is_directory}
 use Rattle.tree_model.specs.Fronts.{IsOneBelow, directory_in, directory_of}
 use Rattle.tree_model.specs.Tree.{ByPath, find_in, is_at}
 use Rattle.tree_model.proofs.AboveLemmas.{below_itself, not_before, rest_below, same_head}
-use Rattle.tree_model.proofs.ExtentLemmas.{false_unless, rise}
+use Rattle.tree_model.proofs.ExtentLemmas.{rise}
 use Rattle.tree_model.proofs.FindLemmas.{found_where}
 use Rattle.tree_model.proofs.RunLemmas.{path_total}
-use Rattle.tree_model.proofs.SameLemmas.{and_true, path_exact, path_same}
+use Rattle.tree_model.proofs.SameLemmas.{path_exact, path_same}
 
 -- the nearest directory that the path lies below
 abbrev pub nearest_above : List Record → Path → Option ℕ
@@ -34,10 +34,6 @@ less_suc m n = grind (arith, nat_tests)
 within : (v a b c : Bool) → (a && b) ≡ c → ((v && a) && b) ≡ (v && c)
 within true a b c h = h
 within false a b c h = refl
-
-neither : (v w : Bool) → (v && w) ≡ true → w ≡ false → ⊥
-neither true w h e = true≢false (sym h ∙ e)
-neither false w h e = cc
 
 no_and : (v : Bool) → (v && false) ≡ false
 no_and true = refl
@@ -96,7 +92,7 @@ module _ (entries : List Record) (up : ByPath entries) where
   found_itself d l =
       found_where entries (entry_at entries d).path up d
       (record { upto = omega (arith, l); before = λ e b. rise entries up e d b l; behind = λ e a m. behind_itself d e a m })
-      (and_true (nat_lt d (length entries)) (is_at (entry_at entries d).path (entry_at entries d)) (lt-ltb d (length entries) l)
+      (and_from (nat_lt d (length entries)) (is_at (entry_at entries d).path (entry_at entries d)) (lt-ltb d (length entries) l)
       (path_same (entry_at entries d).path (entry_at entries d).path refl))
 
   directory_found : (top : Path) (d : ℕ) → d < length entries → (entry_at entries d).path ≡ top → is_directory entries d ≡ true → directory_in top entries ≡ Some d
@@ -111,9 +107,9 @@ module _ (entries : List Record) (up : ByPath entries) where
       let place = position-Some (is_at top) entries d no_record told.0 in
       let same : (entry_at entries d).path ≡ top = path_exact (entry_at entries d).path top place.1 in
       greatest_is (length entries) (λ k. is_directory entries k && strictly_below path (entry_at entries k).path) d place.0
-      (and_true (is_directory entries d) (strictly_below path (entry_at entries d).path) told.1
+      (and_from (is_directory entries d) (strictly_below path (entry_at entries d).path) told.1
       (strictly_told path top (entry_at entries d).path one ∙ subst (λ p. at_or_below top p ≡ true) (sym same) (below_itself top)))
-      (λ j a b. false_unless (is_directory entries j && strictly_below path (entry_at entries j).path) (λ t.
+      (λ j a b. false_from_ne_true (is_directory entries j && strictly_below path (entry_at entries j).path) (λ t.
       not_before top (entry_at entries j).path
       (sym (strictly_told path top (entry_at entries j).path one) ∙ second_so (is_directory entries j) (strictly_below path (entry_at entries j).path) t)
       (subst (λ p. path_cmp p (entry_at entries j).path ≡ Less) same (rise entries up d j a b))))

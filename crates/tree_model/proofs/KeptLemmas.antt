@@ -1,21 +1,19 @@
 -- The extents that are kept, found from the last entry to the first.
-use Rattle.std.proofs.Common.{◌≡◌, ◌∙◌, sym, refl, subst, ℕ, ◌+◌, ◌-◌, ◌<◌, ◌≤◌, Bool, true, false, List, length, get_or, arith}
-use Rattle.std.proofs.lemmas.Bool.{lt-ltb}
-use Rattle.std.specs.Prelude.{◌&&◌, nat_lt}
+use Rattle.std.proofs.Common.{◌≡◌, sym, subst, ℕ, ◌+◌, ◌-◌, ◌<◌, ◌≤◌, true, false, List, length, get_or, arith}
+use Rattle.std.proofs.lemmas.Bool.{lt-ltb, ltb-true}
+use Rattle.tree_model.proofs.FindLemmas.{and_false}
+use Rattle.std.specs.Prelude.{nat_lt}
 use Rattle.std.specs.Cmp.{first_so, second_so}
 use Rattle.find_records.specs.Record.{Record}
 use Rattle.tree_model.specs.Extents.{EndsFrom, extent_of, in_extent, is_inside}
 use Rattle.tree_model.specs.Tree.{ByPath}
-use Rattle.tree_model.proofs.ExtentLemmas.{HasExtent, extent_is, extent_told, in_chain, in_itself, less_from}
+use Rattle.tree_model.proofs.ExtentLemmas.{HasExtent, extent_is, extent_told, in_chain, in_itself}
 
 -- the entries from d to c are at or below d
 pub record Inside (entries : List Record) (d c : ℕ) : Type 0 where
   pub behind : d < c
   pub within : c ≤ length entries
   pub last_in : in_extent entries d (c - 1) ≡ true
-
-second_false : (v w : Bool) → v ≡ true → (v && w) ≡ false → w ≡ false
-second_false v w h k = sym (rw h refl) ∙ k
 
 module _ (entries : List Record) (up : ByPath entries) (ends : List ℕ) (d : ℕ) (known : d < length entries) (kept : EndsFrom (d + 1) entries ends) where
   pub inside_first : Inside entries d (d + 1)
@@ -27,7 +25,7 @@ module _ (entries : List Record) (up : ByPath entries) (ends : List ℕ) (d : �
 
   told : (c : ℕ) → Inside entries d c → is_inside entries d c ≡ true → HasExtent entries c (get_or ends c 0)
   told c i h =
-      let l = less_from c (length entries) (first_so (nat_lt c (length entries)) (in_extent entries d c) h) in
+      let l = ltb-true c (length entries) (first_so (nat_lt c (length entries)) (in_extent entries d c) h) in
       subst (HasExtent entries c) (sym (kept.each c (omega (arith, i.behind)) l)) (extent_told entries up c l)
 
   pub inside_next : (c : ℕ) → Inside entries d c → is_inside entries d c ≡ true → Inside entries d (get_or ends c 0)
@@ -47,5 +45,5 @@ module _ (entries : List Record) (up : ByPath entries) (ends : List ℕ) (d : �
     behind = i.behind;
     within = i.within;
     last_in = i.last_in;
-    next_out = λ l. second_false (nat_lt c (length entries)) (in_extent entries d c) (lt-ltb c (length entries) l) h;
+    next_out = λ l. and_false (nat_lt c (length entries)) (in_extent entries d c) (lt-ltb c (length entries) l) h;
   }))

@@ -1,6 +1,7 @@
 -- Records that are numbered one after the other.
 use Rattle.std.proofs.Common.{◌≡◌, ◌∙◌, ap, ℕ, ◌+◌, ◌-◌, ◌<◌, List, [], ◌∷◌, ◌++◌, length, take, get_or, arith}
-use Rattle.std.proofs.lemmas.Option.{slice_get-get_or, get_or_from_slice_get}
+use Rattle.std.proofs.lemmas.Option.{get_or_from_slice_get}
+use Rattle.std.proofs.lemmas.List.{get_or_default}
 use Rattle.find_records.specs.Record.{Record}
 use Rattle.tree_model.specs.Numbered.{Numbered, numbered_from}
 use Rattle.std.specs.Prelude.{Some, slice_get}
@@ -9,15 +10,12 @@ use Rattle.find_records.specs.Places.{no_record}
 use Rattle.tree_model.proofs.PlaceLemmas.{numbered_next}
 use Rattle.tree_model.specs.Known.{with_number}
 
-pub any_default : (records : List Record) (k : ℕ) (d e : Record) → k < length records → get_or records k d ≡ get_or records k e
-any_default records k d e h = get_or_from_slice_get records k (get_or records k e) d (slice_get-get_or records k e h)
-
 pub next_numbered : (records : List Record) (k : ℕ) (all new : List Numbered) → k < length records → all ≡ numbered_from 1 (take k records)
     → new ≡ all ++ with_number records (k + 1) ∷ [] → new ≡ numbered_from 1 (take (k + 1) records)
 next_numbered records k all new h e f =
     let r = get_or records k no_record in
     let same : k + 1 - 1 ≡ k = omega arith in
-    numbered_next records k k r all new h (any_default records k no_record r h) (omega arith) e
+    numbered_next records k k r all new h (get_or_default records k no_record r h) (omega arith) e
     (f ∙ ap (λ j. all ++ record { number = k + 1; item = get_or records j no_record } ∷ []) same)
 
 -- an entry that was read is the one with that index

@@ -1,9 +1,7 @@
 -- Flags of entries.
-use Rattle.std.proofs.Common.{◌≡◌, ◌∙◌, ap, sym, refl, subst, ℕ, ◌+◌, ◌<◌, ◌≤◌, Bool, true, false, List, length, set, replicate, get_or, arith, ◌⊎◌, inl, inr, get_or-set_same, get_or-set_other, length-set}
-use Rattle.std.proofs.lemmas.Bool.{cases_eq, lt-ltb}
+use Rattle.std.proofs.Common.{◌≡◌, ◌∙◌, sym, refl, subst, ℕ, ◌+◌, ◌<◌, ◌≤◌, Bool, true, false, List, length, set, replicate, get_or, arith, ◌⊎◌, inl, inr, get_or-set_same, get_or-set_other, length-set}
+use Rattle.std.proofs.lemmas.Bool.{cases_eq}
 use Rattle.std.proofs.lemmas.List.{length-replicate}
-use Rattle.std.specs.Cmp.{second_so}
-use Rattle.std.specs.Prelude.{◌-◌, ◌&&◌, nat_lt}
 use Rattle.tree_model.specs.LiveLists.{AreDead, IsBehindDead, IsDead, IsFilled}
 
 pub filled_none : (from : ℕ) (flag : Bool) (old : List Bool) → IsFilled from from flag old old
@@ -68,27 +66,4 @@ dead_behind live e next h r = record {
   high = r.high;
   lives = λ k a b. elim (cases_eq k e) [ inl same ↦ subst (λ i. get_or live i false ≡ true) (sym same) h | inr other ↦ r.lives k (omega (arith, a, other)) b ];
   dies = r.dies;
-}
-
--- the last place without a flag, looked for from the end
-pub behind_none : (live : List Bool) → ((k : ℕ) → length live ≤ k → k < length live → get_or live k false ≡ true)
-behind_none live k a b = absurd (omega (arith, a, b))
-
-flag_before : (place : ℕ) (flag : Bool) → (nat_lt 0 place && flag) ≡ false → 0 < place → flag ≡ false
-flag_before place flag h l = sym (ap (λ b. b && flag) (lt-ltb 0 place l)) ∙ h
-
-pub behind_more : (live : List Bool) (place : ℕ) → (nat_lt 0 place && get_or live (place - 1) false) ≡ true → ((k : ℕ) → place ≤ k → k < length live → get_or live k false ≡ true)
-    → (k : ℕ) → place - 1 ≤ k → k < length live → get_or live k false ≡ true
-behind_more live place h r k a b =
-    let flag : get_or live (place - 1) false ≡ true = second_so (nat_lt 0 place) (get_or live (place - 1) false) h in
-    elim (cases_eq k (place - 1)) [
-      | inl same ↦ subst (λ i. get_or live i false ≡ true) (sym same) flag
-      | inr other ↦ r k (omega (arith, a, other)) b
-    ]
-
-pub behind_found : (live : List Bool) (place : ℕ) → place ≤ length live → (nat_lt 0 place && get_or live (place - 1) false) ≡ false → ((k : ℕ) → place ≤ k → k < length live → get_or live k false ≡ true) → IsBehindDead live place
-behind_found live place l h r = record {
-  within = l;
-  lives = r;
-  last = flag_before place (get_or live (place - 1) false) h;
 }

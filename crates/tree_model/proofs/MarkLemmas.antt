@@ -1,12 +1,12 @@
 -- The entries that stay with one in its run, marked in one pass.
 use Rattle.std.proofs.Common.{◌≡◌, ◌∙◌, ap, sym, refl, subst, ℕ, ◌+◌, ◌<◌, ◌≤◌, ◌==◌, ◌||◌, Bool, true, false, not, List, length, set, get_or, arith, ◌⊎◌, inl, inr, get_or-set_same, get_or-set_other, length-set}
 use Rattle.std.specs.Prelude.{◌&&◌}
-use Rattle.std.proofs.lemmas.Bool.{cases_lt, cases_eq, and_parts, eq-eqb, ne_eqb, eqb-true}
+use Rattle.std.proofs.lemmas.Bool.{cases_lt, cases_eq, and_parts, eq-eqb, ne_eqb, eqb-true, and_from, false_from_ne_true}
 use Rattle.label_base.specs.Bounded.{implies}
 use Rattle.label_base.proofs.BoundedLemmas.{all_at, all_from, implies_at}
 use Rattle.tree_model.specs.LiveLists.{IsFilled, IsMarked, IsMarkedTo, IsCleared, IsClearedTo, stays_in}
 use Rattle.tree_model.specs.RunLists.{AreEnds, in_run}
-use Rattle.tree_model.proofs.ClosedLemmas.{run_parts, run_from, implied, both}
+use Rattle.tree_model.proofs.ClosedLemmas.{run_parts, run_from, implied}
 
 pub or_true : (b : Bool) → (b || true) ≡ true
 or_true true = refl
@@ -24,16 +24,12 @@ pub and_false : (b : Bool) → (b && false) ≡ false
 and_false true = refl
 and_false false = refl
 
-pub not_true : (b : Bool) → (b ≡ true → ⊥) → b ≡ false
-not_true true f = absurd (f refl)
-not_true false f = refl
-
 -- what stands before or behind a run is not in it
 pub before_run : (ends : List ℕ) (d e : ℕ) → e < d → in_run ends d e ≡ false
-before_run ends d e l = not_true (in_run ends d e) (λ h. let p = run_parts ends d e h in omega (arith, p.0, l))
+before_run ends d e l = false_from_ne_true (in_run ends d e) (λ h. let p = run_parts ends d e h in omega (arith, p.0, l))
 
 pub behind_run : (ends : List ℕ) (d e : ℕ) → get_or ends d 0 ≤ e → in_run ends d e ≡ false
-behind_run ends d e l = not_true (in_run ends d e) (λ h. let p = run_parts ends d e h in omega (arith, p.1, l))
+behind_run ends d e l = false_from_ne_true (in_run ends d e) (λ h. let p = run_parts ends d e h in omega (arith, p.1, l))
 
 module _ (ends : List ℕ) (f : ℕ → ℕ) (o : ℕ) where
   passes : ℕ → Bool
@@ -68,7 +64,7 @@ module _ (ends : List ℕ) (f : ℕ → ℕ) (o : ℕ) where
     same_before e same l m (inl here) =
         subst (λ i. get_or (set old c true) i false ≡ (get_or start i false || (in_run ends o i && stays_in ends f o i))) (sym here)
         (get_or-set_same old c true false (omega (arith, r.sized, sized, inside))
-        ∙ sym (ap (λ b. get_or start c false || b) (both (in_run ends o c) (stays_in ends f o c) (run_from ends o c from upto) (stays_here same)) ∙ or_true (get_or start c false)))
+        ∙ sym (ap (λ b. get_or start c false || b) (and_from (in_run ends o c) (stays_in ends f o c) (run_from ends o c from upto) (stays_here same)) ∙ or_true (get_or start c false)))
     same_before e same l m (inr other) = get_or-set_other old c e true false other ∙ r.before e (omega (arith, l, other)) m
 
     -- an entry that stays
@@ -84,9 +80,9 @@ module _ (ends : List ℕ) (f : ℕ → ℕ) (o : ℕ) where
     }
 
     leaves : (e : ℕ) → (f c ≡ f o → ⊥) → c ≤ e → e < get_or ends c 0 → stays_in ends f o e ≡ false
-    leaves e other l m = not_true (stays_in ends f o e) (λ h.
+    leaves e other l m = false_from_ne_true (stays_in ends f o e) (λ h.
         let i = all_at (length ends) (λ a. implies (in_run ends o a && in_run ends a e) (f a == f o)) c h inside in
-        let t = implies_at (in_run ends o c && in_run ends c e) (f c == f o) i (both (in_run ends o c) (in_run ends c e) (run_from ends o c from upto) (run_from ends c e l m)) in
+        let t = implies_at (in_run ends o c && in_run ends c e) (f c == f o) i (and_from (in_run ends o c) (in_run ends c e) (run_from ends o c from upto) (run_from ends c e l m)) in
         other (eqb-true (f c) (f o) t))
 
     -- an entry that leaves, with all in its run

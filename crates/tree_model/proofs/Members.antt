@@ -1,5 +1,6 @@
 -- The elements of a list.
 use Rattle.std.proofs.Common.{◌≡◌, ap, refl, subst, ℕ, zero, suc, ◌<◌, Bool, true, false, List, [], ◌∷◌, ◌++◌, length, map, get_or, arith, ◌⊎◌, inl, inr}
+use Rattle.std.proofs.lemmas.Bool.{or_parts}
 use Rattle.std.specs.Prelude.{◌||◌}
 use Rattle.std.specs.List.{Contains, list_any}
 
@@ -23,10 +24,6 @@ pub contains_from_has : {X : Type 0} (xs : List X) (x : X) → Has xs x → Cont
 contains_from_has [] x h = absurd h
 contains_from_has (y ∷ ys) x h = elim h [ inl e ↦ (0, omega arith, e) | inr t ↦ later y ys x (contains_from_has ys x t) ]
 
-pub has_left : {X : Type 0} (xs ys : List X) (x : X) → Has xs x → Has (xs ++ ys) x
-has_left [] ys x h = absurd h
-has_left (z ∷ xs) ys x h = elim h [ inl e ↦ inl e | inr t ↦ inr (has_left xs ys x t) ]
-
 pub has_push : {X : Type 0} (xs : List X) (y x : X) → Has (xs ++ y ∷ []) x → Has xs x ⊎ (y ≡ x)
 has_push [] y x h = elim h [ inl e ↦ inr e | inr t ↦ absurd t ]
 has_push (z ∷ xs) y x h = elim h [ inl e ↦ inl (inl e) | inr t ↦ elim (has_push xs y x t) [ inl a ↦ inl (inr a) | inr b ↦ inr b ] ]
@@ -49,13 +46,9 @@ pub any_has : {X : Type 0} (p : X → Bool) (xs : List X) → list_any p xs ≡ 
 any_has p [] h = cc
 any_has p (x ∷ xs) h = passes p x xs (p x) refl h (any_has p xs)
 
-none_of : (v w : Bool) → (v || w) ≡ false → (v ≡ false) × (w ≡ false)
-none_of true w h = cc
-none_of false w h = (refl, h)
-
 -- none passes
 pub none_has : {X : Type 0} (p : X → Bool) (xs : List X) (y : X) → list_any p xs ≡ false → Has xs y → p y ≡ false
 none_has p [] y n h = absurd h
 none_has p (x ∷ xs) y n h =
-    let both = none_of (p x) (list_any p xs) n in
+    let both = or_parts (p x) (list_any p xs) n in
     elim h [ inl e ↦ subst (λ z. p z ≡ false) e both.0 | inr t ↦ none_has p xs y both.1 t ]

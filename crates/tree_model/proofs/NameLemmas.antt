@@ -1,6 +1,6 @@
 -- The entries of a group, one after the other.
-use Rattle.std.proofs.Common.{◌≡◌, ◌∙◌, ap, sym, refl, subst, ℕ, zero, suc, ◌+◌, ◌-◌, ◌<◌, ◌≤◌, ◌==◌, Bool, true, false, cond, replicate, List, [], ◌∷◌, ◌++◌, length, drop, set, get_or, arith, ◌⊎◌, inl, inr, eq-eqb, ne_eqb, add-one, drop-cons, append_assoc, append-nil, get_or-set_same, get_or-set_other, length-set}
-use Rattle.std.proofs.lemmas.List.{length-replicate}
+use Rattle.std.proofs.Common.{◌≡◌, ◌∙◌, ap, sym, refl, subst, ℕ, zero, suc, ◌+◌, ◌-◌, ◌<◌, ◌≤◌, ◌==◌, Bool, true, false, cond, replicate, List, [], ◌∷◌, ◌++◌, length, set, get_or, arith, ◌⊎◌, inl, inr, eq-eqb, ne_eqb, add-one, drop-cons, append_assoc, append-nil, get_or-set_same, get_or-set_other, length-set}
+use Rattle.std.proofs.lemmas.List.{length-replicate, drop_all}
 use Rattle.std.proofs.lemmas.Bool.{cases_lt, cases_eq, eqb-true}
 use Rattle.tree_model.specs.GroupLists.{next_from, names_from, next_at, names_at, AreHeads, AreNext}
 
@@ -13,19 +13,13 @@ pub names_step : (groups : List ℕ) (e g : ℕ) → e < length groups → names
 unfolding names_at
 names_step groups e g l = rw (add-one, drop-cons groups e 0) refl
 
-drop_past : (groups : List ℕ) (k : ℕ) → length groups ≤ k → drop k groups ≡ []
-drop_past [] zero h = refl
-drop_past [] (suc k) h = refl
-drop_past (x ∷ xs) zero h = absurd (omega (arith, h))
-drop_past (x ∷ xs) (suc k) h = drop_past xs k (omega (arith, h))
-
 pub next_past : (groups : List ℕ) (k g : ℕ) → length groups ≤ k → next_at groups k g ≡ k
 unfolding next_at
-next_past groups k g h = ap (λ xs. next_from k xs g) (drop_past groups k h)
+next_past groups k g h = ap (λ xs. next_from k xs g) (drop_all k groups h)
 
 pub names_past : (groups : List ℕ) (k g : ℕ) → length groups ≤ k → names_at groups k g ≡ []
 unfolding names_at
-names_past groups k g h = ap (λ xs. names_from k xs g) (drop_past groups k h)
+names_past groups k g h = ap (λ xs. names_from k xs g) (drop_all k groups h)
 
 -- what the next entry of the group is
 pub record IsNext (groups : List ℕ) (k g n : ℕ) : Type 0 where

@@ -1,10 +1,10 @@
 -- The numbers of groups, counted while inodes are passed.
-use Rattle.std.proofs.Common.{◌≡◌, ◌∙◌, ap, sym, refl, ℕ, zero, suc, ◌+◌, ◌<◌, ◌≤◌, Bool, true, false, cond, not, List, [], ◌∷◌, ◌++◌, length, map, drop, get_or, arith, add-one, drop-cons, append_assoc, append-nil, length-append}
+use Rattle.std.proofs.Common.{◌≡◌, ◌∙◌, ap, sym, ℕ, ◌+◌, ◌<◌, ◌≤◌, Bool, true, false, cond, not, List, [], ◌∷◌, ◌++◌, length, map, drop, get_or, arith, add-one, drop-cons, append_assoc, append-nil, length-append}
 use Rattle.std.specs.List.{list_any, position_or_len}
 use Rattle.std.proofs.lemmas.List.Sums.{prefix_len-le-length}
 use Rattle.std.specs.Prelude.{Some, slice_get}
 use Rattle.std.proofs.lemmas.Option.{slice_get_within, get_or_from_slice_get}
-use Rattle.std.proofs.lemmas.List.{get_or-map, length-map}
+use Rattle.std.proofs.lemmas.List.{get_or-map, length-map, drop_all}
 use Rattle.find_records.specs.Record.{Record}
 use Rattle.tree_model.specs.Links.{inode_of, same_inode}
 use Rattle.tree_model.specs.Groups.{with_inode, inodes_behind}
@@ -50,15 +50,9 @@ inode_read entries k r h =
 pub inodes_count : (entries : List Record) → length (map inode_of entries) ≡ length entries
 inodes_count entries = length-map entries inode_of
 
-drop_past : (inodes : List Inode) (k : ℕ) → length inodes ≤ k → drop k inodes ≡ []
-drop_past [] zero h = refl
-drop_past [] (suc k) h = refl
-drop_past (x ∷ xs) zero h = absurd (omega (arith, h))
-drop_past (x ∷ xs) (suc k) h = drop_past xs k (omega (arith, h))
-
 -- all inodes passed
 pub groups_over : (inodes : List Inode) (k : ℕ) (seen : List Inode) (groups all : List ℕ) → length inodes ≤ k → groups ++ groups_behind seen (drop k inodes) ≡ all → groups ≡ all
-groups_over inodes k seen groups all l h = sym (append-nil groups) ∙ ap (λ is. groups ++ groups_behind seen is) (sym (drop_past inodes k l)) ∙ h
+groups_over inodes k seen groups all l h = sym (append-nil groups) ∙ ap (λ is. groups ++ groups_behind seen is) (sym (drop_all k inodes l)) ∙ h
 
 pub seen_over : (inodes : List Inode) (k : ℕ) (seen all : List Inode) → length inodes ≤ k → inodes_behind seen (drop k inodes) ≡ all → seen ≡ all
-seen_over inodes k seen all l h = ap (λ is. inodes_behind seen is) (sym (drop_past inodes k l)) ∙ h
+seen_over inodes k seen all l h = ap (λ is. inodes_behind seen is) (sym (drop_all k inodes l)) ∙ h

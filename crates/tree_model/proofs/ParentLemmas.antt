@@ -1,6 +1,6 @@
 -- The nearest directory above an entry, found among the entries before it.
 use Rattle.std.proofs.Common.{◌≡◌, ◌∙◌, ap, sym, refl, subst, ℕ, zero, suc, ◌+◌, ◌<◌, inl, inr, Bool, true, false, List, length, get_or, arith}
-use Rattle.std.proofs.lemmas.Bool.{cases_lt, le-leb, lt-ltb}
+use Rattle.std.proofs.lemmas.Bool.{cases_lt, le-leb, lt-ltb, false_from_ne_true, ltb-true}
 use Rattle.std.specs.Prelude.{Option, Some, None, IfSome, ◌&&◌, nat_lt}
 use Rattle.std.specs.Cmp.{first_so, second_so}
 use Rattle.file_paths.specs.Path.{strictly_below}
@@ -9,7 +9,7 @@ use Rattle.find_records.specs.Record.{Record}
 use Rattle.tree_model.specs.Extents.{EndsFrom, before, entry_at, extent_of, in_extent, is_above, is_directory, one_behind, parent_of}
 use Rattle.tree_model.specs.Tree.{ByPath}
 use Rattle.tree_model.proofs.AboveLemmas.{longer}
-use Rattle.tree_model.proofs.ExtentLemmas.{extent_law, false_unless, in_behind, in_between, less_from, rise}
+use Rattle.tree_model.proofs.ExtentLemmas.{extent_law, in_behind, in_between, rise}
 
 -- no directory above the entry stands behind these
 abbrev pub UpTo : List Record → ℕ → Option ℕ → Type 0
@@ -49,7 +49,7 @@ module _ (entries : List Record) (up : ByPath entries) where
 
   above_longer : (d e : ℕ) → is_above entries e d ≡ true → length (entry_at entries d).path < length (entry_at entries e).path
   above_longer d e h =
-      less_from (length (entry_at entries d).path) (length (entry_at entries e).path)
+      ltb-true (length (entry_at entries d).path) (length (entry_at entries e).path)
       (second_so (in_extent entries d e) (nat_lt (length (entry_at entries d).path) (length (entry_at entries e).path))
       (second_so (is_directory entries d) (strictly_below (entry_at entries e).path (entry_at entries d).path) h))
 
@@ -72,12 +72,12 @@ module _ (entries : List Record) (up : ByPath entries) where
       rw (dir, below) refl
 
   pub upto_first : (e : ℕ) → UpTo entries e (before e)
-  upto_first zero = λ d l. false_unless (is_above entries zero d) (λ h. let b = above_before d zero l h in omega (arith, b))
-  upto_first (suc e) = (omega arith, λ d a l. false_unless (is_above entries (suc e) d) (λ h. let b = above_before d (suc e) l h in omega (arith, a, b)))
+  upto_first zero = λ d l. false_from_ne_true (is_above entries zero d) (λ h. let b = above_before d zero l h in omega (arith, b))
+  upto_first (suc e) = (omega arith, λ d a l. false_from_ne_true (is_above entries (suc e) d) (λ h. let b = above_before d (suc e) l h in omega (arith, a, b)))
 
   -- behind the parent of the last one there is none, where that one is none
   skips : (a e : ℕ) → UpTo entries e (Some a) → e < length entries → is_above entries e a ≡ false → (d : ℕ) → d < length entries → is_above entries a d ≡ false → is_above entries e d ≡ false
-  skips a e u m not d l none = false_unless (is_above entries e d) (λ h. elim (cases_lt a d) [
+  skips a e u m not d l none = false_from_ne_true (is_above entries e d) (λ h. elim (cases_lt a d) [
     | inl behind ↦ (let out = u.1 d behind l in cc)
     | inr ge ↦ elim (cases_lt d a) [
       | inl lt ↦ (let t = above_between d a e lt u.0 m h in cc)

@@ -191,7 +191,7 @@ abbrev pub onto : List Numbered → List Numbered → List Numbered
 onto [] D = D
 onto (x ∷ xs) D = onto xs (x ∷ D)
 
-by_place : (v : Bool) (all : List Numbered) (A B : Option (ℕ × ℕ)) → (v ≡ true → Verdict all A) → (v ≡ false → Verdict all B) → Verdict all (cond v A B)
+pub by_place : (v : Bool) (all : List Numbered) (A B : Option (ℕ × ℕ)) → (v ≡ true → Verdict all A) → (v ≡ false → Verdict all B) → Verdict all (cond v A B)
 by_place true all A B f g = f refl
 by_place false all A B f g = g refl
 

@@ -1,7 +1,7 @@
 -- What the tests of equality decide.
 use Rattle.std.proofs.Common.{◌≡◌, ◌∙◌, ap, sym, refl, subst, ℕ, ◌==◌, Bool, true, false, List, eq-eqb}
 use borrow.Author.Tests.{eqb-true}
-use Rattle.std.proofs.lemmas.Bool.{false_from_ne_true}
+use Rattle.std.proofs.lemmas.Bool.{false_from_ne_true, and_from, not-true, and_parts, not_from_false}
 use Rattle.std.specs.Prelude.{Option, Some, None, ◌&&◌, not, if◌then◌else◌}
 use Rattle.std.specs.Ordering.{is_eq, nat_cmp}
 use Rattle.std.specs.Cmp.Lexicographic.{lists_ties, texts_ties, slice_cmp, pointwise_decides, bytes_decides}
@@ -16,13 +16,6 @@ use Rattle.context_syntax.specs.declared.label.Label.{Label}
 use Rattle.context_syntax.specs.declared.label.Label.TheVariants.{Absent, Odd, Is}
 use Rattle.find_records.specs.Record.{Record}
 use Rattle.tree_model.specs.Entries.{same_path, same_record, conflict}
-
-pub both_true : (x y : Bool) → (x && y) ≡ true → (x ≡ true) × (y ≡ true)
-both_true true y h = (refl, h)
-both_true false y h = cc
-
-pub and_true : (x y : Bool) → x ≡ true → y ≡ true → (x && y) ≡ true
-and_true x y p q = rw (p, q) refl
 
 pub path_exact : (a b : Path) → same_path a b ≡ true → a ≡ b
 path_exact a b h = (pointwise_decides bytes_decides a b).0 h
@@ -56,15 +49,15 @@ option_exact None (Some y) h = cc
 option_exact (Some x) None h = cc
 option_exact (Some x) (Some y) h = ap Some ((bytes_decides x y).0 h)
 
-option_same : (a : Option (List ℕ)) → same_option a a ≡ true
+pub option_same : (a : Option (List ℕ)) → same_option a a ≡ true
 option_same None = refl
 option_same (Some x) = (bytes_decides x x).1 refl
 
 context_exact : (a b : ContextValue) → same_context a b ≡ true → a ≡ b
 context_exact a b h =
-    let p = both_true (same_bytes a.user b.user && same_bytes a.role b.role && same_bytes a.kind b.kind) (same_option a.range b.range) h in
-    let q = both_true (same_bytes a.user b.user && same_bytes a.role b.role) (same_bytes a.kind b.kind) p.0 in
-    let r = both_true (same_bytes a.user b.user) (same_bytes a.role b.role) q.0 in
+    let p = and_parts (same_bytes a.user b.user && same_bytes a.role b.role && same_bytes a.kind b.kind) (same_option a.range b.range) h in
+    let q = and_parts (same_bytes a.user b.user && same_bytes a.role b.role) (same_bytes a.kind b.kind) p.0 in
+    let r = and_parts (same_bytes a.user b.user) (same_bytes a.role b.role) q.0 in
     let user = (bytes_decides a.user b.user).0 r.0 in
     let role = (bytes_decides a.role b.role).0 r.1 in
     let kind = (bytes_decides a.kind b.kind).0 q.1 in
@@ -73,7 +66,7 @@ context_exact a b h =
 
 context_same : (a : ContextValue) → same_context a a ≡ true
 context_same a =
-    and_true _ _ (and_true _ _ (and_true _ _ ((bytes_decides a.user a.user).1 refl) ((bytes_decides a.role a.role).1 refl)) ((bytes_decides a.kind a.kind).1 refl)) (option_same a.range)
+    and_from _ _ (and_from _ _ (and_from _ _ ((bytes_decides a.user a.user).1 refl) ((bytes_decides a.role a.role).1 refl)) ((bytes_decides a.kind a.kind).1 refl)) (option_same a.range)
 
 label_exact : (a b : Label) → same_label a b ≡ true → a ≡ b
 label_exact Absent Absent h = refl
@@ -93,10 +86,10 @@ label_same (Is x) = context_same x
 
 pub record_exact : (a b : Record) → same_record a b ≡ true → a ≡ b
 record_exact a b h =
-    let p = both_true ((a.inode == b.inode) && (a.device == b.device) && same_kind a.kind b.kind && same_label a.label b.label) (same_path a.path b.path) h in
-    let q = both_true ((a.inode == b.inode) && (a.device == b.device) && same_kind a.kind b.kind) (same_label a.label b.label) p.0 in
-    let r = both_true ((a.inode == b.inode) && (a.device == b.device)) (same_kind a.kind b.kind) q.0 in
-    let s = both_true (a.inode == b.inode) (a.device == b.device) r.0 in
+    let p = and_parts ((a.inode == b.inode) && (a.device == b.device) && same_kind a.kind b.kind && same_label a.label b.label) (same_path a.path b.path) h in
+    let q = and_parts ((a.inode == b.inode) && (a.device == b.device) && same_kind a.kind b.kind) (same_label a.label b.label) p.0 in
+    let r = and_parts ((a.inode == b.inode) && (a.device == b.device)) (same_kind a.kind b.kind) q.0 in
+    let s = and_parts (a.inode == b.inode) (a.device == b.device) r.0 in
     let inode = eqb-true a.inode b.inode s.0 in
     let device = eqb-true a.device b.device s.1 in
     let kind = kind_exact a.kind b.kind r.1 in
@@ -106,7 +99,7 @@ record_exact a b h =
 
 pub record_same : (a : Record) → same_record a a ≡ true
 record_same a =
-    and_true _ _ (and_true _ _ (and_true _ _ (and_true _ _ (eq-eqb a.inode a.inode refl) (eq-eqb a.device a.device refl)) (eq-eqb (kind_number a.kind) (kind_number a.kind) refl)) (label_same a.label)) (path_same a.path a.path refl)
+    and_from _ _ (and_from _ _ (and_from _ _ (and_from _ _ (eq-eqb a.inode a.inode refl) (eq-eqb a.device a.device refl)) (eq-eqb (kind_number a.kind) (kind_number a.kind) refl)) (label_same a.label)) (path_same a.path a.path refl)
 
 pub conflict_itself : (a : Record) → conflict a a ≡ false
 conflict_itself a = rw (record_same a, path_same a.path a.path refl) refl
@@ -122,23 +115,15 @@ conflict_apart a b h = apart (same_path a.path b.path) (not (same_record a b)) (
 pub conflict_at : (a b c d : Record) → a ≡ c → b ≡ d → conflict a b ≡ conflict c d
 conflict_at a b c d e f = λ i. conflict (e i) (f i)
 
-not_true : (v : Bool) → not v ≡ true → v ≡ false
-not_true true h = cc
-not_true false h = refl
-
 -- what a conflict says
 pub conflict_path : (a b : Record) → conflict a b ≡ true → a.path ≡ b.path
-conflict_path a b h = path_exact a.path b.path (both_true (same_path a.path b.path) (not (same_record a b)) h).0
+conflict_path a b h = path_exact a.path b.path (and_parts (same_path a.path b.path) (not (same_record a b)) h).0
 
 pub conflict_differs : (a b : Record) → conflict a b ≡ true → same_record a b ≡ false
-conflict_differs a b h = not_true (same_record a b) (both_true (same_path a.path b.path) (not (same_record a b)) h).1
-
-by_same : (v : Bool) → v ≡ false → not v ≡ true
-by_same true h = cc
-by_same false h = refl
+conflict_differs a b h = not-true (same_record a b) (and_parts (same_path a.path b.path) (not (same_record a b)) h).1
 
 pub conflict_from : (a b : Record) → a.path ≡ b.path → same_record a b ≡ false → conflict a b ≡ true
-conflict_from a b p d = and_true (same_path a.path b.path) (not (same_record a b)) (path_same a.path b.path p) (by_same (same_record a b) d)
+conflict_from a b p d = and_from (same_path a.path b.path) (not (same_record a b)) (path_same a.path b.path p) (not_from_false (same_record a b) d)
 
 pub differs_back : (a b : Record) → same_record a b ≡ false → same_record b a ≡ false
 differs_back a b d = false_from_ne_true (same_record b a) (λ t. let e = record_exact b a t in let s : same_record a b ≡ true = subst (λ z. same_record z b ≡ true) e (record_same b) in cc)

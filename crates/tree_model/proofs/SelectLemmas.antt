@@ -1,8 +1,8 @@
 -- Operands and excluded paths, one after the other.
-use Rattle.std.proofs.Common.{◌≡◌, ◌∙◌, ap, sym, refl, ℕ, zero, suc, ◌+◌, ◌≤◌, ◌||◌, Bool, true, false, not, cond, replicate, List, [], ◌∷◌, ◌++◌, length, take, drop, get_or, arith, drop-cons, append_assoc, append-nil}
-use Rattle.std.specs.Prelude.{◌&&◌, Option, Some, None, is_some, slice_get, Result, Ok, Err, OnOk}
+use Rattle.std.proofs.Common.{◌≡◌, ◌∙◌, ap, sym, refl, ℕ, suc, ◌+◌, ◌≤◌, ◌||◌, Bool, true, false, not, cond, List, [], ◌∷◌, ◌++◌, length, take, drop, arith, drop-cons, append_assoc, append-nil}
+use Rattle.std.specs.Prelude.{◌&&◌, Option, Some, None, is_some, slice_get}
 use Rattle.std.specs.List.{list_any}
-use Rattle.std.proofs.lemmas.List.{take_more, length-replicate}
+use Rattle.std.proofs.lemmas.List.{take_more, drop_all}
 use Rattle.std.proofs.lemmas.List.Folds.{list_any-append}
 use Rattle.std.proofs.lemmas.Option.{slice_get_within, get_or_from_slice_get}
 use Rattle.file_paths.specs.Path.{Path, at_or_below}
@@ -28,14 +28,6 @@ flags_cleared n p q r live new f m h = record {
 
 pub flags_same : (n : ℕ) (p r : ℕ → Bool) (live : List Bool) → AreFlags n p live → ((e : ℕ) → r e ≡ p e) → AreFlags n r live
 flags_same n p r live f h = record { sized = f.sized; each = λ e l. f.each e l ∙ sym (h e) }
-
-no_flag : (n e : ℕ) → get_or (replicate n false) e false ≡ false
-no_flag zero e = refl
-no_flag (suc n) zero = refl
-no_flag (suc n) (suc e) = no_flag n e
-
-pub flags_none : (n : ℕ) (p : ℕ → Bool) → ((e : ℕ) → p e ≡ false) → AreFlags n p (replicate n false)
-flags_none n p h = record { sized = length-replicate n false; each = λ e l. no_flag n e ∙ sym (h e) }
 
 any_push : (p : Path → Bool) (paths : List Path) (path : Path) → list_any p (paths ++ path ∷ []) ≡ (list_any p paths || p path)
 any_push p paths path = list_any-append p paths (path ∷ []) ∙ ap (λ b. list_any p paths || b) (or_false (p path))
@@ -87,19 +79,8 @@ absent_none i entries operands path absent new h f n =
     (ap (λ xs. absent ++ xs) (sym (absent_step i entries operands path h
     ∙ ap (λ found. cond (is_some found) (absent_from (i + 1) entries (drop (i + 1) operands)) (i ∷ absent_from (i + 1) entries (drop (i + 1) operands))) f)))
 
--- what follows from what an Ok tells
-pub carried : {A E : Type 0} (r : Result A E) (P Q : Type 0) → (P → Q) → OnOk r P → OnOk r Q
-carried (Ok x) P Q f h = f h
-carried (Err e) P Q f h = h
-
-drop_all : (paths : List Path) (i : ℕ) → length paths ≤ i → drop i paths ≡ []
-drop_all [] zero l = refl
-drop_all [] (suc i) l = refl
-drop_all (p ∷ ps) zero l = absurd (omega (arith, l))
-drop_all (p ∷ ps) (suc i) l = drop_all ps i (omega (arith, l))
-
 pub absent_end : (i : ℕ) (entries : List Record) (operands : List Path) (absent all : List ℕ) → length operands ≤ i → absent ++ absent_from i entries (drop i operands) ≡ all → absent ≡ all
-absent_end i entries operands absent all l h = sym (append-nil absent) ∙ ap (λ ps. absent ++ absent_from i entries ps) (sym (drop_all operands i l)) ∙ h
+absent_end i entries operands absent all l h = sym (append-nil absent) ∙ ap (λ ps. absent ++ absent_from i entries ps) (sym (drop_all i operands l)) ∙ h
 
 abbrev pub value_of : List Bool → List ℕ → SelectedValue
 value_of live absent = record { live = live; absent = absent }

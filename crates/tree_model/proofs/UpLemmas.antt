@@ -1,8 +1,7 @@
 -- As many places as there are records, whose paths rise strictly, are those of the tree's entries.
 use Rattle.std.proofs.Common.{◌≡◌, ◌∙◌, ap, sym, refl, subst, ℕ, ◌<◌, Bool, true, false, List, [], ◌∷◌, length, get_or, arith, inl, inr}
-use Rattle.std.specs.Prelude.{◌||◌, nat_lt, nat_eq, None, Ok}
-use Rattle.std.proofs.lemmas.Bool.{eqb-true}
-use Rattle.std.proofs.lemmas.Bool.Decides.{nat_tests}
+use Rattle.std.specs.Prelude.{nat_lt, nat_eq, None, Ok}
+use Rattle.std.proofs.lemmas.Bool.{eqb-true, or_parts, and_parts, ltb-true}
 use Rattle.std.specs.List.{list_any, IsDistinct, AllByRecursion}
 use Rattle.std.specs.Ordering.{is_lt}
 use Rattle.std.specs.declared.cmp.Ordering.{Ordering}
@@ -10,40 +9,33 @@ use Rattle.std.specs.declared.cmp.Ordering.TheVariants.{Less, Equal, Greater}
 use Rattle.std.proofs.lemmas.List.Elements.{Contains-get_or}
 use Rattle.std.proofs.lemmas.Map.Keys.{IsDistinct-cons}
 use Rattle.std.proofs.lemmas.Map.Steps.{length-le_from_distinct_below}
+use Rattle.std.proofs.lemmas.List.{get_or_default}
 use Rattle.file_paths.specs.Path.{path_cmp}
 use Rattle.find_records.specs.Record.{Record}
 use Rattle.tree_model.specs.Entries.{conflict, doubled, entries_of, tree_of, unless_doubled, same_path}
 use Rattle.tree_model.specs.Numbered.{numbered_from}
 use Rattle.find_records.specs.Places.{ArePlaces, no_record, records_at}
 use Rattle.tree_model.proofs.Members.{Has, any_has, contains_from_has, from_map, has_from_contains, has_map}
-use Rattle.tree_model.proofs.SameLemmas.{both_true, conflict_at, conflict_itself, path_exact}
+use Rattle.tree_model.proofs.SameLemmas.{conflict_at, conflict_itself, path_exact}
 use Rattle.tree_model.proofs.NumberedLemmas.{in_item, one_each}
 use Rattle.tree_model.proofs.DoubledLemmas.{calm_from, doubled_right}
 use Rattle.tree_model.proofs.Verdicts.{Peace, verdict_one}
 use Rattle.tree_model.proofs.RunLemmas.{path_total}
 use Rattle.tree_model.proofs.EntryLemmas.{Rising, not_less_itself, rising_one, entries_rising, from_entries, to_entries}
-use Rattle.tree_model.proofs.KnownLemmas.{any_default}
 use Rattle.tree_model.specs.Extents.{entry_at}
 use Rattle.tree_model.specs.Up.{is_next, steps_up, goes_up}
 
-less_from : (o : Ordering) → is_lt o ≡ true → o ≡ Less
+pub less_from : (o : Ordering) → is_lt o ≡ true → o ≡ Less
 less_from Less h = refl
 less_from Equal h = cc
 less_from Greater h = cc
-
-below : (a b : ℕ) → nat_lt a b ≡ true → a < b
-below a b h = grind (arith, nat_tests)
-
-split : (v w : Bool) → (v || w) ≡ false → (v ≡ false) × (w ≡ false)
-split true w h = cc
-split false w h = (refl, h)
 
 module _ (records : List Record) where
   up_rising : (last : ℕ) (ps : List ℕ) → steps_up records last ps ≡ true → Rising (entry_at records last ∷ records_at records ps)
   up_rising last [] h = (λ x k. absurd k, tt)
   up_rising last (p ∷ ps) h =
-      let both = both_true (is_next records last p) (steps_up records p ps) h in
-      let next = both_true (nat_lt p (length records)) (is_lt (path_cmp (entry_at records last).path (entry_at records p).path)) both.0 in
+      let both = and_parts (is_next records last p) (steps_up records p ps) h in
+      let next = and_parts (nat_lt p (length records)) (is_lt (path_cmp (entry_at records last).path (entry_at records p).path)) both.0 in
       let less = less_from (path_cmp (entry_at records last).path (entry_at records p).path) next.1 in
       let rest = up_rising p ps both.1 in (
         λ x k. elim k [
@@ -56,19 +48,19 @@ module _ (records : List Record) where
   up_within : (last : ℕ) (ps : List ℕ) → steps_up records last ps ≡ true → ArePlaces (length records) ps
   up_within last [] h = tt
   up_within last (p ∷ ps) h =
-      let both = both_true (is_next records last p) (steps_up records p ps) h in
-      let next = both_true (nat_lt p (length records)) (is_lt (path_cmp (entry_at records last).path (entry_at records p).path)) both.0 in
-      (below p (length records) next.0, up_within p ps both.1)
+      let both = and_parts (is_next records last p) (steps_up records p ps) h in
+      let next = and_parts (nat_lt p (length records)) (is_lt (path_cmp (entry_at records last).path (entry_at records p).path)) both.0 in
+      (ltb-true p (length records) next.0, up_within p ps both.1)
 
   pub goes_within : (ps : List ℕ) → goes_up records ps ≡ true → ArePlaces (length records) ps
   goes_within [] h = tt
   goes_within (p ∷ ps) h =
-      let both = both_true (nat_lt p (length records)) (steps_up records p ps) h in
-      (below p (length records) both.0, up_within p ps both.1)
+      let both = and_parts (nat_lt p (length records)) (steps_up records p ps) h in
+      (ltb-true p (length records) both.0, up_within p ps both.1)
 
   goes_rising : (ps : List ℕ) → goes_up records ps ≡ true → Rising (records_at records ps)
   goes_rising [] h = tt
-  goes_rising (p ∷ ps) h = up_rising p ps (both_true (nat_lt p (length records)) (steps_up records p ps) h).1
+  goes_rising (p ∷ ps) h = up_rising p ps (and_parts (nat_lt p (length records)) (steps_up records p ps) h).1
 
   -- places of rising records differ
   differ_by : (v : Bool) (p q : ℕ) → nat_eq p q ≡ v → path_cmp (entry_at records p).path (entry_at records q).path ≡ Less → nat_eq p q ≡ false
@@ -88,7 +80,7 @@ module _ (records : List Record) where
   -- as many places as records leave none out
   none_of : (k : ℕ) (ps : List ℕ) → list_any (nat_eq k) ps ≡ false → AllByRecursion (λ y. nat_eq k y ≡ false) ps
   none_of k [] h = tt
-  none_of k (p ∷ ps) h = let s = split (nat_eq k p) (list_any (nat_eq k) ps) h in (s.0, none_of k ps s.1)
+  none_of k (p ∷ ps) h = let s = or_parts (nat_eq k p) (list_any (nat_eq k) ps) h in (s.0, none_of k ps s.1)
 
   place_within : (n : ℕ) (ps : List ℕ) (p : ℕ) → ArePlaces n ps → Has ps p → p < n
   place_within n [] p w h = absurd h
@@ -106,7 +98,7 @@ module _ (records : List Record) where
       absurd (omega (arith, few, n))
 
   read_at : (k : ℕ) (z : Record) → k < length records → get_or records k z ≡ z → entry_at records k ≡ z
-  read_at k z l e = any_default records k no_record z l ∙ e
+  read_at k z l e = get_or_default records k no_record z l ∙ e
 
   module _ (ps : List ℕ) (up : goes_up records ps ≡ true) (all : length ps ≡ length records) where
     entry_has : (z : Record) → Has records z → Has (records_at records ps) z

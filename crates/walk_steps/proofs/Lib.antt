@@ -1,4 +1,4 @@
-mod ListLemmas
+pub mod ListLemmas
 mod Reached
 mod Running
 pub mod EndLemmas

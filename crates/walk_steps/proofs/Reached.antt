@@ -1,7 +1,7 @@
 -- Each step keeps a state sound and each word the least entry that was claimed.
 use Rattle.std.proofs.Common.{◌≡◌, ◌≢◌, ℕ, suc, ◌+◌, ◌<◌, ◌≤◌, ◌==◌, ◌&&◌, ◌⊎◌, min, not, nat_lt, nat_le, Bool, true, false, true≢false, cond, eq-eqb, List, [], ◌∷◌, ◌++◌, get_or, length, replicate, refl, sym, ap, subst, ◌∙◌, inl, inr, ⊎_elim, arith, get_or-set_other, get_or-set_same, length-set, Result, Ok, Err}
 use Rattle.std.proofs.lemmas.List.{length-replicate, get_or-replicate}
-use Rattle.std.proofs.lemmas.Bool.{and_parts, ltb-true, leb-true}
+use Rattle.std.proofs.lemmas.Bool.{and_parts, ltb-true, leb-true, not-true}
 use mathlib.Core.Logic.{dite}
 use native.Mathlib.Decide.{dec_le, ℕ_discrete}
 use Rattle.walk_steps.specs.declared.machine.TheConstants.{NONE_WORD}
@@ -14,10 +14,6 @@ use Rattle.walk_steps.specs.Lists.{is_in, list_of, added_to, lowered, hit, times
 use Rattle.walk_steps.specs.Machine.{first_state, is_empty, is_allowed, after_take, after_offer, after_claim, after, run_from, run_of}
 use Rattle.walk_steps.specs.Sound.{Sound, WordsAreLeast, claims_of, claimed_by}
 use Rattle.walk_steps.proofs.ListLemmas.{hit_same, hit_other, hit_small, times_append, in_times, out_times, in_range, added_total, added_length, added_here, added_else, added_keeps, one_list, two_lists, someone, none_in_empty}
-
-is_not : (a : Bool) → not a ≡ true → a ≡ false
-is_not true e = absurd (true≢false (sym e))
-is_not false e = refl
 
 begins_sound : (shape : Shape) (workers : ℕ) → Sound shape (first_state shape workers)
 begins_sound shape workers = record {
@@ -81,12 +77,12 @@ sound_claim shape state entry s = record { workers = s.workers; placed = s.place
 
 sound_step : (shape : Shape) (state : WalkState) (step : Step) → is_allowed shape state step ≡ true → Sound shape state → Sound shape (after shape state step)
 sound_step shape state (Take worker) e s = let p = and_parts (nat_lt worker (length state.taken)) (not (is_empty state.queue)) e in
-    sound_take shape state worker state.queue refl (is_not (is_empty state.queue) p.1) (ltb-true _ _ p.0) s
+    sound_take shape state worker state.queue refl (not-true (is_empty state.queue) p.1) (ltb-true _ _ p.0) s
 sound_step shape state (Offer worker job) e s =
     let p = and_parts (not (job == 0) && nat_le job (last_job shape)) (is_in (parent_of shape job) (list_of state.taken worker) && not (is_in job (list_of state.given worker))) e in
     let a = and_parts (not (job == 0)) (nat_le job (last_job shape)) p.0 in
     let b = and_parts (is_in (parent_of shape job) (list_of state.taken worker)) (not (is_in job (list_of state.given worker))) p.1 in
-    sound_offer shape state worker job (positive (is_not (job == 0) a.0)) (leb-true _ _ a.1) (in_times _ _ b.0) (out_times _ _ (is_not _ b.1)) s
+    sound_offer shape state worker job (positive (not-true (job == 0) a.0)) (leb-true _ _ a.1) (in_times _ _ b.0) (out_times _ _ (not-true _ b.1)) s
   where
     positive : (job == 0) ≡ false → 0 < job
     positive f = dite (ℕ_discrete job 0) (λ (z : job ≡ 0). absurd (true≢false (sym (eq-eqb job 0 z) ∙ f))) (λ (z : job ≢ 0). omega arith)

@@ -1,6 +1,7 @@
 use Rattle.std.proofs.Common.{◌∙◌, ap}
 use Rattle.find_records.specs.Marks.{marks_in}
-use Rattle.find_records.proofs.MarkLemmas.{marks_longer, marks_same, on_err_from}
+use Rattle.std.proofs.lemmas.Result.{on_err_weaker}
+use Rattle.find_records.proofs.MarkLemmas.{marks_longer, marks_same}
 use Rattle.find_records.proofs.marks.mark_number.Goals as goal
 
 pub returns-clause-extends : goal.returns-clause-extends
@@ -10,6 +11,6 @@ returns-clause-extends c =
 
 pub returns-clause-same : goal.returns-clause-same
 returns-clause-same c =
-    on_err_from c.number_of-2.result _ _
+    on_err_weaker c.number_of-2.result
     (λ same. ap (marks_in c.number_of.new.self) same ∙ marks_same c.args.labels.now c.number_of.new.self c.args.pairs.now.keys c.in_ok-label.ensures.extends c.requires)
     c.number_of-2.ensures.err

@@ -1,12 +1,13 @@
 use Rattle.std.proofs.Common.{◌≡◌, ◌∙◌, ap, sym, ◌++◌, [], arith}
+use Rattle.std.proofs.lemmas.List.{nil_from_length}
 use Rattle.find_records.proofs.NulCuts.{lacking}
-use Rattle.find_records.proofs.SoFarLemmas.{is_none, taken_ended}
+use Rattle.find_records.proofs.SoFarLemmas.{taken_ended}
 use Rattle.find_records.proofs.so_far.take_ended.Goals as goal
 
 pub returns-then-len-eq0-clause-meant : goal.returns-then-len-eq0-clause-meant
 returns-then-len-eq0-clause-meant c =
     let s = c.args.so_far.now in
-    let nothing : s.pending ≡ [] = is_none s.pending (omega (arith, c.if-len-eq0.true, c.len.ensures)) in
+    let nothing : s.pending ≡ [] = nil_from_length s.pending (omega (arith, c.if-len-eq0.true, c.len.ensures)) in
     taken_ended s.most s.records c.add_or_refuse.new.records s.refused c.in_ok-so_far.field-0 s.pending c.args.bytes.now c.args.bytes.now s.pending
     c.requires.none (ap (λ t. t ++ c.args.bytes.now) (sym nothing)) nothing c.requires.unended c.in_ok-so_far.ensures.added
 

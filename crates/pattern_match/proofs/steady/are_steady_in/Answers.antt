@@ -2,9 +2,10 @@ use Rattle.std.proofs.Common.{◌≡◌, ◌≢◌, ◌+◌, ◌*◌, ◌-◌, �
 use Rattle.std.specs.Prelude.{bit_and}
 use Rattle.std.specs.Int.{bit_at, trailing_zeros}
 use Rattle.std.proofs.lemmas.Nat.Bits.{bit_at-trailing_zeros, bit_at-zero}
+use Rattle.std.proofs.lemmas.Bool.{cases_eq}
 use Rattle.pattern_match.specs.Loops.{IsSteady}
 use Rattle.pattern_match.proofs.WordBits.{bit_of_word, word_of_bit}
-use Rattle.pattern_match.proofs.LowestBits.{still_marked, equal_or_not, others_stay}
+use Rattle.pattern_match.proofs.LowestBits.{still_marked, others_stay}
 use Rattle.pattern_match.proofs.Sweeps.{lowest_row}
 use Rattle.pattern_match.proofs.steady.are_steady_in.Goals as goal
 
@@ -38,7 +39,7 @@ returns-then-not-is_steady c =
 pub states-preserved : goal.states-preserved
 states-preserved c = record {
   marked = λ j l b. c.states.invariant.marked j l (still_marked c.states.left j (omega arith) (omega arith) b);
-  steady = λ j l h. at j (c.states.invariant.steady j l h) (equal_or_not j (trailing_zeros w64 c.states.left));
+  steady = λ j l h. at j (c.states.invariant.steady j l h) (cases_eq j (trailing_zeros w64 c.states.left));
 }
   where
     at : (j : ℕ) → (bit_at c.states.left j ≡ 1) ⊎ IsSteady c.args.marks.now c.args.follow.now c.args.classes.now (64 * c.args.i + j) → (j ≡ trailing_zeros w64 c.states.left) ⊎ (j ≢ trailing_zeros w64 c.states.left) → (bit_at (bit_and c.states.left (c.states.left - 1)) j ≡ 1) ⊎ IsSteady c.args.marks.now c.args.follow.now c.args.classes.now (64 * c.args.i + j)

@@ -1,8 +1,9 @@
 use Rattle.std.proofs.Common.{arith, ◌∙◌, length}
 use Rattle.std.proofs.lemmas.List.{length-drop}
+use Rattle.pattern_syntax.proofs.FaultLemmas.{stays_shallow}
 use Rattle.pattern_syntax.specs.PatternCause.{pattern_cause}
 use Rattle.pattern_syntax.specs.Views.{token_of}
-use Rattle.pattern_syntax.proofs.RestLemmas.{refused_cause, structure_cause, end_cause, open_cause, whole_cause, fault_later, stays_shallow}
+use Rattle.pattern_syntax.proofs.RestLemmas.{refused_cause, structure_cause, end_cause, open_cause, whole_cause, fault_later}
 use Rattle.pattern_syntax.proofs.rest.refuse_rest.Goals as goal
 
 pub returns-in-Err : goal.returns-in-Err

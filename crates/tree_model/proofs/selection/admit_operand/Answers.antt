@@ -1,9 +1,10 @@
 use Rattle.std.proofs.Common.{◌≡◌, ◌∙◌, ◌+◌, ap, sym, length, take}
+use Rattle.std.proofs.lemmas.Result.{on_ok_weaker}
 use Rattle.std.specs.Prelude.{Some, None}
 use Rattle.tree_model.specs.Selection.{admits, is_admitted}
 use Rattle.tree_model.specs.Tree.{find_in}
 use Rattle.tree_model.proofs.MarkLemmas.{or_false}
-use Rattle.tree_model.proofs.SelectLemmas.{absent_found, absent_none, admitted_more, carried, flags_marked, flags_same}
+use Rattle.tree_model.proofs.SelectLemmas.{absent_found, absent_none, admitted_more, flags_marked, flags_same}
 use Rattle.tree_model.proofs.selection.admit_operand.Goals as goal
 
 pub returns-in-Some-clause-flags : goal.returns-in-Some-clause-flags
@@ -30,4 +31,4 @@ returns-in-None-clause-flags c =
 pub returns-in-None-clause-absent : goal.returns-in-None-clause-absent
 returns-in-None-clause-absent c =
     let there : find_in c.get.result.now c.args.sorted.now ≡ None = ap (λ p. find_in p c.args.sorted.now) (sym c.path-path.ensures) ∙ sym c.find.ensures ∙ c.in-None.is in
-    carried c.push.result _ _ (absent_none c.args.index c.args.sorted.now c.args.choice.now.operands c.get.result.now c.args.absent.now c.push.new.self c.get.ensures there) c.push.ensures.ok
+    on_ok_weaker c.push.result (absent_none c.args.index c.args.sorted.now c.args.choice.now.operands c.get.result.now c.args.absent.now c.push.new.self c.get.ensures there) c.push.ensures.ok

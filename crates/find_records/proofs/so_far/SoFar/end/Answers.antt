@@ -1,5 +1,6 @@
 use Rattle.std.proofs.Common.{arith}
-use Rattle.find_records.proofs.SoFarLemmas.{explained, is_none, last_meant, whole_meant}
+use Rattle.std.proofs.lemmas.List.{nil_from_length}
+use Rattle.find_records.proofs.SoFarLemmas.{explained, last_meant, whole_meant}
 use Rattle.find_records.proofs.so_far.SoFar.end.Goals as goal
 
 pub returns-then-len-gt0-clause-answer : goal.returns-then-len-gt0-clause-answer
@@ -10,4 +11,4 @@ returns-then-len-gt0-clause-answer c =
 pub returns-clause-answer : goal.returns-clause-answer
 returns-clause-answer c =
     let s = c.args.self in
-    whole_meant s.most s.records s.refused s.pending c.in-None.is (is_none s.pending (omega (arith, c.if-len-gt0.false, c.len.ensures)))
+    whole_meant s.most s.records s.refused s.pending c.in-None.is (nil_from_length s.pending (omega (arith, c.if-len-gt0.false, c.len.ensures)))

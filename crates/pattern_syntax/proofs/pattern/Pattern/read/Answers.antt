@@ -4,11 +4,12 @@ use Rattle.std.proofs.lemmas.List.{length-drop}
 use Rattle.pattern_syntax.specs.Tree.{Tree}
 use Rattle.pattern_syntax.specs.Nodes.{rest_tree}
 use Rattle.std.proofs.lemmas.Result.{err_from_is_err_and}
+use Rattle.std.proofs.lemmas.Bool.{OnTrue_at}
 use Rattle.pattern_syntax.specs.Reading.{new_reading, after_token, pattern_of}
 use Rattle.pattern_syntax.specs.PatternCause.{pattern_cause}
 use Rattle.pattern_syntax.specs.Views.{token_of}
 use Rattle.pattern_syntax.proofs.BuildingLemmas.{token_explained, fault_explained, token_read, all_read, end_explained}
-use Rattle.pattern_syntax.proofs.RestLemmas.{when_on_true, rest_refused}
+use Rattle.pattern_syntax.proofs.RestLemmas.{rest_refused}
 use Rattle.pattern_syntax.proofs.pattern.Pattern.read.Goals as goal
 
 pub tokens-init : goal.tokens-init
@@ -54,5 +55,5 @@ returns c =
 pub returns-then-is_full : goal.returns-then-is_full
 returns-then-is_full c =
     let i = c.tokens.invariant in
-    let f = when_on_true c.is_full.result _ c.if-is_full.true c.is_full.ensures i.0 i.1 in
+    let f = OnTrue_at c.if-is_full.true c.is_full.ensures i.0 i.1 in
     rw c.refuse_rest.ensures (rest_refused (pattern_of c.args.bytes.now) (length c.args.bytes.now) i.0 c.is_after_piece.result _ i.3 f.0 (c.is_after_piece.ensures i.0 i.1) f.1)
