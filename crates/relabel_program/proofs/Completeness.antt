@@ -6,16 +6,17 @@ use Rattle.input_output.specs.Source.{Rose}
 use Rattle.input_output.specs.Store.{Files}
 use Rattle.tool_words.specs.declared.command.Command.{Command}
 use Rattle.tool_words.specs.declared.usage.Usage.{Usage}
-use Rattle.relabel_program.specs.Answer.{answer, cause_of}
+use Rattle.relabel_program.specs.Answer.{answer}
 use Rattle.run_faults.specs.Asked.{input_in}
 use Rattle.run_faults.specs.Causes.{IsWritten}
 use Rattle.run_faults.specs.Faults.{fault_line}
 use Rattle.run_faults.specs.Names.{names_in}
-use Rattle.relabel_program.specs.Run.{Ends, FileFailed, InputFailed, LineOrFront, LosesDump, LosesReport, Reports, Run, files_with}
+use Rattle.relabel_program.specs.Run.{Ends, FileFailed, InputFailed, LosesDump, LosesReport, Reports, Run, files_with}
+use Rattle.run_faults.specs.Endings.{LineOrFront, cause_of}
 use Rattle.run_faults.specs.declared.cause.Cause.{Cause}
 use Rattle.run_faults.specs.declared.cause.Cause.TheVariants.{Done, WalkErrors, Differs, ReadFault, WriteFault, OutOfMemory}
 use Rattle.run_faults.specs.declared.names.FileNames.{FileNames}
-use Rattle.relabel_program.specs.declared.told.Told.{Told}
+use Rattle.run_faults.specs.declared.told.Told.{Told}
 
 -- the cause of an answer, its text, and the files that it leaves
 abbrev pub cause_in : Result Told Cause → Cause

@@ -7,7 +7,8 @@ use Rattle.run_faults.specs.Asked.{input_for, output_of, takes_records}
 use Rattle.run_faults.specs.Faults.{fault_line}
 use Rattle.policy_files.specs.Files.{policy}
 use Rattle.run_faults.specs.Names.{names_for}
-use Rattle.relabel_program.specs.Run.{FilesDecide, LineOrFront, OthersStay, Run}
+use Rattle.relabel_program.specs.Run.{FilesDecide, OthersStay, Run}
+use Rattle.run_faults.specs.Endings.{LineOrFront}
 use Rattle.relabel_program.specs.Stages.{FilesRead}
 use Rattle.run_faults.specs.declared.cause.Cause.{Cause}
 use Rattle.run_faults.specs.declared.cause.Cause.TheVariants.{OutOfMemory}

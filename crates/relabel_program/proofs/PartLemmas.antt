@@ -13,22 +13,23 @@ use Rattle.tool_words.specs.declared.command.Command.{Command}
 use Rattle.tool_words.specs.declared.command.Command.TheVariants.{Relabel, Lookup, Sample}
 use Rattle.tool_words.specs.declared.command.LookupWords.{LookupWords}
 use Rattle.tool_words.specs.declared.command.RelabelWords.{RelabelWords}
-use Rattle.relabel_program.specs.Answer.{answer_for, cause_of, saved_as, told_by, told_by_lookup, told_by_walk}
+use Rattle.relabel_program.specs.Answer.{answer_for, saved_as, told_by, told_by_lookup, told_by_walk}
 use Rattle.run_faults.specs.Asked.{output_of}
 use Rattle.run_faults.specs.Causes.{and_then, CauseCounts, Explained, IsFileCause, IsInputCause, IsReadingCause, IsWritten}
 use Rattle.policy_files.specs.Files.{policy}
 use Rattle.run_faults.specs.Input.{entries_for}
 use Rattle.relabel_program.specs.Sample.{told_by_sample}
 use Rattle.policy_files.proofs.FilesLemmas.{explained_next}
-use Rattle.relabel_program.specs.Run.{Ends, FilesDecide, OthersStay, Reports, Saves, files_with}
+use Rattle.relabel_program.specs.Run.{Ends, FilesDecide, OthersStay, Reports, files_with}
+use Rattle.run_faults.specs.Endings.{Saves, cause_of}
 use Rattle.run_faults.specs.declared.cause.Cause.{Cause}
 use Rattle.run_faults.specs.declared.cause.Cause.TheVariants.{Done, RecordRefused, Unended, Doubled, Limit, WalkErrors, Differs, ReadFault, WriteFault, OutOfMemory}
 use Rattle.run_faults.specs.declared.cause.LimitKind.TheVariants.{File, Specs, Records, RecordBytes}
 use Rattle.policy_files.specs.declared.policy.Policy.{Policy}
-use Rattle.relabel_program.specs.declared.told.End.{End}
-use Rattle.relabel_program.specs.declared.told.End.TheVariants as ends
-use Rattle.relabel_program.specs.declared.told.Saved.{Saved}
-use Rattle.relabel_program.specs.declared.told.Told.{Told}
+use Rattle.run_faults.specs.declared.told.End.{End}
+use Rattle.run_faults.specs.declared.told.End.TheVariants as ends
+use Rattle.run_faults.specs.declared.told.Saved.{Saved}
+use Rattle.run_faults.specs.declared.told.Told.{Told}
 
 -- ---- options
 

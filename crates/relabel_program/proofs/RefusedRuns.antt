@@ -9,7 +9,8 @@ use Rattle.run_faults.specs.Causes.{CauseCounts, IsFileCause, IsInputCause}
 use Rattle.run_faults.specs.Faults.{fault_line}
 use Rattle.policy_files.specs.Files.{policy}
 use Rattle.run_faults.specs.Names.{names_for}
-use Rattle.relabel_program.specs.Run.{LineOrFront, Run}
+use Rattle.relabel_program.specs.Run.{Run}
+use Rattle.run_faults.specs.Endings.{LineOrFront}
 use Rattle.relabel_program.specs.Stages.{FilesRead, InputRead}
 use Rattle.run_faults.specs.declared.cause.Cause.{Cause}
 use Rattle.run_faults.specs.declared.cause.Cause.TheVariants.{OutOfMemory}

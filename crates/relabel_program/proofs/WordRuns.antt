@@ -12,11 +12,12 @@ use Rattle.tool_words.specs.declared.usage.UsageWhy.{UsageWhy}
 use Rattle.run_faults.specs.Causes.{Explained, IsWritten, words_cause}
 use Rattle.run_faults.specs.Faults.{fault_line}
 use Rattle.run_faults.specs.Names.{no_names}
-use Rattle.relabel_program.specs.Run.{LineOrFront, Run}
+use Rattle.relabel_program.specs.Run.{Run}
+use Rattle.run_faults.specs.Endings.{LineOrFront}
 use Rattle.run_faults.specs.declared.cause.Cause.{Cause}
 use Rattle.run_faults.specs.declared.cause.Cause.TheVariants as causes
 use Rattle.run_faults.specs.declared.cause.Cause.TheVariants.{ReadFault, OutOfMemory}
-use Rattle.relabel_program.specs.declared.told.Told.{Told}
+use Rattle.run_faults.specs.declared.told.Told.{Told}
 use Rattle.policy_files.proofs.FilesLemmas.{all_some}
 use Rattle.relabel_program.proofs.PartLemmas.{ends_explained}
 use Rattle.relabel_program.proofs.MemoryRuns.{told_early}

@@ -7,18 +7,19 @@ use Rattle.input_output.specs.declared.store.SaveFault.{SaveFault}
 use Rattle.input_output.specs.declared.store.SaveFault.TheVariants as save
 use Rattle.find_records.specs.Record.{Record}
 use Rattle.tool_words.specs.declared.command.Command.{Command}
-use Rattle.relabel_program.specs.Answer.{answer_for, cause_of, told_by}
+use Rattle.relabel_program.specs.Answer.{answer_for, told_by}
 use Rattle.run_faults.specs.Asked.{input_for, output_of, takes_records}
 use Rattle.run_faults.specs.Causes.{IsWritten}
 use Rattle.run_faults.specs.Faults.{fault_line}
 use Rattle.policy_files.specs.Files.{policy}
 use Rattle.run_faults.specs.Names.{names_for}
-use Rattle.relabel_program.specs.Run.{Ends, LineOrFront, LosesDump, LosesReport, OthersStay, Run, Saves, WritesReport, files_with}
+use Rattle.relabel_program.specs.Run.{Ends, LosesDump, LosesReport, OthersStay, Run, files_with}
+use Rattle.run_faults.specs.Endings.{LineOrFront, Saves, WritesReport, cause_of}
 use Rattle.relabel_program.specs.Stages.{FilesRead, InputRead, Tells, loses_dump, no_texts, saves_dump, saves_nothing}
 use Rattle.run_faults.specs.declared.cause.Cause.{Cause}
 use Rattle.run_faults.specs.declared.cause.Cause.TheVariants.{WriteFault, OutOfMemory}
 use Rattle.policy_files.specs.declared.policy.Policy.{Policy}
-use Rattle.relabel_program.specs.declared.told.Told.{Told}
+use Rattle.run_faults.specs.declared.told.Told.{Told}
 use Rattle.relabel_program.proofs.PartLemmas.{all_saved, answer_told, end_kept, end_written, ends_reported, failing_named, files_accepted, if_both, if_some, name_in, none_saved, others_stay, output_saved, same_told, stay_same, written_later}
 use Rattle.relabel_program.proofs.MemoryRuns.{accepted_memory, gave_up}
 

@@ -22,16 +22,10 @@ use Rattle.relabel_program.specs.Sample.{told_by_sample}
 use Rattle.run_faults.specs.declared.cause.Cause.{Cause}
 use Rattle.run_faults.specs.declared.cause.Cause.TheVariants as causes
 use Rattle.policy_files.specs.declared.policy.Policy.{Policy}
-use Rattle.relabel_program.specs.declared.told.End.{End}
-use Rattle.relabel_program.specs.declared.told.End.TheVariants.{Done, WalkErrors, Differs}
-use Rattle.relabel_program.specs.declared.told.Saved.{Saved}
-use Rattle.relabel_program.specs.declared.told.Told.{Told}
-
--- the cause of a run that ends so
-abbrev pub cause_of : End → Cause
-cause_of Done = causes.Done
-cause_of (WalkErrors count) = causes.WalkErrors count
-cause_of (Differs count) = causes.Differs count
+use Rattle.run_faults.specs.declared.told.End.{End}
+use Rattle.run_faults.specs.declared.told.End.TheVariants.{Done, WalkErrors, Differs}
+use Rattle.run_faults.specs.declared.told.Saved.{Saved}
+use Rattle.run_faults.specs.declared.told.Told.{Told}
 
 -- ---- setfiles and restorecon
 

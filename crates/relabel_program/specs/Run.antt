@@ -4,13 +4,13 @@ use Rattle.std.specs.FinMap as map
 use Rattle.std.specs.Io.KnownBytes.{Appends}
 use Rattle.input_output.specs.Sink.{AppendsFront}
 use Rattle.input_output.specs.Source.{Rose}
-use Rattle.input_output.specs.Store.{Files, SaveTold}
-use Rattle.input_output.specs.declared.store.SaveFault.{SaveFault}
+use Rattle.input_output.specs.Store.{Files}
 use Rattle.tool_words.specs.declared.command.Command.{Command}
 use Rattle.tool_words.specs.declared.usage.Usage.{Usage}
-use Rattle.relabel_program.specs.Answer.{answer, cause_of}
+use Rattle.relabel_program.specs.Answer.{answer}
 use Rattle.run_faults.specs.Asked.{input_in, output_in, takes_records}
 use Rattle.run_faults.specs.Causes.{Explained, IsFileCause, IsReadingCause, IsWritten}
+use Rattle.run_faults.specs.Endings.{LineOrFront, cause_of}
 use Rattle.run_faults.specs.Faults.{fault_line}
 use Rattle.policy_files.specs.Files.{policy}
 use Rattle.run_faults.specs.Names.{names_in}
@@ -18,8 +18,8 @@ use Rattle.run_faults.specs.declared.cause.Cause.{Cause}
 use Rattle.run_faults.specs.declared.cause.Cause.TheVariants as causes
 use Rattle.run_faults.specs.declared.cause.Cause.TheVariants.{Done, WalkErrors, Differs, ReadFault, WriteFault, OutOfMemory}
 use Rattle.policy_files.specs.declared.policy.Policy.{Policy}
-use Rattle.relabel_program.specs.declared.told.Saved.{Saved}
-use Rattle.relabel_program.specs.declared.told.Told.{Told}
+use Rattle.run_faults.specs.declared.told.Saved.{Saved}
+use Rattle.run_faults.specs.declared.told.Told.{Told}
 
 -- ---- refusals
 
@@ -39,12 +39,6 @@ pub record RefusesFile (refusal cause : Cause) (untouched : Type 0) : Type 0 whe
 abbrev pub FilesDecide : Result Policy Cause → Cause → Type 0 → Type 0
 FilesDecide (Err refusal) cause untouched = RefusesFile refusal cause untouched
 FilesDecide (Ok policy) cause untouched = IsFileCause cause → IsReadingCause cause
-
--- a line was written, or a front of it where the sink failed
-abbrev pub LineOrFront : {O : Type 0} → (O → Option (List ℕ)) → (O → ℕ) → O → O → List ℕ → Type 0
-LineOrFront written faults old new line =
-    Appends (written old) (written new) line
-    ⊎ (AppendsFront (written old) (written new) line × Rose (faults old) (faults new))
 
 -- ---- what is written
 
@@ -77,24 +71,6 @@ pub record ReportsFront {S O : Type 0} (files : S → Option Files) (written : O
   pub is_meant : meant ≡ Ok reported
   pub front : AppendsFront (written out) (written out_now) reported.report
   pub saved : files store ≡ Some (files_with told reported.saved)
-
--- ---- what the two writes of a run leave
-
--- a write of the dump: it was saved, or the write failed, or found no memory; without a dump nothing is
--- written
-abbrev pub Saves : Option Files → Option Files → Option Saved → Result (Unit {0}) SaveFault → Type 0
-Saves old new None (Ok done) = new ≡ old
-Saves old new None (Err fault) = ⊥
-Saves old new (Some saved) result = SaveTold old new saved.name saved.text result
-
--- a write of the report: it was written whole and the cause is its own, or a front of it was where the
--- sink failed
-abbrev pub WritesReport : {O : Type 0}
-    → (O → Option (List ℕ)) → (O → ℕ) → O → O → Told → Cause → Type 0
-WritesReport written faults old new told cause =
-    (cause ≡ cause_of told.end) × Appends (written old) (written new) told.report
-    ⊎ (cause ≡ WriteFault) × AppendsFront (written old) (written new) told.report
-    × Rose (faults old) (faults new)
 
 -- the end of a run is the one that is meant; a write fails only where there is no refusal
 abbrev pub Ends : {S O : Type 0} → (S → Option Files) → (O → Option (List ℕ)) → S → O → O

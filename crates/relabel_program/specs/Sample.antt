@@ -1,6 +1,5 @@
 -- A sample of a tree, walked twice.
-use Rattle.std.specs.Prelude.{ℕ, zero, suc, ◌+◌, Bool, true, false, List, ◌++◌, map, Option, Some, None}
-use Rattle.std.specs.Fmt.{decimal}
+use Rattle.std.specs.Prelude.{ℕ, zero, suc, ◌+◌, Bool, true, false, List, map, Option, Some, None}
 use Rattle.label_base.specs.Bounded.{all_numbers}
 use Rattle.context_syntax.specs.declared.label.Label.{Label}
 use Rattle.find_records.specs.Record.{Record}
@@ -14,10 +13,10 @@ use Rattle.policy_files.specs.SampleWords.{sample_choice, sample_options}
 use Rattle.policy_files.specs.declared.policy.Policy.{Policy}
 use Rattle.relabel_program.specs.declared.sample.LineKind.{LineKind}
 use Rattle.relabel_program.specs.declared.sample.LineKind.TheVariants as kinds
-use Rattle.relabel_program.specs.declared.sample.Summary.{Summary}
-use Rattle.relabel_program.specs.declared.sample.TheConstants.{CONFLICTS, ENTRIES, ERRORS, LINE_END, RELABELLED, RELABELLED_AGAIN, SKIPPED_AGAIN}
-use Rattle.relabel_program.specs.declared.told.End.TheVariants.{Done}
-use Rattle.relabel_program.specs.declared.told.Told.{Told}
+use Rattle.sample_tree.specs.Summary.{summary_text}
+use Rattle.sample_tree.specs.declared.summary.Summary.{Summary}
+use Rattle.run_faults.specs.declared.told.End.TheVariants.{Done}
+use Rattle.run_faults.specs.declared.told.Told.{Told}
 
 -- a walk over entries that have these digests
 abbrev pub sample_walk : Policy → List Record → StoredDigests → Walk
@@ -79,18 +78,6 @@ sample_summary policy entries =
     summary_of (first_walk policy entries)
     (lines_of kinds.Skipping (second_walk policy entries))
     (lines_of kinds.Relabelled (second_walk policy entries))
-
-unfoldable pub number_line : List ℕ → ℕ → List ℕ
-number_line name number = name ++ decimal number ++ LINE_END.now
-
-unfoldable pub summary_text : Summary → List ℕ
-summary_text s =
-    number_line ENTRIES.now s.entries
-    ++ number_line RELABELLED.now s.relabelled
-    ++ number_line CONFLICTS.now s.conflicts
-    ++ number_line ERRORS.now s.errors
-    ++ number_line SKIPPED_AGAIN.now s.skipped_again
-    ++ number_line RELABELLED_AGAIN.now s.relabelled_again
 
 -- what a sample tells, by the rules of its file and the entries of its tree
 unfoldable pub told_by_sample : Policy → List Record → Told

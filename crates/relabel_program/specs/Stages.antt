@@ -11,11 +11,11 @@ use Rattle.run_faults.specs.Faults.{fault_line}
 use Rattle.policy_files.specs.Files.{policy}
 use Rattle.run_faults.specs.Input.{entries_for}
 use Rattle.run_faults.specs.Names.{names_for}
-use Rattle.relabel_program.specs.Run.{LineOrFront, Saves, WritesReport}
+use Rattle.run_faults.specs.Endings.{LineOrFront, Saves, WritesReport}
 use Rattle.run_faults.specs.declared.cause.Cause.{Cause}
 use Rattle.run_faults.specs.declared.cause.Cause.TheVariants.{OutOfMemory, WriteFault}
 use Rattle.policy_files.specs.declared.policy.Policy.{Policy}
-use Rattle.relabel_program.specs.declared.told.Told.{Told}
+use Rattle.run_faults.specs.declared.told.Told.{Told}
 
 -- what reading the files leaves
 pub record FilesRead {S : Type 0} (files : S → Option Files) (read_faults write_faults : S → ℕ)

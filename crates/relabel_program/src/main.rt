@@ -4,10 +4,8 @@
 
 ghost use Rattle.std.specs.Prelude.{◌<◌, ◌^◌, IfOk, length};
 
-mod ending;
 mod runs;
 mod sample;
-mod saving;
 #[cfg(test)]
 mod tests;
 mod told;

@@ -1,35 +1,21 @@
-ghost use Rattle.std.specs.Prelude.{◌≡◌, ◌<◌, ◌⊎◌, ◌^◌, Ok, length};
+ghost use Rattle.std.specs.Prelude.{◌≡◌, ◌<◌, ◌^◌, Ok, length};
 ghost use Rattle.tool_words.specs.Words.{command_of, named_paths, word_texts};
 ghost use Rattle.run_faults.specs.Asked.{is_soft_in};
-ghost use Rattle.run_faults.specs.Causes.{words_cause};
-ghost use Rattle.run_faults.specs.Faults.{fault_line, status_of};
-ghost use Rattle.run_faults.specs.Names.{names_for, no_names};
-ghost use Rattle.relabel_program.specs.Run.{LineOrFront, Run};
+ghost use Rattle.run_faults.specs.Faults.{status_of};
+ghost use Rattle.run_faults.specs.Names.{names_for};
+ghost use Rattle.relabel_program.specs.Run.{Run};
 ghost use Rattle.relabel_program.specs.Stages.{FilesRead, Tells};
-ghost use Rattle.run_faults.specs.declared.cause.Cause.TheVariants as causes;
 
-use crate::ending::{finish, give_up, lose_dump, refuse};
-use crate::saving::save;
 use crate::told::tell_command;
 use input_output::{SaveFault, Sink, Source, Store};
-use label_base::Fault;
 use policy_files::{Policy, read_policy};
-use run_faults::{Cause, FileNames, Outcome, is_soft, read_entries, status};
+use run_faults::{
+    Cause, FileNames, Outcome, finish, give_up, is_soft, lose_dump, read_entries, refuse,
+    refuse_words, save, status,
+};
 use std::alloc::Global;
-use tool_words::{Command, Usage, read_words};
+use tool_words::{Command, read_words};
 use tree_model::Tree;
-
-fn words_cause(fault: Fault<Usage>) -> Cause
-    ensures { result ≡ words_cause fault }
-{
-    match fault {
-        Fault::Why(wrong) => Cause::Usage {
-            index: wrong.index,
-            why: wrong.why,
-        },
-        Fault::OutOfMemory => Cause::OutOfMemory,
-    }
-}
 
 // Tells what a command asks for, of the policy and the tree. All texts are made before the first byte is written, and
 // the dump is written first.
@@ -120,13 +106,6 @@ fn run<S: Store, I: Source, O: Sink>(
         Err(_) => return give_up(out),
     };
     run_named(alloc, command, &names, store, input, out)
-}
-
-fn refuse_words<O: Sink>(alloc: Global, fault: Fault<Usage>, out: &mut O) -> Cause
-    ensures cause { (result ≡ words_cause fault) ⊎ (result ≡ causes.OutOfMemory) }
-    ensures told { LineOrFront O.written O.faults out.old out.new (fault_line no_names result) }
-{
-    refuse(alloc, &FileNames::none(alloc), words_cause(fault), out)
 }
 
 fn ended(cause: Cause, soft: bool) -> Outcome

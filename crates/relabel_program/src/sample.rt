@@ -1,4 +1,4 @@
-ghost use Rattle.std.specs.Prelude.{◌≡◌, ◌<◌, ◌≤◌, ◌++◌, ◌^◌, None, IfOk, OnOk, length};
+ghost use Rattle.std.specs.Prelude.{◌≡◌, ◌<◌, ◌≤◌, ◌^◌, None, IfOk, length};
 ghost use Rattle.report_text.specs.Message.{message_of};
 ghost use Rattle.relabel_core.specs.Answer.{walk_in};
 ghost use Rattle.relabel_core.specs.DigestAfter.{digest_told};
@@ -9,9 +9,8 @@ ghost use Rattle.relabel_core.specs.Stored as stored_digests;
 ghost use Rattle.tree_model.specs.Labelled.{DifferInLabels, labelled};
 ghost use Rattle.policy_files.specs.SampleWords.{sample_choice, sample_options};
 ghost use Rattle.relabel_program.specs.declared.sample.LineKind.TheVariants as kinds;
-ghost use Rattle.relabel_program.specs.Sample.{first_walk, has_line_of, is_of, labels_after, lines_of, number_line, sample_summary, sample_walk, summary_of, summary_text, told_by_sample, walk_after};
+ghost use Rattle.relabel_program.specs.Sample.{first_walk, has_line_of, is_of, labels_after, lines_of, sample_summary, sample_walk, summary_of, told_by_sample, walk_after};
 
-use crate::told::{End, Told};
 use file_paths::Choice;
 use label_base::{Bytes, OutOfMemory, Row};
 use policy_files::{Policy, sample_choice, sample_options};
@@ -19,23 +18,10 @@ use relabel_core::{
     DigestAfter, Stored, VOID_DIGEST, WalkInput, Walked, next_labels, walk_input, walk_uncounted,
 };
 use report_text::Message;
+use run_faults::{End, Told};
+use sample_tree::Summary;
 use std::alloc::Global;
 use tree_model::Tree;
-
-// What stands before the numbers of the summary.
-const ENTRIES: &str = "entries ";
-
-const RELABELLED: &str = "relabelled ";
-
-const CONFLICTS: &str = "conflicts ";
-
-const ERRORS: &str = "errors ";
-
-const SKIPPED_AGAIN: &str = "skipped again ";
-
-const RELABELLED_AGAIN: &str = "relabelled again ";
-
-const LINE_END: &str = "\n";
 
 /// The lines of entries that a summary counts.
 #[derive(Clone, Copy)]
@@ -46,17 +32,6 @@ pub enum LineKind {
     Conflicting,
     /// A directory is skipped.
     Skipping,
-}
-
-/// What is counted of two walks over a sample.
-#[derive(Clone, Copy)]
-pub struct Summary {
-    pub entries: u32,
-    pub relabelled: u32,
-    pub conflicts: u32,
-    pub errors: u32,
-    pub skipped_again: u32,
-    pub relabelled_again: u32,
 }
 
 fn is_of(kind: LineKind, message: &Message<'_>) -> bool
@@ -296,29 +271,6 @@ fn summarize(alloc: Global, policy: &Policy, tree: &Tree) -> Result<Summary, Out
     summarize_chosen(alloc, &choice, policy, tree, &stored)
 }
 
-#[tactic(auto, unfolding(crate::specs::Sample::number_line))]
-fn add_line(alloc: Global, name: &str, number: u32, text: &mut Bytes) -> Result<(), OutOfMemory>
-    ensures { OnOk result (text.new ≡ text.old ++ number_line name.now number) }
-{
-    text.push(name.as_bytes())?;
-    text.push(format!(in alloc; "{number}")?.as_bytes())?;
-    text.push(LINE_END.as_bytes())
-}
-
-#[tactic(auto, unfolding(crate::specs::Sample::summary_text))]
-fn summary_text(alloc: Global, summary: &Summary) -> Result<Bytes, OutOfMemory>
-    ensures { IfOk result (λ text. text ≡ summary_text summary.now) }
-{
-    let mut text = Bytes::new(alloc);
-    add_line(alloc, ENTRIES, summary.entries, &mut text)?;
-    add_line(alloc, RELABELLED, summary.relabelled, &mut text)?;
-    add_line(alloc, CONFLICTS, summary.conflicts, &mut text)?;
-    add_line(alloc, ERRORS, summary.errors, &mut text)?;
-    add_line(alloc, SKIPPED_AGAIN, summary.skipped_again, &mut text)?;
-    add_line(alloc, RELABELLED_AGAIN, summary.relabelled_again, &mut text)?;
-    Ok(text)
-}
-
 /// What a sample tells, by the rules of its file and the tree of its records: it is walked, and walked again with the labels
 /// and digests that the first walk leaves.
 #[tactic(auto, unfolding(crate::specs::Sample::told_by_sample))]
@@ -328,7 +280,7 @@ pub fn tell_sample(alloc: Global, policy: &Policy, tree: &Tree) -> Result<Told, 
 {
     let summary = summarize(alloc, policy, tree)?;
     Ok(Told {
-        report: summary_text(alloc, &summary)?,
+        report: summary.text(alloc)?,
         end: End::Done,
         saved: None,
     })

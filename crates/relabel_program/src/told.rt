@@ -12,48 +12,10 @@ use label_base::{Bytes, Name, OutOfMemory};
 use path_lookups::{add_found_report, add_verified_report};
 use policy_files::Policy;
 use relabel_core::{Stored, WalkInput, Walked, walk_input, walk_uncounted};
+use run_faults::{End, Saved, Told};
 use std::alloc::Global;
 use tool_words::{Command, LookupWords, RelabelWords};
 use tree_model::Tree;
-
-/// How a run ends that writes its report.
-#[derive(Clone, Copy)]
-pub enum End {
-    /// Nothing was amiss.
-    Done,
-    /// The walk met so many errors.
-    WalkErrors { count: u32 },
-    /// So many paths have another label than they should have, or no record.
-    Differs { count: u32 },
-}
-
-/// A text that goes to a file.
-#[derive(Drop)]
-pub struct Saved {
-    /// The name of the file.
-    pub name: Name,
-    pub text: Bytes,
-}
-
-/// What a command tells.
-pub struct Told {
-    /// The lines of the report.
-    pub report: Bytes,
-    pub end: End,
-    /// The dump, where one is asked for.
-    pub saved: Option<Saved>,
-}
-
-// By hand: one call for an owner, where a derived drop is a step for each field.
-impl Drop for Told {
-    fn drop(self) {
-        let Told {
-            report: _,
-            end: _,
-            saved: _,
-        } = self;
-    }
-}
 
 fn walk_end(errors: u32) -> End
     ensures { result ≡ walk_end errors }

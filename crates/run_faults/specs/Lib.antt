@@ -3,3 +3,4 @@ pub mod Names
 pub mod Causes
 pub mod Input
 pub mod Faults
+pub mod Endings

@@ -1,13 +1,13 @@
 use crate::{
-    Cause, FileNames, LimitKind, asks_kept, is_soft, read_entries, refusal_line, status,
-    takes_records,
+    Cause, End, FileNames, LimitKind, Saved, Told, asks_kept, finish, give_up, is_soft, lose_dump,
+    read_entries, refusal_line, refuse, refuse_words, save, status, takes_records,
 };
 use file_paths::{Choice, Options};
-use input_output::MemSource;
-use label_base::{Bytes, Name, OutOfMemory, Part, Row};
+use input_output::{MemSink, MemSource, MemStore};
+use label_base::{Bytes, Fault, Name, OutOfMemory, Part, Row};
 use std::alloc::Global;
 use std::test::Fail;
-use tool_words::{Command, RelabelWords};
+use tool_words::{Command, RelabelWords, Usage, UsageWhy};
 
 // `-n`.
 const DRY: Options = Options {
@@ -138,5 +138,73 @@ fn a_sample_leaves_the_input_alone(rt: HostRuntime) -> Result<(), Fail> {
         read_by(rt.alloc(), &sample, b"no records")?,
         (Some(15), 10)
     );
+    Ok(())
+}
+
+fn sink(alloc: Global) -> MemSink {
+    MemSink::new(alloc, 10, Row::new(alloc))
+}
+
+#[test]
+fn want_of_memory_ends_a_run(rt: HostRuntime) {
+    let mut out = sink(rt.alloc());
+    assert!(rt; matches!(give_up(&mut out), Cause::OutOfMemory));
+    assert!(rt; out.written() == b"relabel: out of memory\n".as_slice());
+}
+
+#[test]
+fn a_lost_dump_ends_a_run(rt: HostRuntime) {
+    let mut out = sink(rt.alloc());
+    assert!(rt; matches!(lose_dump(&mut out), Cause::WriteFault));
+    assert!(rt; out.written() == b"relabel: write failed\n".as_slice());
+}
+
+#[test]
+fn a_refusal_ends_a_run(rt: HostRuntime) {
+    let mut out = sink(rt.alloc());
+    let names = FileNames::none(rt.alloc());
+    let cause = refuse(rt.alloc(), &names, Cause::Unended { number: 7 }, &mut out);
+    assert!(rt; matches!(cause, Cause::Unended { number: 7 }));
+    assert!(rt; out.written() == b"relabel: record 7: not ended\n".as_slice());
+}
+
+#[test]
+fn wrong_words_end_a_run(rt: HostRuntime) {
+    let mut out = sink(rt.alloc());
+    let wrong = Usage {
+        index: 3,
+        why: UsageWhy::UnknownOption,
+    };
+    let cause = refuse_words(rt.alloc(), Fault::Why(wrong), &mut out);
+    assert!(rt; matches!(cause, Cause::Usage { index: 3, .. }));
+    assert!(rt; out.written() == b"relabel: usage: word 3: unknown option\n".as_slice());
+}
+
+fn told(alloc: Global) -> Result<Told, OutOfMemory> {
+    let report = Bytes::copy_of(alloc, b"report")?;
+    let name = Name::copy_of(alloc, "dump")?;
+    let text = Bytes::copy_of(alloc, b"text")?;
+    Ok(Told {
+        report,
+        end: End::WalkErrors { count: 2 },
+        saved: Some(Saved { name, text }),
+    })
+}
+
+#[test]
+fn a_report_ends_a_run(rt: HostRuntime) -> Result<(), Fail> {
+    let told = told(rt.alloc())?;
+    let mut out = sink(rt.alloc());
+    assert!(rt; matches!(finish(&told, &mut out), Cause::WalkErrors { count: 2 }));
+    assert!(rt; out.written() == b"report".as_slice());
+    Ok(())
+}
+
+#[test]
+fn a_dump_is_saved_in_its_file(rt: HostRuntime) -> Result<(), Fail> {
+    let told = told(rt.alloc())?;
+    let mut store = MemStore::new(rt.alloc(), Row::new(rt.alloc()));
+    assert!(rt; save(rt.alloc(), &told, &mut store).is_ok());
+    assert!(rt; store.file("dump") == Some(b"text".as_slice()));
     Ok(())
 }

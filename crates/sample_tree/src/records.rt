@@ -40,7 +40,8 @@ const IN_DIRECTORY: &str = "/f";
 // What ends a record.
 const END: &str = "\0";
 
-fn add_number(alloc: Global, number: u32, text: &mut Bytes) -> Result<(), OutOfMemory>
+/// Adds a number in decimal digits.
+pub fn add_number(alloc: Global, number: u32, text: &mut Bytes) -> Result<(), OutOfMemory>
     ensures { OnOk result (text.new ≡ text.old ++ decimal number) }
 {
     text.push(format!(in alloc; "{number}")?.as_bytes())

@@ -1,8 +1,8 @@
 use Rattle.std.proofs.Common.{subst, sym, inr}
 use Rattle.run_faults.specs.Faults.{fault_line}
-use Rattle.relabel_program.specs.Run.{LineOrFront}
+use Rattle.run_faults.specs.Endings.{LineOrFront}
 use Rattle.run_faults.specs.declared.cause.Cause.{Cause}
-use Rattle.relabel_program.proofs.ending.refuse.Goals as goal
+use Rattle.run_faults.proofs.ending.refuse.Goals as goal
 
 pub returns-in-OutOfMemory-clause-told : goal.returns-in-OutOfMemory-clause-told
 returns-in-OutOfMemory-clause-told g c =

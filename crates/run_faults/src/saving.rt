@@ -1,6 +1,6 @@
 ghost use Rattle.std.specs.Prelude.{◌≡◌};
 ghost use Rattle.input_output.specs.Store.{SaveCounts};
-ghost use Rattle.relabel_program.specs.Run.{Saves};
+ghost use Rattle.run_faults.specs.Endings.{Saves};
 
 use crate::told::Told;
 use input_output::{SaveFault, Store};

@@ -1,14 +1,19 @@
 ghost use Rattle.std.specs.Prelude.{◌≡◌, ◌⊎◌};
-ghost use Rattle.relabel_program.specs.Answer.{cause_of};
+ghost use Rattle.run_faults.specs.Causes.{words_cause};
+ghost use Rattle.run_faults.specs.Endings.{LineOrFront, WritesReport, cause_of};
 ghost use Rattle.run_faults.specs.Faults.{fault_line};
-ghost use Rattle.relabel_program.specs.Run.{LineOrFront, WritesReport};
+ghost use Rattle.run_faults.specs.Names.{no_names};
 ghost use Rattle.run_faults.specs.declared.cause.Cause.TheVariants as causes;
 ghost use Rattle.run_faults.specs.declared.names.FileNames.{FileNames};
 
+use crate::cause::Cause;
+use crate::fault::refusal_line;
+use crate::names::FileNames;
 use crate::told::{End, Told};
 use input_output::{Sink, write_all};
-use run_faults::{Cause, FileNames, refusal_line};
+use label_base::Fault;
 use std::alloc::Global;
+use tool_words::Usage;
 
 /// The line that tells want of memory. It takes none.
 const OUT_OF_MEMORY_LINE: &str = "relabel: out of memory\n";
@@ -57,6 +62,27 @@ pub fn refuse<O: Sink>(alloc: Global, names: &FileNames, cause: Cause, out: &mut
         }
         Err(_) => give_up(out),
     }
+}
+
+fn words_cause(fault: Fault<Usage>) -> Cause
+    ensures { result ≡ words_cause fault }
+{
+    match fault {
+        Fault::Why(wrong) => Cause::Usage {
+            index: wrong.index,
+            why: wrong.why,
+        },
+        Fault::OutOfMemory => Cause::OutOfMemory,
+    }
+}
+
+/// Ends a run whose words are wrong, or found no memory, and tells it; no name is known then. Where there is no memory
+/// for its line, that is the cause.
+pub fn refuse_words<O: Sink>(alloc: Global, fault: Fault<Usage>, out: &mut O) -> Cause
+    ensures cause { (result ≡ words_cause fault) ⊎ (result ≡ causes.OutOfMemory) }
+    ensures told { LineOrFront O.written O.faults out.old out.new (fault_line no_names result) }
+{
+    refuse(alloc, &FileNames::none(alloc), words_cause(fault), out)
 }
 
 fn cause_of(end: End) -> Cause
