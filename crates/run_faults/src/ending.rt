@@ -27,7 +27,7 @@ fn tell<O: Sink>(out: &mut O, line: &[u8])
     let _ = write_all(out, line);
 }
 
-/// Ends a run for want of memory.
+/// Ends a run for want of memory, and tells it. It takes none itself; where the sink fails, a front of the line is there.
 pub fn give_up<O: Sink>(out: &mut O) -> Cause
     ensures cause { result ≡ causes.OutOfMemory }
     ensures told { (names : FileNames)
@@ -37,7 +37,8 @@ pub fn give_up<O: Sink>(out: &mut O) -> Cause
     Cause::OutOfMemory
 }
 
-/// Ends a run whose dump could not be written.
+/// Ends a run whose dump could not be written, and tells it. It takes no memory; where the sink fails, a front of the line
+/// is there.
 pub fn lose_dump<O: Sink>(out: &mut O) -> Cause
     ensures cause { result ≡ causes.WriteFault }
     ensures told { (names : FileNames)
@@ -47,7 +48,8 @@ pub fn lose_dump<O: Sink>(out: &mut O) -> Cause
     Cause::WriteFault
 }
 
-/// Ends a run by a refusal, and tells it. Where there is no memory for its line, that is the cause.
+/// Ends a run by a refusal, and tells it. Where there is no memory for its line, that is the cause, and told in its place;
+/// where the sink fails, a front of the line is there.
 pub fn refuse<O: Sink>(alloc: Global, names: &FileNames, cause: Cause, out: &mut O) -> Cause
     ensures cause { (result ≡ cause) ⊎ (result ≡ causes.OutOfMemory) }
     ensures told { LineOrFront O.written O.faults out.old out.new (fault_line names.now result) }
@@ -95,7 +97,7 @@ fn cause_of(end: End) -> Cause
     }
 }
 
-/// Writes the report, and ends a run as it tells.
+/// Writes the report, and ends a run as it tells; where the sink fails, by that, with a front of the report written.
 pub fn finish<O: Sink>(told: &Told, out: &mut O) -> Cause
     ensures { WritesReport O.written O.faults out.old out.new told.now result }
 {

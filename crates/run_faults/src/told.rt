@@ -16,6 +16,7 @@ pub enum End {
 pub struct Saved {
     /// The name of the file.
     pub name: Name,
+    /// All that the file holds then.
     pub text: Bytes,
 }
 
@@ -23,6 +24,7 @@ pub struct Saved {
 pub struct Told {
     /// The lines of the report.
     pub report: Bytes,
+    /// How the run ends once the report is written.
     pub end: End,
     /// The dump, where one is asked for.
     pub saved: Option<Saved>,

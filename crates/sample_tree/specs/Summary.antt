@@ -4,9 +4,11 @@ use Rattle.std.specs.Fmt.{decimal}
 use Rattle.sample_tree.specs.declared.summary.Summary.{Summary}
 use Rattle.sample_tree.specs.declared.summary.TheConstants.{CONFLICTS, ENTRIES, ERRORS, LINE_END, RELABELLED, RELABELLED_AGAIN, SKIPPED_AGAIN}
 
+-- a number in decimal digits behind its name
 unfoldable pub number_line : List ℕ → ℕ → List ℕ
 number_line name number = name ++ decimal number ++ LINE_END.now
 
+-- a line for each number: those of the first walk, then those of the second
 unfoldable pub summary_text : Summary → List ℕ
 summary_text s =
     number_line ENTRIES.now s.entries
