@@ -1,8 +1,7 @@
 -- What the tests of the numbers below a bound tell.
-use Rattle.std.proofs.Common.{ap₂, sym, refl, subst, ℕ, zero, suc, ◌<◌, ◌≤◌, cond, Bool, true, false, ◌⊎◌, ◌||◌, Option, Some, None, inl, inr, arith}
+use Rattle.std.proofs.Common.{ap₂, sym, refl, subst, ℕ, zero, suc, ◌<◌, ◌≤◌, cond, Bool, true, false, ◌⊎◌, ◌||◌, Option, Some, None, inl, inr, arith, ◌≡◌, ◌∙◌, ap, [], ◌∷◌, length, length-append, ◌&&◌}
 use Rattle.std.proofs.lemmas.Bool.{and_parts, or_cases, or_parts, or_from, or_left, or_right, cases_lt, lt-ltb, le-ltb}
 use Rattle.std.specs.Prelude.{IfSome}
-use Rattle.std.proofs.Common.{◌≡◌, ◌∙◌, ap, [], ◌∷◌, length, length-append, ◌&&◌}
 use Rattle.label_base.specs.Bounded.{all_below, all_numbers, any_below, found_or, greater, greatest_below, last_or_found, least_below, implies}
 
 pub implies_at : (a b : Bool) → implies a b ≡ true → a ≡ true → b ≡ true

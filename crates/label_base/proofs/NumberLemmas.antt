@@ -1,10 +1,9 @@
 -- The fold over digits is the number that they stand for.
-use Rattle.std.proofs.Common.{◌≡◌, ◌∙◌, sym, refl, ap, ℕ, ◌+◌, ◌*◌, ◌-◌, ◌^◌, ◌<◌, ◌≤◌, Bool, true, false, cond, List, [], ◌∷◌, arith}
+use Rattle.std.proofs.Common.{◌≡◌, ◌∙◌, sym, refl, ap, ℕ, ◌+◌, ◌*◌, ◌-◌, ◌^◌, ◌<◌, ◌≤◌, Bool, true, false, cond, List, [], ◌∷◌, arith, length, ◌==◌, get_or, drop, drop-cons, suc}
 use Rattle.std.proofs.lemmas.Bool.Decides.{nat_tests}
 use Rattle.std.proofs.lemmas.Bool.{ltb-false, ltb-true}
 use Rattle.std.specs.Prelude.{Option, Some, None, fold, nat_lt, ◌&&◌}
 use Rattle.std.specs.List.{list_all}
-use Rattle.std.proofs.Common.{length, ◌==◌, get_or, drop, drop-cons, suc}
 use Rattle.label_base.specs.Number.{with_digit, digit_of, is_digit, decimal, number_of}
 
 abbrev pub next_value : Option ℕ → ℕ → Option ℕ

@@ -6,7 +6,7 @@ use native.Mathlib.Numerals.{unary_clauses}
 use Rattle.std.proofs.Math.Nat.{le-mul_of_pos_right}
 use Rattle.std.proofs.lemmas.Nat.Bits.{bit_at_and, bit_at-zero, bit_at-suc, bit_at_lowest, bit_at-trailing_zeros}
 use Rattle.std.proofs.lemmas.List.{get_or-set_same}
-use Rattle.std.proofs.lemmas.Bool.{cases_eq}
+use Rattle.std.proofs.lemmas.Bool.{cases_eq, cases_order}
 use Rattle.pattern_syntax.proofs.Sets.{or_assoc}
 use Rattle.pattern_match.specs.States.{bit}
 use Rattle.pattern_match.specs.Tables.{any_below, any_bit}
@@ -34,19 +34,6 @@ none_at (suc t) n m e b z =
     let h : m / 2 + 1 ≡ n / 2 = omega arith in
     bit_at-suc m t ∙ none_at t (n / 2) (m / 2) h (sym (bit_at-suc n t) ∙ b) (λ i u. sym (bit_at-suc n i) ∙ z (suc i) (omega arith))
 
-three_ways : (j t : ℕ) → (j < t) ⊎ ((j ≡ t) ⊎ (t < j))
-three_ways j t = at (lib j t)
-  where
-    lib : (j t : ℕ) → (j < t) ⊎ (t ≤ j)
-    lib j t = grind arith
-
-    more : (j t : ℕ) → t ≤ j → (j ≡ t) ⊎ (t < j)
-    more j t l = grind arith
-
-    at : (j < t) ⊎ (t ≤ j) → (j < t) ⊎ ((j ≡ t) ⊎ (t < j))
-    at (inl l) = inl l
-    at (inr l) = inr (more j t l)
-
 -- without its lowest bit a word has its other bits
 pub lowest_gone : (n : ℕ) → 0 < n → n < 2 ^ 64 → bit_at (bit_and n (n - 1)) (trailing_zeros w64 n) ≡ 0
 lowest_gone n p l =
@@ -56,13 +43,13 @@ lowest_gone n p l =
     bit_at_and n (n - 1) (trailing_zeros w64 n) ∙ (let o : bit_at n (trailing_zeros w64 n) ≡ 1 = t.1 in omega arith)
 
 pub others_stay : (n j : ℕ) → 0 < n → n < 2 ^ 64 → j ≢ trailing_zeros w64 n → bit_at (bit_and n (n - 1)) j ≡ bit_at n j
-others_stay n j p l d = at (three_ways j (trailing_zeros w64 n))
+others_stay n j p l d = at (cases_order j (trailing_zeros w64 n))
   where
-    at : (j < trailing_zeros w64 n) ⊎ ((j ≡ trailing_zeros w64 n) ⊎ (trailing_zeros w64 n < j)) → bit_at (bit_and n (n - 1)) j ≡ bit_at n j
-    at (inl u) =
+    at : (j ≡ trailing_zeros w64 n) ⊎ ((j < trailing_zeros w64 n) ⊎ (trailing_zeros w64 n < j)) → bit_at (bit_and n (n - 1)) j ≡ bit_at n j
+    at (inl u) = absurd (d u)
+    at (inr (inl u)) =
         let z : bit_at n j ≡ 0 = (bit_at-trailing_zeros w64 n p l).2 j u in
         bit_at_and n (n - 1) j ∙ omega arith
-    at (inr (inl u)) = absurd (d u)
     at (inr (inr u)) =
         let t = bit_at-trailing_zeros w64 n p l in
         let e : n - 1 + 1 ≡ n = omega arith in

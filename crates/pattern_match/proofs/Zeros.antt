@@ -1,9 +1,8 @@
 -- Parts that are repeated zero times are found from left to right, and passed over.
 use Rattle.std.proofs.Common.{◌≡◌, ◌≢◌, refl, sym, ◌∙◌, ap, subst, ℕ, suc, ◌+◌, ◌-◌, ◌<◌, ◌==◌, Bool, true, false, List, [], ◌∷◌, ◌++◌, length, take, set, get_or, ◌⊎◌, inl, inr, arith, append-nil}
-use Rattle.std.proofs.lemmas.List.{length-set}
+use Rattle.std.proofs.lemmas.List.{length-set, reverse-append, take_more, get_or-set_same, get_or-set_other}
 use Rattle.std.specs.Prelude.{reverse, Option, Some, None, slice_index, slice_get}
 use Rattle.std.specs.Option.{option_to_list}
-use Rattle.std.proofs.lemmas.List.{reverse-append, take_more, get_or-set_same, get_or-set_other}
 use Rattle.std.proofs.lemmas.Bool.{cases_eq}
 use Rattle.pattern_syntax.proofs.BuildingLemmas.{after_append}
 use Rattle.std.specs.Cmp.{first_so, second_so}

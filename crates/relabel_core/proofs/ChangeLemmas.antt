@@ -17,8 +17,7 @@ use Rattle.context_syntax.specs.declared.label.Label.{Label}
 use Rattle.context_syntax.specs.declared.label.Label.TheVariants.{Absent, Odd, Is}
 use Rattle.tree_model.specs.Groups.{group_of, label_in}
 use Rattle.relabel_core.specs.Changes.{change_at, digest_attr, digest_attrs, digest_bytes, digest_changes, given_attrs, digest_change, group_change, is_void, label_attr, label_attrs, label_bytes, renewed_attrs, section_at, section_by, section_with, unless_stored}
-use Rattle.label_rules.specs.Decide.{given_in}
-use Rattle.label_rules.specs.Decide.{VerdictValue, Keep, Customized, Change, label_by, verdict_for, verdict_on}
+use Rattle.label_rules.specs.Decide.{given_in, VerdictValue, Keep, Customized, Change, label_by, verdict_for, verdict_on}
 use Rattle.relabel_core.specs.DigestAfter.{digest_told, void_if}
 use Rattle.relabel_core.specs.Passed.{renewal}
 use Rattle.relabel_core.specs.Walk.{Walk, digest_after, digest_now, group_winner, is_at, is_changed_name, is_outdated, is_renewed, label_after, new_label_with, path_at, verdict_where, verdict_with, wanted}

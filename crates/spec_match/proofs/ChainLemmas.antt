@@ -3,7 +3,7 @@ use Rattle.std.proofs.Common.{◌≡◌, ◌≢◌, ◌∙◌, refl, sym, ap, ap
 use Rattle.std.specs.Prelude.{◌&&◌, ◌||◌, IfSome}
 use Rattle.std.proofs.Math.ListN.{get_or-append}
 use Rattle.std.proofs.Math.Seq.{take-append_seam}
-use Rattle.std.proofs.lemmas.Bool.{cases_lt, and_left}
+use Rattle.std.proofs.lemmas.Bool.{cases_lt, and_left, false_from_ne_true}
 use Rattle.std.proofs.lemmas.List.{get_or_default, get_or_push, take_more}
 use Rattle.spec_match.proofs.LastLemmas.{at_place}
 use Rattle.std.specs.Cmp.{second_so}
@@ -45,13 +45,9 @@ module _ (rules : List Rule) (count : ℕ) where
       ∙ sym (ap (λ v. link (last_or_found (greatest_below n (is_in rules count q)) n v)) passes)
   head_by n heads b q false t own w h =
       let other : q ≢ b = λ e. true≢false (sym (eq-eqb q b e) ∙ t) in
-      let fails : is_in rules count q n ≡ false = not_true (is_in rules count q n) (λ e. other (sym (eqb-true (own_bucket rules count n) q e) ∙ sym own)) in
+      let fails : is_in rules count q n ≡ false = false_from_ne_true (is_in rules count q n) (λ e. other (sym (eqb-true (own_bucket rules count n) q e) ∙ sym own)) in
       get_or-set_other heads b q (suc n) 0 other ∙ h
       ∙ sym (ap (λ v. link (last_or_found (greatest_below n (is_in rules count q)) n v)) fails)
-    where
-      not_true : (v : Bool) → (v ≡ true → ⊥) → v ≡ false
-      not_true true f = absurd (f refl)
-      not_true false f = refl
 
   pub chained_on : (n b : ℕ) (heads previous : List ℕ) → b ≡ own_bucket rules count n → b < count → AreChained rules count n heads previous → AreChained rules count (n + 1) (set heads b (n + 1)) (previous ++ slice_index heads b ∷ [])
   chained_on n b heads previous own w c =

@@ -1,13 +1,12 @@
 -- The flags of entries are kept as the next place without one.
 use Rattle.std.proofs.Common.{◌≡◌, ◌∙◌, ap, sym, refl, subst, ℕ, zero, suc, ◌+◌, ◌<◌, ◌≤◌, ◌==◌, Bool, true, false, not, List, [], ◌∷◌, ◌++◌, ◌-◌, length, length-append, map, replicate, get_or, arith, inl, inr}
-use Rattle.std.specs.Prelude.{◌&&◌, nat_le, nat_lt}
+use Rattle.std.specs.Prelude.{◌&&◌, nat_le, nat_lt, Option, Some, None}
 use Rattle.std.proofs.lemmas.Bool.{cases_lt, and_parts, eq-eqb, ne_eqb, true≢false, le-leb, leb-true, lt-ltb, ltb-true, and_from}
 use Rattle.std.proofs.lemmas.List.{ext_get_or, get_or-map, length-map, get_or_append_left, get_or-append_right, get_or-replicate, length-replicate}
 use Rattle.std.proofs.Math.Seq.{get_or-append_seam}
 use Rattle.std.specs.Cmp.{both_ways}
 use Rattle.label_base.specs.Bounded.{all_below, all_numbers, implies, greatest_below}
 use Rattle.label_base.proofs.BoundedLemmas.{IsGreatest, all_at, all_from, count_numbers, greatest_told, implies_at}
-use Rattle.std.specs.Prelude.{Option, Some, None}
 use Rattle.find_records.specs.Record.{Record}
 use Rattle.tree_model.specs.Extents.{extent_of, in_extent, one_behind}
 use Rattle.tree_model.specs.LiveLists.{AreDead, AreFlags, IsDead, KeepsFlags, live_from, live_of}

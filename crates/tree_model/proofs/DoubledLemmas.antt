@@ -6,9 +6,8 @@ use Rattle.std.proofs.lemmas.Bool.{true≢false, false_from_ne_true}
 use Rattle.tree_model.proofs.RunLemmas.{by_place}
 use Rattle.file_paths.specs.Path.{Path}
 use Rattle.find_records.specs.Record.{Record}
-use Rattle.tree_model.specs.Numbered.{Numbered}
+use Rattle.tree_model.specs.Numbered.{Numbered, numbered_from}
 use Rattle.tree_model.specs.Entries.{conflict, same_path, first_from, doubled_after, doubled}
-use Rattle.tree_model.specs.Numbered.{numbered_from}
 use Rattle.tree_model.proofs.Members.{Has, has_push, any_has, none_has}
 use Rattle.tree_model.proofs.SameLemmas.{conflict_path, conflict_back, conflict_itself, conflict_at, path_exact, path_same, peace_same}
 use Rattle.tree_model.proofs.Verdicts.{Verdict, IsDoubled}

@@ -14,9 +14,8 @@ use Rattle.std.proofs.lemmas.List.Sorted.{IsPermutation-sym}
 use Rattle.std.proofs.lemmas.Map.Keys.{sorted_head, sorted_tail}
 use Rattle.file_paths.specs.Path.{Path, path_cmp}
 use Rattle.find_records.specs.Record.{Record}
-use Rattle.tree_model.specs.Numbered.{Numbered}
+use Rattle.tree_model.specs.Numbered.{Numbered, numbered_cmp, numbered_from, item_of}
 use Rattle.tree_model.specs.Entries.{placed, entered, entries_of, doubled}
-use Rattle.tree_model.specs.Numbered.{numbered_cmp, numbered_from, item_of}
 use Rattle.tree_model.specs.Runs.{same_place}
 use Rattle.tree_model.proofs.Members.{Has, has_map, from_map, has_from_contains, contains_from_has}
 use Rattle.tree_model.proofs.SameLemmas.{path_exact, peace_same, same_path_is}

@@ -5,7 +5,7 @@ use Rattle.std.specs.List.{position, prefix_len}
 use Rattle.std.specs.declared.cmp.Ordering.TheVariants.{Less}
 use Rattle.std.proofs.Math.Path.{fun_ext}
 use Rattle.std.proofs.lemmas.Bool.{cases_lt}
-use Rattle.std.proofs.lemmas.List.{ext_get_or, get_or-map, length-map}
+use Rattle.std.proofs.lemmas.List.{ext_get_or, get_or_default, get_or-map, length-map}
 use Rattle.std.proofs.Math.ListN.{get_or-eq_default}
 use Rattle.label_base.specs.Bounded.{all_below, all_numbers, greatest_below, implies}
 use Rattle.file_paths.specs.Path.{Path, path_cmp, at_or_below, strictly_below}
@@ -99,14 +99,9 @@ module _ (old new : List Record) (count : length new ≡ length old) (paths : (e
 
   pub rises : ByPath old → ByPath new
   rises up i j d l m =
-      let told : (k : ℕ) → k < length new → get_or new k d ≡ entry_at new k = λ k h. other_default new k d no_record h in
+      let told : (k : ℕ) → k < length new → get_or new k d ≡ entry_at new k = λ k h. get_or_default new k d no_record h in
       subst (λ p. path_cmp p (get_or new j d).path ≡ Less) (sym (ap (λ r. r.path) (told i (omega (arith, l, m))) ∙ paths i))
       (subst (λ p. path_cmp (entry_at old i).path p ≡ Less) (sym (ap (λ r. r.path) (told j m) ∙ paths j)) (up i j no_record l (omega (arith, m, count))))
-    where
-      other_default : {X : Type 0} (xs : List X) (k : ℕ) (a b : X) → k < length xs → get_or xs k a ≡ get_or xs k b
-      other_default [] k a b h = absurd (omega (arith, h))
-      other_default (x ∷ xs) zero a b h = refl
-      other_default (x ∷ xs) (suc k) a b h = other_default xs k a b (omega (arith, h))
 
   all_same : {X : Type 0} (f : Record → X) → ((e : ℕ) → f (entry_at new e) ≡ f (entry_at old e)) → map f new ≡ map f old
   all_same f h =

@@ -1,8 +1,7 @@
 -- Records and their numbers.
 use Rattle.std.proofs.Common.{◌≡◌, ◌∙◌, ap, sym, refl, subst, ℕ, suc, ◌+◌, ◌<◌, ◌≤◌, List, [], ◌∷◌, ◌++◌, length, arith, inl, inr, ◌⊎◌}
 use Rattle.find_records.specs.Record.{Record}
-use Rattle.tree_model.specs.Numbered.{Numbered}
-use Rattle.tree_model.specs.Numbered.{numbered_from}
+use Rattle.tree_model.specs.Numbered.{Numbered, numbered_from}
 use Rattle.tree_model.proofs.Members.{Has}
 
 pub numbered_push : (n m : ℕ) (xs : List Record) (x : Record) → m ≡ n + length xs → numbered_from n (xs ++ x ∷ []) ≡ numbered_from n xs ++ record { number = m; item = x } ∷ []

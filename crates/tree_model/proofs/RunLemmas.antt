@@ -11,9 +11,8 @@ use Rattle.std.proofs.lemmas.Bool.{true≢false}
 use Rattle.std.proofs.lemmas.Cmp.{upto, tied_itself}
 use Rattle.std.proofs.lemmas.Map.Keys.{ge_from_not_lt}
 use Rattle.file_paths.specs.Path.{Path, path_cmp}
-use Rattle.tree_model.specs.Numbered.{Numbered}
+use Rattle.tree_model.specs.Numbered.{Numbered, numbered_cmp}
 use Rattle.tree_model.specs.Entries.{conflict, same_record}
-use Rattle.tree_model.specs.Numbered.{numbered_cmp}
 use Rattle.tree_model.specs.Runs.{same_place, noted, lesser, passed, doubled_in}
 use Rattle.tree_model.proofs.Members.{Has}
 use Rattle.tree_model.proofs.SameLemmas.{conflict_apart, conflict_at, conflict_from, conflict_itself, path_exact, record_exact, same_path_is}

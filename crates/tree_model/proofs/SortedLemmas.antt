@@ -4,9 +4,8 @@ use Rattle.std.specs.Ordering.{is_lt}
 use Rattle.std.specs.List.Sorted.{IsSorted, IsPermutation}
 use Rattle.std.proofs.lemmas.List.Sorted.{sorted_far, ranks_by, Contains-permutation, IsPermutation-sym, length_permutation}
 use Rattle.find_records.specs.Record.{Record}
-use Rattle.tree_model.specs.Numbered.{Numbered}
+use Rattle.tree_model.specs.Numbered.{Numbered, numbered_cmp, numbered_total, numbered_from}
 use Rattle.tree_model.specs.Entries.{doubled}
-use Rattle.tree_model.specs.Numbered.{numbered_cmp, numbered_total, numbered_from}
 use Rattle.tree_model.specs.Runs.{doubled_in}
 use Rattle.tree_model.proofs.Members.{Has, has_from_contains, contains_from_has}
 use Rattle.tree_model.proofs.NumberedLemmas.{one_each, length_numbered}
