@@ -6,10 +6,14 @@ mod fields;
 mod laws;
 mod listings;
 mod mode;
+mod twenty_bytes;
 
-pub use laws::{accepted_files_give_listings, equal_listings_decide_alike, listings_tell};
+pub use laws::{
+    accepted_files_give_listings, equal_listings_decide_alike, listings_tell, void_is_zeros,
+};
 pub use listings::{Listings, digest, listing};
 pub use mode::Mode;
+pub use twenty_bytes::Digest;
 
 #[cfg(test)]
 mod tests;

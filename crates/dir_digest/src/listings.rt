@@ -12,6 +12,7 @@ ghost use Rattle.dir_digest.specs.Terms.{AreRead, IsRead, is_whole, terms_of};
 
 use crate::fields::{LISTING_MARK, add_count, add_field, add_shared, add_spec};
 use crate::mode::Mode;
+use crate::twenty_bytes::Digest;
 use context_syntax::TypeNames;
 use file_paths::PathRef;
 use label_base::{Bytes, OutOfMemory, Row};
@@ -240,14 +241,16 @@ impl<'a> Listings<'a> {
         scratch: &mut Scratch,
         dir: &PathRef<'_>,
         buffer: &mut Bytes,
-    ) -> Result<[u8; 20], OutOfMemory>
+    ) -> Result<Digest, OutOfMemory>
         requires { IsScratchOf (terms_in self.now).specs scratch.old }
         ensures own { IsScratchOf (terms_in self.now).specs scratch.new }
         ensures value { IfOk result (λ digest.
             digest ≡ digest_on (terms_in self.now) (path_of dir.now)) }
     {
         self.write(alloc, scratch, dir, buffer)?;
-        Ok(Sha1::digest(buffer.as_slice()))
+        Ok(Digest {
+            bytes: Sha1::digest(buffer.as_slice()),
+        })
     }
 }
 
@@ -280,10 +283,12 @@ pub fn digest(
     types: &TypeNames,
     subs: &Subs,
     rules: &RuleSet,
-) -> Result<[u8; 20], OutOfMemory>
+) -> Result<Digest, OutOfMemory>
     ensures { IfOk result (λ digest. digest ≡ digest_at (is_whole mode) (in_order types.now)
         subs.now.first subs.now.second rules.now (path_of dir.now)) }
 {
     let bytes = listing(alloc, dir, mode, types, subs, rules)?;
-    Ok(Sha1::digest(bytes.as_slice()))
+    Ok(Digest {
+        bytes: Sha1::digest(bytes.as_slice()),
+    })
 }

@@ -1,11 +1,13 @@
 ghost use Rattle.std.specs.Prelude.{◌<◌, ◌^◌, length};
 
 use crate::{
-    Mode, accepted_files_give_listings, digest, equal_listings_decide_alike, listing, listings_tell,
+    Digest, Mode, accepted_files_give_listings, digest, equal_listings_decide_alike, listing,
+    listings_tell, void_is_zeros,
 };
 use context_syntax::{TypeNames, read_customizable};
 use file_paths::NormPath;
-use label_base::{Bytes, Part};
+use file_roles::Part;
+use label_base::Bytes;
 use path_subs::{SubList, Subs, read_subs};
 use sha1::Sha1;
 use spec_match::RuleSet;
@@ -101,7 +103,7 @@ fn plain_listing(alloc: Global, dir: &NormPath, rules: &RuleSet) -> Result<Bytes
     Ok(listing(alloc, &dir.path(), Mode::KindOnly, &types, &subs, rules)?)
 }
 
-fn plain_digest(alloc: Global, dir: &NormPath, rules: &RuleSet) -> Result<[u8; 20], Fail> {
+fn plain_digest(alloc: Global, dir: &NormPath, rules: &RuleSet) -> Result<Digest, Fail> {
     let subs = subs_of(alloc, b"", b"")?;
     let types = TypeNames::new(alloc);
     Ok(digest(alloc, &dir.path(), Mode::KindOnly, &types, &subs, rules)?)
@@ -124,7 +126,7 @@ fn its_digest_is_their_sha_1(rt: HostRuntime) -> Result<(), Fail> {
     let dir = NormPath::read(rt.alloc(), b"/srv")?;
     let digest = plain_digest(rt.alloc(), &dir, &rules_of(rt.alloc(), SRV)?)?;
     assert_eq!(rt;
-        digest.as_slice(),
+        digest.as_bytes(),
         b"\x8c\x82\xde\x11\x18\xbd\x47\x89\xfa\x61\x32\x69\xb6\xde\x86\x5a\xd8\xd0\x63\xd8".as_slice()
     );
     Ok(())
@@ -184,4 +186,10 @@ fn laws_hold_of_all(_rt: HostRuntime) {
     listings_tell();
     accepted_files_give_listings();
     equal_listings_decide_alike();
+    void_is_zeros();
+}
+
+#[test]
+fn a_void_digest(rt: HostRuntime) {
+    assert_eq!(rt; Digest::VOID.as_bytes().len(), 20);
 }

@@ -4,6 +4,7 @@ use Rattle.std.specs.List.{flat_map, list_any, list_all, starts_with, slice_spli
 use Rattle.file_paths.specs.declared.path.TheConstants.{DOT, MOST_PATH_BYTES, SLASH}
 use Rattle.file_paths.specs.declared.path_fault.PathWhy.{PathWhy}
 use Rattle.file_paths.specs.declared.path_fault.PathWhy.TheVariants.{Empty, PathTooLong, HasNul, NotAbsolute, DotPart}
+use Rattle.label_base.specs.Answers.{with_reason}
 use Rattle.label_base.specs.Text.{is_nonempty, same_bytes}
 use Rattle.std.specs.Ordering.{nat_cmp}
 use Rattle.std.specs.Cmp.Lexicographic.{slice_cmp}
@@ -64,3 +65,7 @@ path_read bytes =
     else if not (slice_index bytes 0 == SLASH) then Err NotAbsolute
     else if list_any is_dot_part (path_names bytes) then Err DotPart
     else Ok (path_names bytes)
+
+-- the same, refused for one reason whatever is wrong
+abbrev pub path_or : {W : Type 0} → W → List ℕ → Result Path W
+path_or why bytes = with_reason (λ _. why) (path_read bytes)

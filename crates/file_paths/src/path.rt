@@ -8,7 +8,7 @@ ghost use Rattle.file_paths.specs.Path.{path_cmp};
 ghost use Rattle.std.specs.Prelude.{◌≡◌, ◌++◌, ◌∷◌, ◌<◌, ◌≤◌, [], true, IfOk, IfSome, IfNone, OnOk, OnErr, length, take, drop, Ok, Some, slice_get, false, ◌==◌, if◌then◌else◌};
 ghost use Rattle.std.specs.List.{list_any, slice_split, count_by};
 ghost use Rattle.label_base.specs.Text.{is_nonempty};
-ghost use Rattle.file_paths.specs.Path.{are_names, path_names, path_read, path_text, is_dot_part, is_name, at_or_below, with_slashes, is_slash};
+ghost use Rattle.file_paths.specs.Path.{are_names, path_names, path_or, path_read, path_text, is_dot_part, is_name, at_or_below, with_slashes, is_slash};
 ghost use Rattle.file_paths.specs.PathText.{text_at_or_below, ends_name, byte_rank, text_cmp, IsNormal, begins_plainly, is_plain};
 ghost use Rattle.label_base.specs.Answers.{Answers, cause_of};
 ghost use Rattle.file_paths.specs.PathRef.{path_of};
@@ -276,6 +276,16 @@ impl NormPath {
         })
     }
 
+    /// The same, where it doesn't matter what is wrong with the bytes: this reason stands for all.
+    pub fn read_or<W: Copy>(alloc: Global, bytes: &[u8], why: W) -> Result<NormPath, Fault<W>>
+        ensures { Answers (λ path. path) cause_of result (path_or why bytes.now) }
+    {
+        match NormPath::read(alloc, bytes) {
+            Ok(path) => Ok(path),
+            Err(fault) => Err(fault.because(why)),
+        }
+    }
+
     /// The same path.
     pub fn copy(&self, alloc: Global) -> Result<NormPath, OutOfMemory>
         ensures { IfOk result (λ copy. copy ≡ self.now) }
@@ -473,6 +483,16 @@ mod tests {
             Some(Fault::Why(PathWhy::DotPart))
         );
         assert_eq!(rt; fault(alloc, b"/a/."), Some(Fault::Why(PathWhy::DotPart)));
+    }
+
+    fn fault_or(alloc: Global, spelled: &[u8]) -> Option<Fault<u8>> {
+        NormPath::read_or(alloc, spelled, 3).err()
+    }
+
+    #[test]
+    fn one_reason_for_all_faults(rt: HostRuntime) {
+        assert_eq!(rt; fault_or(rt.alloc(), b"/a/."), Some(Fault::Why(3)));
+        assert_eq!(rt; fault_or(rt.alloc(), b"/a"), None);
     }
 
     #[test]

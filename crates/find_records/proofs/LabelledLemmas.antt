@@ -45,7 +45,7 @@ labelled_more labels (m ∷ ns) n (x ∷ rs) r e = ap (λ xs. with_label (get_or
 
 -- the row with another mark
 abbrev pub marked : ℕ → RecordRow → RecordRow
-marked mark row = record { inode = row.inode; at = row.at; mark = mark; size = row.size; kind = row.kind }
+marked mark row = record row { mark = mark }
 
 module _ (t : List ℕ) (marks : List Mark) (rows : List RecordRow) (numbers : List ℕ) (labels : List Label) (i : ℕ) (row : RecordRow) (old new : List (ℕ × ℕ)) (mark : ℕ) (before after : List RecordRow)
     (counted : length numbers ≡ length rows) (places : ArePlaces (length labels) numbers) (within : AreWithin t marks rows) (l : i < length rows) (is : slice_get rows i ≡ Some row) where

@@ -1,4 +1,3 @@
-pub mod DistinctLabels
 pub mod LabelLemmas
 pub mod LabelledLemmas
 pub mod LayLemmas

@@ -10,13 +10,7 @@ use Rattle.find_records.specs.declared.row.RecordRow.{RecordRow}
 
 -- the record with this label
 abbrev pub with_label : Label → Record → Record
-with_label label r = record {
-  kind = r.kind;
-  device = r.device;
-  inode = r.inode;
-  label = label;
-  path = r.path;
-}
+with_label label r = record r { label = label }
 
 -- the records, each with the label whose number stands at its place
 abbrev pub with_labels : List Label → List ℕ → List Record → List Record

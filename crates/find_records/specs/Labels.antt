@@ -1,24 +1,16 @@
--- Labels that are kept once each, beside their spellings.
-use Rattle.std.specs.Prelude.{◌≡◌, ℕ, List, [], length, map, take}
-use Rattle.std.specs.List.{AllByRecursion, IsDistinct}
-use Rattle.std.specs.declared.vec.Vec.{Vec}
-use Rattle.context_syntax.specs.Label.{label_of, same_label}
+-- Labels that are kept beside their spellings.
+use Rattle.std.specs.Prelude.{◌≡◌, List, length, map, take}
+use Rattle.std.specs.List.{AllByRecursion}
+use Rattle.context_syntax.specs.Label.{label_of}
 use Rattle.context_syntax.specs.declared.label.Label.{Label}
-use Rattle.context_syntax.specs.declared.label.Label.TheVariants.{Absent}
+use Rattle.find_records.specs.declared.labels.Spelled.{Spelled}
 
--- the bytes of each key
-abbrev pub spellings : {A : Type 0} → List (Vec ℕ A) → List (List ℕ)
-spellings keys = map (λ key. key.items) keys
+abbrev pub labels_in : List Spelled → List Label
+labels_in known = map (λ spelled. spelled.label) known
 
--- of the spellings of no label only that without bytes is kept
-abbrev pub IsKeptSpelling : List ℕ → Type 0
-IsKeptSpelling bytes = label_of bytes ≡ Absent → bytes ≡ []
-
--- each label is what the bytes at its place spell, and no two are the same
-pub record AreSpelled (spelled : List (List ℕ)) (labels : List Label) : Type 0 where
-  pub values : labels ≡ map label_of spelled
-  pub kept : AllByRecursion IsKeptSpelling spelled
-  pub distinct : IsDistinct same_label labels
+-- each label is what the bytes beside it spell
+abbrev pub AreSpelled : List Spelled → Type 0
+AreSpelled known = AllByRecursion (λ spelled. spelled.label ≡ label_of spelled.text.items) known
 
 -- the later list begins with the earlier one
 abbrev pub Extends : {X : Type 0} → List X → List X → Type 0

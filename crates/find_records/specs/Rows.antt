@@ -47,13 +47,7 @@ Fit texts rows = AllByRecursion (λ row. row.at + row.size ≤ length texts) row
 
 -- the row, where its path's text stands at another place
 abbrev pub moved_to : ℕ → RecordRow → RecordRow
-moved_to place row = record {
-  inode = row.inode;
-  at = place;
-  mark = row.mark;
-  size = row.size;
-  kind = row.kind;
-}
+moved_to place row = record row { at = place }
 
 -- the new rows stand for the records at the places
 pub record AreLaid (texts : List ℕ) (marks : List Mark) (rows : List RecordRow) (places : List ℕ)

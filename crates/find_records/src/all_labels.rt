@@ -9,8 +9,8 @@ use label_base::OutOfMemory;
 use std::alloc::Global;
 use std::marker::Model;
 
-// Labels, seen as their list: some that were given as they are, and behind them those that were read,
-// each kept once. A label is found by its number, from 0 on.
+// Labels, seen as their list: some that were given as they are, and behind them those that were
+// read. A label is found by its number, from 0 on.
 #[derive(Drop)]
 pub struct AllLabels {
     given: Vec<Label>,
@@ -76,8 +76,8 @@ impl AllLabels {
         ensures { result
             ≡ same_label (get_or self.now first Absent) (get_or self.now second Absent) }
     {
-        if self.given.is_empty() {
-            return self.read.is_same(first, second);
+        if first == second {
+            return true;
         }
         *self.get(first) == *self.get(second)
     }

@@ -5,10 +5,9 @@ ghost use Rattle.find_records.specs.Labelled.{ArePaired};
 ghost use Rattle.find_records.specs.Places.{ArePlaces};
 ghost use Rattle.find_records.specs.Rows.{AreWithin};
 
-use crate::marks::{Marks, Pair, number_of};
+use crate::marks::{Marks, Pair, number_behind};
 use crate::row::RecordRow;
 use context_syntax::Label;
-use indexmap::IndexSet;
 use label_base::{OutOfMemory, Row};
 use std::alloc::Global;
 
@@ -26,7 +25,7 @@ pub fn copy_labels(alloc: Global, labels: &Row<Label>) -> Result<Vec<Label>, Out
 // Rows, and the pairs of a device and the number of a label that they have.
 #[derive(Drop)]
 pub struct Paired {
-    pub pairs: IndexSet<Pair>,
+    pub pairs: Vec<Pair>,
     pub rows: Vec<RecordRow>,
 }
 
@@ -41,25 +40,19 @@ pub fn pair_rows(
     requires known { AllByRecursion (λ row. row.mark < length marks.now) rows.now }
     ensures { IfOk result (λ paired. (texts : List ℕ) → (labels : List Label)
         → ArePlaces (length labels) numbers.now → AreWithin texts marks.now rows.now
-        → ArePaired texts marks.now rows.now numbers.now labels paired.pairs.keys
+        → ArePaired texts marks.now rows.now numbers.now labels paired.pairs.items
         paired.rows.items) }
 {
     let mut paired = Paired {
-        pairs: IndexSet::new(alloc),
+        pairs: Vec::new(alloc),
         rows: Vec::with_capacity(alloc, rows.len())?,
     };
     let mut last = 0;
     'rows: for i in 0..rows.len() {
         let row = &rows[i];
         let (device, _) = marks.get(row.mark);
-        last = number_of(&mut paired.pairs, last, (device, numbers[i]))?;
-        paired.rows.push(RecordRow {
-            inode: row.inode,
-            at: row.at,
-            mark: last,
-            size: row.size,
-            kind: row.kind,
-        })?;
+        last = number_behind(&mut paired.pairs, last, (device, numbers[i]))?;
+        paired.rows.push(RecordRow { mark: last, ..*row })?;
     }
     Ok(paired)
 }

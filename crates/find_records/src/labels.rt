@@ -1,128 +1,166 @@
-ghost use Rattle.std.specs.Prelude.{◌≡◌, ◌++◌, ◌∷◌, ◌<◌, ◌≤◌, ◌+◌, ◌-◌, ◌^◌, [], true, if◌then◌else◌, get_or, length, slice_get, Some, IfOk, IfSome, OnErr, vec_len, vec_capacity};
-ghost use Rattle.std.specs.List.{IsDistinct};
-ghost use Rattle.std.specs.Str.{bytes_eq};
-ghost use Rattle.context_syntax.specs.Label.{label_of, same_label};
-ghost use Rattle.context_syntax.specs.declared.label.Label.TheVariants.{Absent};
-ghost use Rattle.find_records.specs.Labels.{AreSpelled, Extends, IsKeptSpelling, spellings};
+ghost use Rattle.std.specs.Prelude.{◌≡◌, ◌++◌, ◌∷◌, ◌<◌, ◌≤◌, ◌+◌, ◌-◌, ◌^◌, [], true, length, slice_get, Some, IfOk, IfSome, OnOk, OnErr};
+ghost use Rattle.context_syntax.specs.Label.{label_of};
+ghost use Rattle.find_records.specs.Labels.{AreSpelled, Extends, labels_in};
 
 use context_syntax::Label;
-use indexmap::IndexSet;
 use label_base::OutOfMemory;
 use std::alloc::Global;
+use std::collections::BTreeMap;
 use std::marker::Model;
 
-// Labels, each kept once, seen as their list. A label is found by its number, from 0 on.
+// A label, and the bytes that spell it.
+#[derive(Drop)]
+pub struct Spelled {
+    pub text: Vec<u8>,
+    pub label: Label,
+}
+
+// Labels, seen as their list: each spelling once. A label is found by its number, from 0 on.
 #[derive(Drop)]
 pub struct Labels {
-    // What spells each label.
-    spelled: IndexSet<Vec<u8>>,
-    labels: Vec<Label>,
-    // The number that was last asked for: often the next one is the same.
+    known: Vec<Spelled>,
+    // The number of each spelling. These are in order, since whoever chooses labels could choose
+    // what a hash puts together. Nothing is claimed of them: what they give is compared.
+    numbers: BTreeMap<Vec<u8>, u32>,
+    // Guesses of numbers, by what bytes mix to, and the number that was last asked for.
+    guesses: Vec<u32>,
     last: u32,
 }
+
+// How many guesses are kept: so many that a few hundred labels seldom share one.
+const GUESSES: usize = 4_096;
+
+// An odd number with its bits in no order.
+const MIX: u64 = 0x9E37_79B9_7F4A_7C15;
 
 impl Model for Labels {
     ghost use Rattle.std.specs.Prelude.{List};
     ghost use Rattle.context_syntax.specs.declared.label.Label.{Label};
-    ghost use Rattle.find_records.specs.Labels.{AreSpelled, spellings};
+    ghost use Rattle.find_records.specs.Labels.{AreSpelled, labels_in};
 
     ghost Value = { List Label };
 
-    ghost view = { λ l. l.labels.items };
+    ghost view = { λ l. labels_in l.known.items };
 
-    ghost invariant = { λ l. AreSpelled (spellings l.spelled.keys) l.labels.items };
+    ghost invariant = { λ l. AreSpelled l.known.items };
 }
 
-// Whether the spelling with a number is this one.
-fn is_spelled(spelled: &IndexSet<Vec<u8>>, number: usize, bytes: &[u8]) -> bool
-    ensures { result ≡ true → slice_get (spellings spelled.now.keys) number ≡ Some bytes.now }
+// Whether the bytes spell the label with a number, as it is kept.
+fn is_spelled(known: &[Spelled], number: u32, bytes: &[u8]) -> bool
+    ensures { result ≡ true → AreSpelled known.now
+        → slice_get (labels_in known.now) number ≡ Some (label_of bytes.now) }
 {
-    match spelled.get_index(number) {
-        Some(found) => found.as_slice() == bytes,
+    match known.get(number as usize) {
+        Some(found) => found.text.as_slice() == bytes,
         None => false,
     }
 }
 
-// The number of a spelling that is there.
-fn number_in(spelled: &IndexSet<Vec<u8>>, last: u32, bytes: &[u8]) -> Option<usize>
-    ensures { IfSome result (λ number.
-        slice_get (spellings spelled.now.keys) number ≡ Some bytes.now) }
+// Where a guess of the number of these bytes stands.
+fn slot_of(bytes: &[u8]) -> usize
+    ensures { result < GUESSES }
 {
-    if is_spelled(spelled, last as usize, bytes) {
-        return Some(last as usize);
+    let mut mixed = 0u64;
+    let mut left = bytes;
+    'words: while let Some((word, rest)) = left.split_first_chunk::<8>() {
+        mixed = (mixed ^ u64::from_le_bytes(*word)).wrapping_mul(MIX);
+        left = rest;
     }
-    let number = spelled.get_index_of(bytes)?;
-    if is_spelled(spelled, number, bytes) {
+    'bytes: for byte in left {
+        mixed = (mixed ^ u64::from(*byte)).wrapping_mul(MIX);
+    }
+    ((mixed >> 32) as usize) % GUESSES
+}
+
+// The number, if the bytes spell the label that it has.
+fn number_told(known: &[Spelled], number: Option<u32>, bytes: &[u8]) -> Option<u32>
+    ensures { IfSome result (λ number. AreSpelled known.now
+        → slice_get (labels_in known.now) number ≡ Some (label_of bytes.now)) }
+{
+    let number = number?;
+    if is_spelled(known, number, bytes) {
         return Some(number);
     }
     None
 }
 
-// Adds a spelling behind the others, unless it is there: where it stands, and whether it is new.
-fn add_spelling(
-    alloc: Global,
-    spelled: &mut IndexSet<Vec<u8>>,
+// Keeps a number where it is guessed.
+fn keep_guess(guesses: &mut Vec<u32>, slot: usize, number: u32) {
+    if let Some(guess) = guesses.get_mut(slot) {
+        *guess = number;
+    }
+}
+
+// The number of a spelling that is there: the last one, or one that is guessed or found.
+fn number_in(
+    known: &[Spelled],
+    numbers: &BTreeMap<Vec<u8>, u32>,
+    guesses: &mut Vec<u32>,
+    last: u32,
     bytes: &[u8],
-) -> Result<(usize, bool), OutOfMemory>
-    ensures added { IfOk result (λ added. spellings spelled.new.keys ≡ (if added.1
-        then spellings spelled.old.keys ++ bytes.now ∷ []
-        else spellings spelled.old.keys)) }
-    ensures found { IfOk result (λ added.
-        slice_get (spellings spelled.new.keys) added.0 ≡ Some bytes.now) }
-    ensures distinct { IfOk result (λ added. IsDistinct bytes_eq (spellings spelled.new.keys)) }
-    ensures err { OnErr result (spellings spelled.new.keys ≡ spellings spelled.old.keys) }
+) -> Option<u32>
+    ensures { IfSome result (λ number. AreSpelled known.now
+        → slice_get (labels_in known.now) number ≡ Some (label_of bytes.now)) }
 {
-    let key = Vec::from_slice(alloc, bytes)?;
-    let added = spelled.insert_full(key)?;
-    Ok(added)
+    if is_spelled(known, last, bytes) {
+        return Some(last);
+    }
+    let slot = slot_of(bytes);
+    if let Some(number) = number_told(known, guesses.get(slot).copied(), bytes) {
+        return Some(number);
+    }
+    let number = number_told(known, numbers.get(bytes).copied(), bytes)?;
+    keep_guess(guesses, slot, number);
+    Some(number)
 }
 
-// What is kept of the bytes that spell a label: of the spellings of no label, that without bytes.
-fn kept_spelling<'a>(label: &Label, bytes: &'a [u8]) -> &'a [u8]
-    requires { label.now ≡ label_of bytes.now }
-    ensures value { label_of result.now ≡ label.now }
-    ensures kept { IsKeptSpelling result.now }
-{
-    match label {
-        Label::Absent => &[],
-        _ => bytes,
+// Room for guesses, which is made with the first label.
+fn make_room(alloc: Global, guesses: &mut Vec<u32>) -> Result<(), OutOfMemory> {
+    if guesses.is_empty() {
+        *guesses = vec![in alloc; 0u32; GUESSES]?;
     }
+    Ok(())
 }
 
-// Adds a label that is new. There is room for it.
-fn keep_label(labels: &mut Vec<Label>, is_new: bool, label: Label)
-    requires { vec_len labels.old < vec_capacity labels.old }
-    ensures { labels.new.items ≡ (if is_new
-        then labels.old.items ++ label ∷ [] else labels.old.items) }
-{
-    if !is_new {
-        return;
-    }
-    match labels.push(label) {
-        Ok(()) => (),
-        Err(_) => unreachable!(),
-    }
+// Notes the number of a spelling.
+fn note(
+    alloc: Global,
+    numbers: &mut BTreeMap<Vec<u8>, u32>,
+    bytes: &[u8],
+    number: u32,
+) -> Result<(), OutOfMemory> {
+    let _ = numbers.insert(Vec::from_slice(alloc, bytes)?, number)?;
+    Ok(())
 }
 
-// Adds a label behind the others, with what spells it, and tells its number.
+// The label that the bytes spell, beside them.
+fn spell(alloc: Global, bytes: &[u8]) -> Result<Spelled, OutOfMemory>
+    ensures text { IfOk result (λ spelled. spelled.text.items ≡ bytes.now) }
+    ensures label { IfOk result (λ spelled. spelled.label ≡ label_of bytes.now) }
+{
+    let text = Vec::from_slice(alloc, bytes)?;
+    let label = Label::read(alloc, bytes)?;
+    Ok(Spelled { text, label })
+}
+
+// Adds the label that the bytes spell behind the others: its number.
 fn add_label(
     alloc: Global,
-    spelled: &mut IndexSet<Vec<u8>>,
-    labels: &mut Vec<Label>,
+    known: &mut Vec<Spelled>,
+    numbers: &mut BTreeMap<Vec<u8>, u32>,
     bytes: &[u8],
-) -> Result<usize, OutOfMemory>
-    requires { AreSpelled (spellings spelled.old.keys) labels.old.items }
-    ensures spelled { AreSpelled (spellings spelled.new.keys) labels.new.items }
-    ensures number { IfOk result (λ number.
-        slice_get labels.new.items number ≡ Some (label_of bytes.now)) }
-    ensures extends { Extends labels.old.items labels.new.items }
-    ensures few { length labels.new.items ≤ length labels.old.items + 1 }
-    ensures err { OnErr result (labels.new.items ≡ labels.old.items) }
+) -> Result<u32, OutOfMemory>
+    requires { length known.old.items < 2 ^ 32 - 1 }
+    ensures number { IfOk result (λ number. number ≡ length known.old.items) }
+    ensures added { OnOk result (labels_in known.new.items
+        ≡ labels_in known.old.items ++ label_of bytes.now ∷ []) }
+    ensures spelled { AreSpelled known.old.items → AreSpelled known.new.items }
+    ensures err { OnErr result (known.new.items ≡ known.old.items) }
 {
-    labels.reserve(1)?;
-    let label = Label::read(alloc, bytes)?;
-    let (number, is_new) = add_spelling(alloc, spelled, kept_spelling(&label, bytes))?;
-    keep_label(labels, is_new, label);
+    let number = known.len() as u32;
+    note(alloc, numbers, bytes, number)?;
+    let spelled = spell(alloc, bytes)?;
+    known.push(spelled)?;
     Ok(number)
 }
 
@@ -132,8 +170,9 @@ impl Labels {
         ensures { result ≡ [] }
     {
         Labels {
-            spelled: IndexSet::new(alloc),
-            labels: Vec::new(alloc),
+            known: Vec::new(alloc),
+            numbers: BTreeMap::new(alloc),
+            guesses: Vec::new(alloc),
             last: 0,
         }
     }
@@ -142,7 +181,7 @@ impl Labels {
     pub fn len(&self) -> usize
         ensures { result ≡ length self.now }
     {
-        self.labels.len()
+        self.known.len()
     }
 
     // The label with a number.
@@ -150,18 +189,7 @@ impl Labels {
         requires { number < length self.now }
         ensures { slice_get self.now number ≡ Some result.now }
     {
-        &self.labels[number as usize]
-    }
-
-    // Whether the labels with two numbers are the same.
-    pub fn is_same(&self, first: u32, second: u32) -> bool
-        requires first { first < length self.now }
-        requires second { second < length self.now }
-        ensures { result
-            ≡ same_label (get_or self.now first Absent) (get_or self.now second Absent) }
-    {
-        let _ = &self.labels;
-        first == second
+        &self.known[number as usize].label
     }
 
     // The number of the label that the bytes spell, which is added if it is new. There is no memory for
@@ -175,15 +203,18 @@ impl Labels {
         ensures few { length self.new < 2 ^ 32 }
         ensures one_more { length self.new ≤ length self.old + 1 }
     {
-        if let Some(number) = number_in(&self.spelled, self.last, bytes) {
-            self.last = number as u32;
-            return Ok(self.last);
+        let known = self.known.as_slice();
+        let numbers = &self.numbers;
+        if let Some(number) = number_in(known, numbers, &mut self.guesses, self.last, bytes) {
+            self.last = number;
+            return Ok(number);
         }
-        if self.labels.len() >= u32::MAX as usize {
+        if self.known.len() >= u32::MAX as usize {
             return Err(OutOfMemory);
         }
-        let number = add_label(alloc, &mut self.spelled, &mut self.labels, bytes)?;
-        self.last = number as u32;
-        Ok(self.last)
+        make_room(alloc, &mut self.guesses)?;
+        let number = add_label(alloc, &mut self.known, &mut self.numbers, bytes)?;
+        self.last = number;
+        Ok(number)
     }
 }

@@ -41,13 +41,7 @@ fn lay_row(laid: &mut Laid, texts: &[u8], row: &RecordRow) -> Result<(), OutOfMe
 {
     let at = laid.texts.len();
     laid.texts.extend_from_slice(text_at(texts, row))?;
-    laid.rows.push(RecordRow {
-        inode: row.inode,
-        at,
-        mark: row.mark,
-        size: row.size,
-        kind: row.kind,
-    })?;
+    laid.rows.push(RecordRow { at, ..*row })?;
     Ok(())
 }
 

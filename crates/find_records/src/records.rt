@@ -144,7 +144,8 @@ impl Records {
         }
     }
 
-    /// Whether the records at two places, counted from 0, have the same label. Their numbers tell it.
+    /// Whether the records at two places, counted from 0, have the same label. Where their numbers
+    /// differ, the labels are compared.
     pub fn has_same_label(&self, i: u32, j: u32) -> bool
         requires first { i < length self.now }
         requires second { j < length self.now }

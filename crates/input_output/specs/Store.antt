@@ -54,6 +54,11 @@ pub record StoreFaults : Type 0 where
   pub read_faults : ℕ
   pub write_faults : ℕ
 
+-- the name of the file that is meant, where the name `from` leads to the file `to`, unless that is empty
+abbrev pub name_led : List ℕ → List ℕ → List ℕ → List ℕ
+name_led from to name =
+    if bytes_eq to [] then name else (if bytes_eq from name then to else name)
+
 -- ---- stores in memory
 
 abbrev pub pair_of : MemFile → List ℕ × List ℕ

@@ -1,4 +1,5 @@
 ghost use Rattle.std.specs.Prelude.{◌≡◌, ◌⊎◌, ◌≤◌, ◌-◌, ◌<◌, ◌↔◌, ◌≢◌, IfOk, None, length, min};
+ghost use Rattle.input_output.specs.Store.{name_led};
 
 use crate::reading::{AllFault, read_all};
 use crate::sink::{WriteSink, write_all};
@@ -16,10 +17,12 @@ use std::marker::Model;
 /// A name is a path as open(2) takes it. `NotThere` is the system's "no such file or directory" (ENOENT)
 /// and "file name too long" (ENAMETOOLONG), since no such file can exist. A read takes at most one byte
 /// more than its limit. A write makes the file anew, or shortens it to nothing first, so a write that
-/// fails may leave a part of the bytes.
+/// fails may leave a part of the bytes. One name may lead to another file.
 #[derive(Drop)]
 pub struct FileStore<'r, R> {
     system: &'r R,
+    from: &'r str,
+    to: &'r str,
     read_faults: u64,
     write_faults: u64,
 }
@@ -37,12 +40,31 @@ impl<'r, R: Files> FileStore<'r, R> {
     pub fn new(system: &'r R) -> FileStore<'r, R>
         ensures { result ≡ record { read_faults = 0; write_faults = 0 } }
     {
+        FileStore::redirected(system, "", "")
+    }
+
+    /// The same, where the name `from` leads to the file `to`, unless `to` is empty.
+    pub fn redirected(system: &'r R, from: &'r str, to: &'r str) -> FileStore<'r, R>
+        ensures { result ≡ record { read_faults = 0; write_faults = 0 } }
+    {
         FileStore {
             system,
+            from,
+            to,
             read_faults: 0,
             write_faults: 0,
         }
     }
+}
+
+// The name whose file is meant.
+fn name_led<'a>(from: &str, to: &'a str, name: &'a str) -> &'a str
+    ensures { result.now ≡ name_led from.now to.now name.now }
+{
+    if to == "" {
+        return name;
+    }
+    if from == name { to } else { name }
 }
 
 // What a file's content is, or why there is none; `Failed` for every error but those with a name.
@@ -100,7 +122,8 @@ impl<'r, R: Files> Store for FileStore<'r, R> {
     ghost write_faults = { λ s. s.write_faults };
 
     fn read_file(&mut self, alloc: Global, name: &str, limit: usize) -> Result<Bytes, FileFault> {
-        let answer = content_of(self.system, alloc, name, limit);
+        let file = name_led(self.from, self.to, name);
+        let answer = content_of(self.system, alloc, file, limit);
         if let Err(FileFault::Failed) = &answer {
             self.read_faults = self.read_faults.saturating_add(1);
         }
@@ -108,7 +131,7 @@ impl<'r, R: Files> Store for FileStore<'r, R> {
     }
 
     fn write_file(&mut self, _alloc: Global, name: &str, bytes: &[u8]) -> Result<(), SaveFault> {
-        let answer = save(self.system, name, bytes);
+        let answer = save(self.system, name_led(self.from, self.to, name), bytes);
         if let Err(SaveFault::Failed) = &answer {
             self.write_faults = self.write_faults.saturating_add(1);
         }
@@ -135,6 +158,22 @@ mod tests {
         fs::remove_file(&rt, path.as_str())?;
         assert_eq!(rt; read?.as_slice(), b"three".as_slice());
         assert_eq!(rt; long, Some(FileFault::TooLong));
+        Ok(())
+    }
+
+    #[test]
+    fn a_name_leads_to_another_file(rt: HostRuntime) -> Result<(), Fail> {
+        let id = process::id(rt.process());
+        let name = format!(in rt.alloc(); "label_base-led-{id}")?;
+        let path = env::temp_dir(&rt)?.join(rt.alloc(), name.as_str())?;
+        FileStore::new(&rt).write_file(rt.alloc(), path.as_str(), b"three")?;
+        let mut store = FileStore::redirected(&rt, "/dev/no such file", path.as_str());
+        let read = store.read_file(rt.alloc(), "/dev/no such file", 5);
+        fs::remove_file(&rt, path.as_str())?;
+        assert_eq!(rt; read?.as_slice(), b"three".as_slice());
+        let mut plain = FileStore::redirected(&rt, "/dev/no such file", "");
+        let absent = plain.read_file(rt.alloc(), "/dev/no such file", 5).err();
+        assert_eq!(rt; absent, Some(FileFault::NotThere));
         Ok(())
     }
 

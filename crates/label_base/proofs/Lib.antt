@@ -11,3 +11,4 @@ pub mod LineLengths
 pub mod LineLimits
 pub mod UnderLemmas
 pub mod SumLemmas
+pub mod KindLemmas

@@ -1,9 +1,12 @@
--- Kinds of entries.
-use Rattle.std.specs.Prelude.{ℕ, Bool, true, ◌==◌, Option, Some, None}
+-- Kinds of entries, and what names them.
+use Rattle.std.specs.Prelude.{ℕ, Bool, true, false, ◌==◌, ◌&&◌, codes, List, [], slice_get, Option, Some, None}
+use Rattle.std.specs.List.{find, list_any}
+use Rattle.label_base.specs.Text.{is_nonempty, same_bytes}
 use Rattle.label_base.specs.declared.kind.EntryKind.{EntryKind}
 use Rattle.label_base.specs.declared.kind.EntryKind.TheVariants.{Regular, Directory, Link, Pipe, Socket, Block, Char, Other}
 use Rattle.label_base.specs.declared.kind.Asked.{Asked}
 use Rattle.label_base.specs.declared.kind.Asked.TheVariants.{Any, Of}
+use Rattle.label_base.specs.declared.kind.TheConstants.{KINDS}
 
 abbrev pub kind_number : EntryKind → ℕ
 kind_number Regular = 0
@@ -22,3 +25,54 @@ abbrev pub applies : Option EntryKind → Asked → Bool
 applies None asked = true
 applies (Some k) Any = true
 applies (Some k) (Of j) = same_kind k j
+
+-- ---- the table
+
+-- what names a kind; no bytes where it has no such name
+pub record Names : Type 0 where
+  -- the letters that find(1) prints by %y
+  pub letters : List ℕ
+  -- the type field of selabel_file(5)
+  pub type_field : List ℕ
+  -- the name that matchpathcon(8) takes by -m
+  pub class_name : List ℕ
+
+abbrev pub named : List ℕ → List ℕ → List ℕ → Names
+named letters type_field class_name =
+    record { letters = letters; type_field = type_field; class_name = class_name }
+
+-- a door (D) and a kind that could not be told (U) have letters alone
+abbrev pub names_of : EntryKind → Names
+names_of Regular = named (codes "f") (codes "--") (codes "file")
+names_of Directory = named (codes "d") (codes "-d") (codes "dir")
+names_of Link = named (codes "l") (codes "-l") (codes "lnk_file")
+names_of Pipe = named (codes "p") (codes "-p") (codes "pipe")
+names_of Socket = named (codes "s") (codes "-s") (codes "sock_file")
+names_of Block = named (codes "b") (codes "-b") (codes "blk_file")
+names_of Char = named (codes "c") (codes "-c") (codes "chr_file")
+names_of Other = named (codes "DU") [] []
+
+-- whether it has more names than letters
+abbrev pub has_names : EntryKind → Bool
+has_names Other = false
+has_names kind = true
+
+abbrev pub has_letter : ℕ → EntryKind → Bool
+has_letter letter kind = list_any (λ b. b == letter) (names_of kind).letters
+
+-- whether there is a name, and it is this text
+abbrev pub is_name : (name text : List ℕ) → Bool
+is_name name text = is_nonempty name && same_bytes name text
+
+-- the kinds that a letter, a type field, a class name and a number tell
+abbrev pub letter_kind : ℕ → Option EntryKind
+letter_kind letter = find (has_letter letter) KINDS
+
+abbrev pub field_kind : List ℕ → Option EntryKind
+field_kind text = find (λ kind. is_name (names_of kind).type_field text) KINDS
+
+abbrev pub class_kind : List ℕ → Option EntryKind
+class_kind text = find (λ kind. is_name (names_of kind).class_name text) KINDS
+
+abbrev pub numbered_kind : ℕ → Option EntryKind
+numbered_kind number = slice_get KINDS number

@@ -3,6 +3,7 @@ pub mod Bounded
 pub mod Cut
 pub mod Escape
 pub mod Kind
+pub mod KindNames
 pub mod LineGrammar
 pub mod Lines
 pub mod Number

@@ -1,4 +1,5 @@
 ghost use Rattle.std.specs.Prelude.{◌≡◌};
+ghost use Rattle.std.specs.Option.{option_map};
 ghost use Rattle.label_base.specs.Answers.{cause_of};
 ghost use Rattle.label_base.specs.declared.fault.Fault.TheVariants as faults;
 
@@ -31,6 +32,16 @@ impl<W: Copy> Fault<W> {
             Fault::OutOfMemory => None,
         }
     }
+
+    /// The same for this reason; want of memory stays what it is.
+    pub fn because<V: Copy>(&self, why: V) -> Fault<V>
+        ensures { cause_of result ≡ option_map (λ _. why) (cause_of self.now) }
+    {
+        match self {
+            Fault::Why(_) => Fault::Why(why),
+            Fault::OutOfMemory => Fault::OutOfMemory,
+        }
+    }
 }
 
 #[cfg(test)]
@@ -41,5 +52,11 @@ mod tests {
     fn a_reason_or_none(rt: HostRuntime) {
         assert_eq!(rt; Fault::Why(7).why(), Some(7));
         assert_eq!(rt; Fault::<u8>::OutOfMemory.why(), None);
+    }
+
+    #[test]
+    fn another_reason(rt: HostRuntime) {
+        assert_eq!(rt; Fault::Why(7).because(true), Fault::Why(true));
+        assert_eq!(rt; Fault::<u8>::OutOfMemory.because(true), Fault::OutOfMemory);
     }
 }

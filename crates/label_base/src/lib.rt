@@ -22,7 +22,7 @@ pub use cut::{
 pub use escape::{EscapeFault, octal_byte, read_escaped, write_escaped};
 pub use fault::Fault;
 pub use greatest::greater;
-pub use kind::{Asked, EntryKind, Part};
+pub use kind::{Asked, EntryKind};
 pub use lines::{COMMENT_MARK, LineReader, LinesWhy, RefusedLine, read_lines, read_lines_within};
 pub use memory::OutOfMemory;
 pub use name::Name;

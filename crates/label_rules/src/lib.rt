@@ -12,7 +12,7 @@ mod verdict;
 pub use given::{does_give, given_at, given_by, spec_at};
 pub use label_after::LabelAfter;
 pub use lines::{conflict_line, given_in, label_by, verdict_line};
-pub use looking_up::{look_up, look_up_counted, look_up_path};
+pub use looking_up::{look_up, look_up_path};
 pub use rules::Rules;
 pub use verdict::{Verdict, decide};
 

@@ -13,45 +13,33 @@ use std::alloc::Global;
 use std::sync::ledger::Ledger;
 
 /// The index of the specification that decides a path: the last one that applies to what is asked and whose language holds
-/// the substituted path (selabel_file(5)). There is none where no specification does.
+/// the substituted path (selabel_file(5)). There is none where no specification does. It counts at most one step.
 #[tactic(auto, unfolding(crate::specs::LookUp::index_asked))]
-pub fn look_up_path(
+pub fn look_up_path<L: Ledger>(
     alloc: Global,
     rules: &Rules,
     path: &PathRef<'_>,
     asked: Asked,
     scratch: &mut Scratch,
+    steps: &mut Steps<L>,
 ) -> Result<Option<u32>, OutOfMemory>
     requires { IsScratchOf rules.now.rules scratch.old }
     ensures own { IsScratchOf rules.now.rules scratch.new }
     ensures found { IfOk result (λ found.
         found ≡ index_asked rules.now (path_of path.now) asked) }
     ensures within { IfOk result (λ found. IfSome found (λ i. i < length rules.now.rules)) }
+    ensures count { steps.new ≤ steps.old + 1 }
 {
+    let specs = &rules.rules;
     match rules.subs.changed(alloc, path)? {
-        Some(changed) => Ok(rules.rules.find_last(scratch, &changed.path(), asked)),
-        None => Ok(rules.rules.find_last(scratch, path, asked)),
+        Some(changed) => Ok(specs.last_match(scratch, &changed.path(), asked, steps)),
+        None => Ok(specs.last_match(scratch, path, asked, steps)),
     }
 }
 
-/// The index of the specification that decides an entry: that of its path, where its kind is asked for.
-pub fn look_up(
-    alloc: Global,
-    rules: &Rules,
-    entry: &Entry<'_>,
-    scratch: &mut Scratch,
-) -> Result<Option<u32>, OutOfMemory>
-    requires { IsScratchOf rules.now.rules scratch.old }
-    ensures own { IsScratchOf rules.now.rules scratch.new }
-    ensures found { IfOk result (λ found. found ≡ index_for rules.now (entry_of entry.now)) }
-    ensures within { IfOk result (λ found. IfSome found (λ i. i < length rules.now.rules)) }
-{
-    look_up_path(alloc, rules, &entry.path, Asked::Of(entry.kind), scratch)
-}
-
-/// The same as [`look_up`], counted as at most one step.
-#[tactic(auto, unfolding(crate::specs::LookUp::index_asked))]
-pub fn look_up_counted<L: Ledger>(
+/// The index of the specification that decides an entry: that of its path, where its kind is asked for. It counts at most
+/// one step.
+pub fn look_up<L: Ledger>(
     alloc: Global,
     rules: &Rules,
     entry: &Entry<'_>,
@@ -65,8 +53,5 @@ pub fn look_up_counted<L: Ledger>(
     ensures count { steps.new ≤ steps.old + 1 }
 {
     let asked = Asked::Of(entry.kind);
-    match rules.subs.changed(alloc, &entry.path)? {
-        Some(path) => Ok(rules.rules.last_match(scratch, &path.path(), asked, steps)),
-        None => Ok(rules.rules.last_match(scratch, &entry.path, asked, steps)),
-    }
+    look_up_path(alloc, rules, &entry.path, asked, scratch, steps)
 }

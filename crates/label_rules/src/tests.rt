@@ -1,4 +1,4 @@
-ghost use Rattle.std.specs.Prelude.{◌<◌, ◌^◌, length};
+ghost use Rattle.std.specs.Prelude.{◌≡◌, ◌<◌, ◌^◌, length};
 
 use crate::{
     LabelAfter, Rules, conflict_line, decide, does_give, given_at, given_by, given_in, label_by,
@@ -6,14 +6,17 @@ use crate::{
 };
 use context_syntax::{Context, Label, TypeNames, read_customizable};
 use file_paths::{NormPath, PathRef};
+use file_roles::Part;
 use find_records::{RecordLimits, Records, read_records};
 use input_output::MemSource;
-use label_base::{Asked, Bytes, OutOfMemory, Part, Row};
+use label_base::{Asked, Bytes, OutOfMemory, Row, Steps};
 use path_subs::{SubList, Subs, read_subs};
 use report_text::Message;
 use spec_match::{RuleSet, Scratch};
 use spec_reader::read_specs;
 use std::alloc::Global;
+use std::marker::Brand;
+use std::sync::ledger::{Blank, Ledger};
 use std::test::Fail;
 
 fn subs_to_srv(alloc: Global) -> Result<Subs, Fail> {
@@ -46,17 +49,27 @@ fn one_directory(alloc: Global) -> Result<Records, Fail> {
     Ok(read_records(alloc, &mut input, most)?)
 }
 
-fn index_of(alloc: Global, rules: &Rules, records: &Records) -> Result<Option<u32>, OutOfMemory> {
+fn index_of<L: Ledger>(
+    alloc: Global,
+    rules: &Rules,
+    records: &Records,
+    blank: Blank,
+) -> Result<Option<u32>, OutOfMemory>
+    requires name { blank.name ≡ L.name }
+    requires parts { blank.parts ≡ L.parts }
+    requires some { 0 < blank.parts }
+{
     if records.len() == 0 {
         return Ok(None);
     }
     let mut scratch = Scratch::new(alloc, &rules.rules)?;
-    look_up(alloc, rules, &records.entry(0), &mut scratch)
+    let mut steps = Steps::<L>::open(blank);
+    look_up(alloc, rules, &records.entry(0), &mut scratch, &mut steps)
 }
 
 fn is_kept_as_it_is(alloc: Global, rules: &Rules) -> Result<bool, Fail> {
     let records = one_directory(alloc)?;
-    let index = index_of(alloc, rules, &records)?;
+    let index = index_of::<Brand>(alloc, rules, &records, Blank::new(1))?;
     Ok(index == Some(1) && !does_give(rules, index))
 }
 
@@ -70,14 +83,24 @@ fn an_entry_is_looked_up(rt: HostRuntime) -> Result<(), Fail> {
     Ok(())
 }
 
-fn index_at(alloc: Global, rules: &Rules, path: &PathRef<'_>) -> Result<Option<u32>, OutOfMemory> {
+fn index_at<L: Ledger>(
+    alloc: Global,
+    rules: &Rules,
+    path: &PathRef<'_>,
+    blank: Blank,
+) -> Result<Option<u32>, OutOfMemory>
+    requires name { blank.name ≡ L.name }
+    requires parts { blank.parts ≡ L.parts }
+    requires some { 0 < blank.parts }
+{
     let mut scratch = Scratch::new(alloc, &rules.rules)?;
-    look_up_path(alloc, rules, path, Asked::Any, &mut scratch)
+    let mut steps = Steps::<L>::open(blank);
+    look_up_path(alloc, rules, path, Asked::Any, &mut scratch, &mut steps)
 }
 
 fn is_given_by_the_last(alloc: Global, rules: &Rules) -> Result<bool, Fail> {
     let path = NormPath::read(alloc, b"/data")?;
-    let index = index_at(alloc, rules, &path.path())?;
+    let index = index_at::<Brand>(alloc, rules, &path.path(), Blank::new(1))?;
     let by_spec = spec_at(rules, index).and_then(given_by);
     Ok(index == Some(1) && by_spec.is_some() && given_at(rules, index).is_some())
 }

@@ -1,12 +1,20 @@
-//! Look-ups of single paths, as matchpathcon(8) does them: which context is decided for a path, and whether its inode has
-//! that label.
+//! Look-ups of single paths, and the tool matchpathcon(8), which makes them: which context is decided
+//! for a path, and whether its inode has that label.
 #![tactic(auto)]
 
+mod answer;
 mod found;
+mod letters;
+mod tool;
 mod verified;
+mod words;
 
 pub use found::{add_found_report, find_context};
 pub use verified::{add_verified_report, is_unverified, verify};
+pub use words::{LookupWords, read_lookup};
+
+/// The name of the tool.
+pub const MATCHPATHCON: &str = "matchpathcon";
 
 #[cfg(test)]
 mod tests;

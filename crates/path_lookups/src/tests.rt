@@ -1,18 +1,25 @@
-ghost use Rattle.std.specs.Prelude.{◌<◌, ◌^◌, length};
+ghost use Rattle.std.specs.Prelude.{◌≡◌, ◌<◌, ◌^◌, IfOk, length};
 ghost use Rattle.spec_match.specs.Scratches.{IsScratchOf};
 
-use crate::{add_found_report, add_verified_report, find_context, is_unverified, verify};
+use crate::{
+    LookupWords, add_found_report, add_verified_report, find_context, is_unverified, read_lookup,
+    verify,
+};
 use context_syntax::TypeNames;
 use file_paths::{NormPath, PathRef};
+use file_roles::Part;
 use find_records::{RecordLimits, read_records};
 use input_output::MemSource;
-use label_base::{Asked, Bytes, EntryKind, OutOfMemory, Part, Row};
+use label_base::{Asked, Bytes, EntryKind, Fault, OutOfMemory, Row, Steps};
 use label_rules::{Rules, look_up_path};
 use path_subs::{SubList, Subs, read_subs};
 use spec_match::{RuleSet, Scratch};
 use spec_reader::read_specs;
 use std::alloc::Global;
+use std::marker::Brand;
+use std::sync::ledger::{Blank, Ledger};
 use std::test::Fail;
+use tool_words::Usage;
 use tree_model::Tree;
 
 fn tree_of(alloc: Global, records: &[u8]) -> Result<Tree, Fail> {
@@ -247,18 +254,24 @@ fn paths_are_verified(rt: HostRuntime) -> Result<(), Fail> {
 }
 
 // What a look-up of one path tells: its index, whether a context is found, and whether it is not verified.
-fn told_of(
+fn told_of<L: Ledger>(
     alloc: Global,
     rules: &Rules,
     tree: &Tree,
     path: &PathRef<'_>,
     scratch: &mut Scratch,
+    blank: Blank,
 ) -> Result<(Option<u32>, bool, bool), OutOfMemory>
-    requires { IsScratchOf rules.now.rules scratch.old }
+    requires own { IsScratchOf rules.now.rules scratch.old }
+    requires name { blank.name ≡ L.name }
+    requires parts { blank.parts ≡ L.parts }
+    requires some { 0 < blank.parts }
 {
-    let index = look_up_path(alloc, rules, path, Asked::Any, scratch)?;
-    let is_found = find_context(alloc, rules, path, Asked::Any, scratch)?.is_some();
-    let message = verify(alloc, rules, tree, None, path, scratch)?;
+    let mut steps = Steps::<L>::open(blank);
+    let index = look_up_path(alloc, rules, path, Asked::Any, scratch, &mut steps)?;
+    let context = find_context(alloc, rules, path, Asked::Any, scratch, &mut steps)?;
+    let is_found = context.is_some();
+    let message = verify(alloc, rules, tree, None, path, scratch, &mut steps)?;
     Ok((index, is_found, is_unverified(&message)))
 }
 
@@ -269,7 +282,7 @@ fn told_by(
     path: &PathRef<'_>,
 ) -> Result<(Option<u32>, bool, bool), OutOfMemory> {
     let mut scratch = Scratch::new(alloc, &rules.rules)?;
-    told_of(alloc, rules, tree, path, &mut scratch)
+    told_of::<Brand>(alloc, rules, tree, path, &mut scratch, Blank::new(1))
 }
 
 fn told_over(alloc: Global, rules: &Rules, tree: &Tree) -> Result<(Option<u32>, bool, bool), Fail> {
@@ -286,5 +299,30 @@ fn told_with(alloc: Global, tree: &Tree) -> Result<(Option<u32>, bool, bool), Fa
 fn one_path_is_looked_up(rt: HostRuntime) -> Result<(), Fail> {
     let tree = tree_of(rt.alloc(), b"f 1 2 ? /a\0")?;
     assert!(rt; told_with(rt.alloc(), &tree)? == (Some(0), true, true));
+    Ok(())
+}
+
+fn words_of(alloc: Global, words: &[&str]) -> Result<Vec<String>, OutOfMemory>
+    ensures { IfOk result (λ made. length made.items < 2 ^ 30) }
+{
+    let mut made = Vec::new(alloc);
+    'words: for word in words {
+        made.push(String::from_str(alloc, word)?)?;
+    }
+    if made.len() >= 1 << 30 {
+        return Err(OutOfMemory);
+    }
+    Ok(made)
+}
+
+fn lookup(alloc: Global, words: &[&str]) -> Result<LookupWords, Fault<Usage>> {
+    let words = words_of(alloc, words)?;
+    read_lookup(alloc, words.as_slice(), 1)
+}
+
+#[test]
+fn a_lookup_takes_a_type(rt: HostRuntime) -> Result<(), Fail> {
+    let asked = lookup(rt.alloc(), ["-n", "-m", "dir", "-f", "fc", "/a"].as_slice())?;
+    assert!(rt; asked.bare && !asked.verify && asked.asked == Some(EntryKind::Directory));
     Ok(())
 }

@@ -1,14 +1,18 @@
 -- The substitutions of a file are those that its grammar gives.
 use Rattle.std.proofs.Common.{◌≡◌, ◌∙◌, ap, sym, refl, subst, ℕ, ◌<◌, List, [], ◌∷◌, length, arith}
 use Rattle.std.specs.Prelude.{◌↔◌, Result, Ok, Err}
-use Rattle.file_paths.specs.Path.{Path, path_read}
+use Rattle.label_base.specs.Answers.{with_reason}
+use Rattle.file_paths.specs.Path.{Path, path_or, path_read}
 use Rattle.file_paths.specs.declared.path_fault.PathWhy.{PathWhy}
 use Rattle.label_base.specs.declared.lines.RefusedLine.{RefusedLine}
 use Rattle.label_base.proofs.LinesMeant.{lines_mean}
 use Rattle.path_subs.specs.Subs.{SubValue}
 use Rattle.path_subs.specs.SubGrammar.{FieldsMean, IsSub, SubsMean}
-use Rattle.path_subs.specs.SubLines.{path_in, path_or_none, sub_in, subs_of, with_paths}
+use Rattle.path_subs.specs.SubLines.{no_sub, sub_in, subs_of, with_paths}
 use Rattle.path_subs.specs.declared.sub_fault.NoSub.{NoSub}
+
+abbrev path_or_none : Result Path PathWhy → Result Path NoSub
+path_or_none = with_reason (λ _. no_sub)
 
 none_of_one : (fields : List (List ℕ)) (first : List ℕ) → fields ≡ first ∷ [] → (sub : SubValue) → ¬ IsSub fields sub
 none_of_one fields first e sub h = let both : first ∷ [] ≡ h.source ∷ h.target ∷ h.rest = sym e ∙ h.cut in cc
@@ -47,7 +51,7 @@ err_complete fields why (Err other) h nothing = refl
 fields_complete : (number : ℕ) (fields : List (List ℕ)) (meant : Result SubValue NoSub) → FieldsMean number fields meant → sub_in fields ≡ meant
 fields_complete number fields (Ok sub) h =
     ap sub_in h.cut
-    ∙ ap (λ from. with_paths (path_or_none from) (path_in h.target)) h.source_path
+    ∙ ap (λ from. with_paths (path_or_none from) (path_or no_sub h.target)) h.source_path
     ∙ ap (λ to. with_paths (Ok sub.source) (path_or_none to)) h.target_path
     ∙ made sub.source sub.target h.below_root
 fields_complete number fields (Err why) h = err_complete fields why (sub_in fields) (fields_sound 0 fields) h

@@ -76,8 +76,7 @@ fn nodes_behind(alloc: Global, pattern: &Pattern) -> Result<Vec<Node>, OutOfMemo
         Parts pattern.now (literal_start_of pattern.now) (tree_of nodes.items)) }
 {
     pattern.has_no_empty_set();
-    let (_start, rest) = pattern.parts();
-    let nodes = sequence(alloc, rest)?;
+    let nodes = sequence(alloc, pattern.rest())?;
     Ok(nodes)
 }
 

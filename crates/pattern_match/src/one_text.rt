@@ -16,8 +16,7 @@ pub fn is_one_text(pattern: &Pattern) -> bool
         → holds pattern.now text ≡ same_bytes text (literal_start_of pattern.now) }
 {
     pattern.has_no_empty_set();
-    let (_start, rest) = pattern.parts();
-    rest.is_empty()
+    pattern.rest().is_empty()
 }
 
 /// Goes on by a byte, where the pattern is one text: what the states stand for gets it at its end.

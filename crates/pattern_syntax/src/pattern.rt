@@ -147,16 +147,17 @@ impl Pattern {
         self.start.as_slice()
     }
 
-    /// The bytes that the pattern begins with, and the nodes behind them, in postfix order. The
-    /// texts of the language are the start and then a text of the rest.
-    pub fn parts(&self) -> (&[u8], &[Node])
-        ensures start { result.0.now ≡ literal_start_of self.now }
-        ensures whole { after_nodes result.1.now (bytes_tree result.0.now ∷ []) ≡ self.now ∷ [] }
-        ensures rest { trees_behind result.1.now ≡ rest_tree result.1.now ∷ [] }
+    /// The nodes behind the start, in postfix order. The texts of the language are the start and
+    /// then a text of the rest.
+    pub fn rest(&self) -> &[Node]
+        ensures whole { after_nodes result.now (bytes_tree (literal_start_of self.now) ∷ [])
+            ≡ self.now ∷ [] }
+        ensures alone { trees_behind result.now ≡ rest_tree result.now ∷ [] }
         ensures language { (text : List ℕ) → In self.now text
-            ↔ Follows result.0.now (rest_tree result.1.now) text }
+            ↔ Follows (literal_start_of self.now) (rest_tree result.now) text }
     {
-        (self.start.as_slice(), self.rest.as_slice())
+        let _start = &self.start;
+        self.rest.as_slice()
     }
 
     /// A law on every pattern: each of its sets has a byte, and none of them 0; what stands before

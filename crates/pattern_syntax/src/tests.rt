@@ -100,7 +100,6 @@ fn positions_are_those_of_the_whole_pattern(rt: HostRuntime) {
 fn nodes_stand_behind_their_parts(rt: HostRuntime) -> Result<(), Fail> {
     let pattern = Pattern::read(rt.alloc(), b"^a(b|c)?$")?;
     pattern.has_no_empty_set();
-    let (start, rest) = pattern.parts();
     let wanted = [
         Node::Nothing,
         Node::Byte(b'b'),
@@ -115,8 +114,8 @@ fn nodes_stand_behind_their_parts(rt: HostRuntime) -> Result<(), Fail> {
         },
         Node::Both,
     ];
-    assert_eq!(rt; start, b"a".as_slice());
-    assert_eq!(rt; rest, wanted.as_slice());
+    assert_eq!(rt; pattern.start(), b"a".as_slice());
+    assert_eq!(rt; pattern.rest(), wanted.as_slice());
     Ok(())
 }
 
@@ -128,7 +127,7 @@ fn brackets_hold_their_bytes(rt: HostRuntime) -> Result<(), Fail> {
         .with_range(b'a', b'c')
         .with_range(b'0', b'9');
     let wanted = [Node::Set(set), Node::Both];
-    assert_eq!(rt; pattern.parts().1, wanted.as_slice());
+    assert_eq!(rt; pattern.rest(), wanted.as_slice());
     Ok(())
 }
 
@@ -153,7 +152,7 @@ fn literal_starts_end_at_the_first_other_piece(rt: HostRuntime) -> Result<(), Fa
     assert_eq!(rt; start_of(a, b"ab|ac")?.as_slice(), b"".as_slice());
     let exact = Pattern::read(a, b"/etc/shadow")?;
     assert_eq!(rt; exact.start(), b"/etc/shadow".as_slice());
-    assert!(rt; exact.parts().1.is_empty());
+    assert!(rt; exact.rest().is_empty());
     Ok(())
 }
 

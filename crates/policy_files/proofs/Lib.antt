@@ -1,2 +1,0 @@
-pub mod FilesLemmas
-pub mod PolicyLemmas

@@ -1,2 +1,3 @@
-pub mod SampleWords
 pub mod Files
+pub mod Names
+pub mod Rules

@@ -1,13 +1,14 @@
-//! The files of a policy, and the file of stored digests: each is read whole, at most so many bytes of it, and its text read
-//! as what it means.
+//! The files of a policy, each by its role: their names, and what they say, each read whole before
+//! the next.
 #![tactic(auto)]
 
-mod files;
-mod policy;
-mod sample;
+mod names;
+mod reading;
+mod rules;
 
-pub use policy::{Policy, read_policy};
-pub use sample::{sample_choice, sample_options, sample_words};
+pub use names::{CUSTOMIZABLE_TYPES, DEFAULT_BASE, add_policy, add_types};
+pub use reading::{read_specifications, read_substitutions, read_types};
+pub use rules::read_rules;
 
 #[cfg(test)]
 mod tests;

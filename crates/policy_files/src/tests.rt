@@ -1,61 +1,91 @@
-use crate::{Policy, read_policy, sample_choice, sample_options, sample_words};
+use crate::{add_policy, add_types, read_specifications, read_substitutions, read_types};
+use file_roles::{FileList, FileRole, Part};
 use input_output::MemStore;
-use label_base::{OutOfMemory, Part, Row};
-use run_faults::{Cause, FileNames};
+use label_base::{OutOfMemory, Row};
+use run_faults::Cause;
 use std::alloc::Global;
 use std::test::Fail;
-use tool_words::Command;
 
-const SPECS: &[u8] = b"/srv/.* u:r:srv_t:s0\n/opt u:r:opt_t:s0\n";
-
-// What is read by this command from a base file.
-fn read_by(alloc: Global, command: &Command, specs: &[u8]) -> Result<Policy, Cause> {
-    let names = FileNames::of(alloc, command)?;
-    let mut store = MemStore::new(alloc, Row::new(alloc));
-    store.put(alloc, "file_contexts", specs)?;
-    read_policy(alloc, command, &names, &mut store)
+fn list(alloc: Global) -> Result<FileList, OutOfMemory> {
+    let mut list = FileList::new(alloc);
+    add_policy(alloc, 0, "fc", &mut list)?;
+    add_types(alloc, &mut list)?;
+    Ok(list)
 }
 
-fn read(alloc: Global, specs: &[u8]) -> Result<Policy, Cause> {
-    let command = Command::Relabel(sample_words(alloc)?);
-    read_by(alloc, &command, specs)
+fn is_named(list: &FileList, part: Part, name: &str) -> bool {
+    list.name_of(FileRole::alone(part)) == name
 }
 
 #[test]
-fn a_policy_is_read(rt: HostRuntime) {
-    let policy = read(rt.alloc(), SPECS);
-    assert!(rt; policy.is_ok_and(|policy| policy.rules.rules.len() == 2));
+fn files_stand_beside_the_base_file(rt: HostRuntime) -> Result<(), Fail> {
+    let list = list(rt.alloc())?;
+    for (part, name) in [
+        (Part::Base, "fc"),
+        (Part::Homedirs, "fc.homedirs"),
+        (Part::Local, "fc.local"),
+        (Part::Subs, "fc.subs"),
+        (Part::SubsDist, "fc.subs_dist"),
+        (
+            Part::Customizable,
+            "/etc/selinux/targeted/contexts/customizable_types",
+        ),
+    ] {
+        assert!(rt; is_named(&list, part, name), "at {part:?}");
+    }
+    Ok(())
+}
+
+fn store(alloc: Global, name: &str, bytes: &[u8]) -> Result<MemStore, OutOfMemory> {
+    let mut store = MemStore::new(alloc, Row::new(alloc));
+    store.put(alloc, name, bytes)?;
+    Ok(store)
+}
+
+// How many specifications a base file has.
+fn count_specifications(alloc: Global, specs: &[u8]) -> Result<u32, Cause> {
+    let mut store = store(alloc, "fc", specs)?;
+    Ok(read_specifications(alloc, &list(alloc)?, 0, &mut store)?.len())
+}
+
+#[test]
+fn specifications_are_read(rt: HostRuntime) {
+    let count = count_specifications(rt.alloc(), b"/srv/.* u:r:srv_t:s0\n/opt u:r:opt_t:s0\n");
+    assert!(rt; count.is_ok_and(|count| count == 2));
 }
 
 #[test]
 fn a_line_is_refused(rt: HostRuntime) {
-    let refused = read(rt.alloc(), b"/srv/.* u:r:srv_t:s0\n/opt\n");
-    assert!(rt;
-        matches!(
-            refused,
-            Err(Cause::SpecRefused {
-                part: Part::Base,
-                line: 2,
-                ..
-            })
-        )
-    );
+    let refused = count_specifications(rt.alloc(), b"/srv/.* u:r:srv_t:s0\n/opt\n");
+    assert!(rt; matches!(refused, Err(Cause::SpecRefused { line: 2, .. })));
+}
+
+// How many lines the first file of substitutions has.
+fn count_substitutions(alloc: Global, lines: &[u8]) -> Result<usize, Cause> {
+    let mut store = store(alloc, "fc.subs", lines)?;
+    Ok(
+        read_substitutions(alloc, &list(alloc)?, 0, &mut store)?
+            .first
+            .lines()
+            .len(),
+    )
 }
 
 #[test]
-fn a_sample_has_files_of_its_own(rt: HostRuntime) {
-    let policy = read_by(rt.alloc(), &Command::Sample(7), b"");
-    assert!(rt; policy.is_ok_and(|policy| policy.rules.rules.len() > 0));
+fn substitutions_are_read(rt: HostRuntime) {
+    let count = count_substitutions(rt.alloc(), b"/myweb /run/web\n");
+    assert!(rt; count.is_ok_and(|count| count == 1));
 }
 
-fn count_operands(alloc: Global) -> Result<usize, OutOfMemory> {
-    let choice = sample_choice(alloc)?;
-    Ok(choice.operands.len())
+// Whether a name is among the customizable types of this file.
+fn has_type(alloc: Global, types: &[u8], name: &[u8]) -> Result<bool, Cause> {
+    let place = "/etc/selinux/targeted/contexts/customizable_types";
+    let mut store = store(alloc, place, types)?;
+    Ok(read_types(alloc, &list(alloc)?, &mut store)?.has(name))
 }
 
 #[test]
-fn a_sample_is_walked_by_force(rt: HostRuntime) -> Result<(), Fail> {
-    assert_eq!(rt; count_operands(rt.alloc())?, 1);
-    assert!(rt; sample_options().force);
-    Ok(())
+fn customizable_types_are_read(rt: HostRuntime) {
+    let found = has_type(rt.alloc(), b"public_content_t\n", b"public_content_t");
+    assert!(rt; found.is_ok_and(|found| found));
 }

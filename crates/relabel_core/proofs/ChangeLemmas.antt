@@ -1,10 +1,9 @@
 -- Which labels and digests change, and how that is told.
 use Rattle.std.proofs.Common.{◌≡◌, ◌∙◌, sym, refl, ap, ap₂, ℕ, Bool, true, false, ◌&&◌, not, List, [], ◌∷◌, ◌++◌, Option, Some, None, inl, inr, if◌then◌else◌}
-use Rattle.std.specs.Borrow.{Bor}
 use Rattle.std.specs.Prelude.{is_some, option_and_then}
-use Rattle.std.specs.Option.{option_copied}
 use Rattle.std.proofs.lemmas.Bool.{cases_Bool, cond_both}
 use Rattle.std.proofs.lemmas.Slice.Eq.{bytes_eq-Decides}
+use Rattle.dir_digest.specs.Digest.{void_digest}
 use Rattle.tree_model.proofs.SameLemmas.{option_same}
 use Rattle.label_base.specs.Text.{same_bytes}
 use Rattle.file_paths.specs.Path.{Path}
@@ -21,7 +20,6 @@ use Rattle.label_rules.specs.Decide.{given_in, VerdictValue, Keep, Customized, C
 use Rattle.relabel_core.specs.DigestAfter.{digest_told, void_if}
 use Rattle.relabel_core.specs.Passed.{renewal}
 use Rattle.relabel_core.specs.Walk.{Walk, digest_after, digest_now, group_winner, is_at, is_changed_name, is_outdated, is_renewed, label_after, new_label_with, path_at, verdict_where, verdict_with, wanted}
-use Rattle.relabel_core.specs.declared.digests.TheConstants.{VOID_DIGEST}
 
 -- ---- a verdict changes a label just where another one is left
 
@@ -130,31 +128,27 @@ renewed_or (Some digest) other = Some digest
 renewed_or None other = other
 
 after_if : (dry renewed outdated : Bool) (digest : List ℕ) (stored : Option (List ℕ))
-    → (if dry then stored else if renewed then Some digest else if outdated then Some VOID_DIGEST.now else stored)
-    ≡ renewed_or (if not dry && renewed then Some digest else None) (if not dry && outdated then Some VOID_DIGEST.now else stored)
+    → (if dry then stored else if renewed then Some digest else if outdated then Some void_digest else stored)
+    ≡ renewed_or (if not dry && renewed then Some digest else None) (if not dry && outdated then Some void_digest else stored)
 unfolding renewed_or
 after_if true renewed outdated digest stored = refl
 after_if false true outdated digest stored = refl
 after_if false false true digest stored = refl
 after_if false false false digest stored = refl
 
-after_is : (w : Walk) (d : ℕ) → digest_after w d ≡ renewed_or (renewal w d) (if is_void w d then Some VOID_DIGEST.now else w.stored d)
+after_is : (w : Walk) (d : ℕ) → digest_after w d ≡ renewed_or (renewal w d) (if is_void w d then Some void_digest else w.stored d)
 unfolding digest_after
 after_is w d = after_if w.options.dry (is_renewed w d) (is_outdated w d) (digest_now w d) (w.stored d)
 
 pub after_renewed : (w : Walk) (d : ℕ) (digest : List ℕ) → renewal w d ≡ Some digest → digest_after w d ≡ Some digest
 unfolding renewed_or
-after_renewed w d digest h = after_is w d ∙ ap (λ o. renewed_or o (if is_void w d then Some VOID_DIGEST.now else w.stored d)) h
+after_renewed w d digest h = after_is w d ∙ ap (λ o. renewed_or o (if is_void w d then Some void_digest else w.stored d)) h
 
-pub after_other : (w : Walk) (d : ℕ) → renewal w d ≡ None → digest_after w d ≡ (if is_void w d then Some VOID_DIGEST.now else w.stored d)
+pub after_other : (w : Walk) (d : ℕ) → renewal w d ≡ None → digest_after w d ≡ (if is_void w d then Some void_digest else w.stored d)
 unfolding renewed_or
-after_other w d h = after_is w d ∙ ap (λ o. renewed_or o (if is_void w d then Some VOID_DIGEST.now else w.stored d)) h
+after_other w d h = after_is w d ∙ ap (λ o. renewed_or o (if is_void w d then Some void_digest else w.stored d)) h
 
-pub copied_some : {A : Type 0} (found : Option (Bor A)) → is_some (option_copied found) ≡ is_some found
-copied_some None = refl
-copied_some (Some x) = refl
-
-pub told_void : (b : Bool) (stored : Option (List ℕ)) → digest_told (void_if b) stored ≡ (if b then Some VOID_DIGEST.now else stored)
+pub told_void : (b : Bool) (stored : Option (List ℕ)) → digest_told (void_if b) stored ≡ (if b then Some void_digest else stored)
 told_void true stored = refl
 told_void false stored = refl
 
@@ -169,22 +163,22 @@ change_renewed w d digest h =
     ap (λ after. if not (same_option after (w.stored d)) then after else None) (after_renewed w d digest h)
     ∙ unless (same_option (Some digest) (w.stored d)) digest
 
-pub change_void : (w : Walk) (d : ℕ) → renewal w d ≡ None → is_void w d ≡ true → digest_change w d ≡ unless_stored VOID_DIGEST.now (w.stored d)
+pub change_void : (w : Walk) (d : ℕ) → renewal w d ≡ None → is_void w d ≡ true → digest_change w d ≡ unless_stored void_digest (w.stored d)
 change_void w d h v =
     ap (λ after. if not (same_option after (w.stored d)) then after else None)
-    (after_other w d h ∙ ap (λ b. if b then Some VOID_DIGEST.now else w.stored d) v)
-    ∙ unless (same_option (Some VOID_DIGEST.now) (w.stored d)) VOID_DIGEST.now
+    (after_other w d h ∙ ap (λ b. if b then Some void_digest else w.stored d) v)
+    ∙ unless (same_option (Some void_digest) (w.stored d)) void_digest
 
 pub change_none : (w : Walk) (d : ℕ) → renewal w d ≡ None → is_void w d ≡ false → digest_change w d ≡ None
 change_none w d h v =
     ap (λ after. if not (same_option after (w.stored d)) then after else None)
-    (after_other w d h ∙ ap (λ b. if b then Some VOID_DIGEST.now else w.stored d) v)
+    (after_other w d h ∙ ap (λ b. if b then Some void_digest else w.stored d) v)
     ∙ ap (λ b. if not b then w.stored d else None) (option_same (w.stored d))
 
 -- ---- the attribute of a digest
 
 stored_none : (dry renewed outdated : Bool) (digest : List ℕ) (stored : Option (List ℕ))
-    → (if dry then stored else if renewed then Some digest else if outdated then Some VOID_DIGEST.now else stored) ≡ None → stored ≡ None
+    → (if dry then stored else if renewed then Some digest else if outdated then Some void_digest else stored) ≡ None → stored ≡ None
 stored_none true renewed outdated digest stored h = h
 stored_none false true outdated digest stored h = absurd cc
 stored_none false false true digest stored h = absurd cc

@@ -8,3 +8,5 @@ pub mod PassedLemmas
 pub mod CountsLemmas
 pub mod ChangeLemmas
 pub mod DumpLemmas
+pub mod NextLemmas
+pub mod Sending

@@ -1,25 +1,26 @@
 -- What is noted of the entries that were looked up.
-use Rattle.std.proofs.Common.{◌≡◌, ◌≢◌, ◌∙◌, sym, refl, ap, subst, ℕ, zero, suc, ◌+◌, ◌<◌, ◌≤◌, ◌==◌, ◌&&◌, Bool, true, false, List, [], ◌∷◌, ◌++◌, length, set, Option, Some, None, IfSome, arith, inl, inr, if◌then◌else◌, eq-eqb, ne_eqb, add-one, length-append, length-set, get_or-set_same, get_or-set_other}
-use Rattle.std.specs.Prelude.{filter, is_some, is_none, nat_lt}
-use Rattle.std.proofs.lemmas.Bool.{cases_eq, cases_lt, lt-ltb}
-use Rattle.std.proofs.lemmas.List.{get_or_append_left}
+use Rattle.std.proofs.Common.{◌≡◌, ◌≢◌, ◌∙◌, sym, refl, ap, ap₂, subst, ℕ, zero, suc, ◌+◌, ◌<◌, ◌≤◌, ◌^◌, ◌==◌, ◌&&◌, Bool, true, false, List, [], ◌∷◌, ◌++◌, length, replicate, set, Option, Some, None, IfSome, arith, inl, inr, if◌then◌else◌, eq-eqb, ne_eqb, add-one, length-append, length-set, get_or-set_same, get_or-set_other}
+use Rattle.std.specs.Prelude.{filter, is_some, is_none, nat_lt, option_and_then}
+use Rattle.std.proofs.lemmas.Bool.{cases_eq, cases_lt, le-ltb, lt-ltb}
+use Rattle.std.proofs.lemmas.List.{get_or-replicate, length-replicate}
 use Rattle.std.proofs.lemmas.List.Elements.{filter-append}
-use Rattle.std.proofs.Math.Seq.{get_or-append_seam}
 use Rattle.relabel_core.proofs.PassLemmas.{kept}
-use Rattle.label_base.specs.Bounded.{all_numbers, found_or}
+use Rattle.label_base.specs.Bounded.{all_numbers, found_or, least_below}
 use Rattle.label_base.proofs.BoundedLemmas.{least_case, below_or_last}
 use Rattle.tree_model.specs.Groups.{group_of, groups_in}
-use Rattle.relabel_core.specs.Numbers.{as_found, entered_at, entered_if, found_in, number_of}
-use Rattle.relabel_core.specs.Walk.{Walk, can_win, count, deciding, one_if, walked, walked_below, wanted, winner}
+use Rattle.relabel_core.specs.Numbers.{IsPut, as_found, entered_at, entered_if, found_in, number_of, put_at}
+use Rattle.relabel_core.specs.Walk.{Walk, can_win, count, deciding, is_wanted, one_if, walked, walked_below, wanted, wanted_below, winner}
 use Rattle.label_rules.specs.LookUp.{given_at}
-use Rattle.relabel_core.specs.Walked.{AreNoted}
+use Rattle.relabel_core.specs.Walked.{AreFound, AreNoted, HasRoom}
 use Rattle.relabel_core.specs.declared.numbers.TheConstants.{NONE}
 
--- when all entries were looked up, what is noted of a group is its winner
-pub winner_noted : (w : Walk) (decided winners : List ℕ) (g : ℕ) → AreNoted w (count w) decided winners → g < groups_in w.entries
-    → found_in winners g ≡ winner w g
+-- when all entries were looked up, all is found
+pub all_noted : (w : Walk) (n : ℕ) (decided winners : List ℕ) → n ≡ count w → AreNoted w n decided winners → AreFound w decided winners
 unfolding winner
-winner_noted w decided winners g noted l = noted.winners_are g l
+all_noted w n decided winners all noted = record {
+  decided_are = λ e l. noted.decided_are e (omega (arith, l, all));
+  winners_are = λ g l. noted.winners_are g l ∙ ap (λ m. least_below m (can_win w g)) all;
+}
 
 pub winner_within : (w : Walk) (g : ℕ) → IfSome (winner w g) (λ k. k < count w)
 unfolding winner
@@ -45,14 +46,33 @@ found_again : (found : Option ℕ) → IfSome found (λ i. i < NONE) → as_foun
 found_again None l = refl
 found_again (Some i) l = found_small i l
 
-found_before : (numbers : List ℕ) (number k : ℕ) → k < length numbers → found_in (numbers ++ number ∷ []) k ≡ found_in numbers k
-found_before numbers number k l = ap as_found (get_or_append_left numbers (number ∷ []) NONE k l)
+-- a number, or none, put at an index
+put_there : (numbers : List ℕ) (i : ℕ) (found : Option ℕ) → IfSome found (λ n. n < NONE) → i < length numbers → IsPut numbers (set numbers i (number_of found)) i found
+put_there numbers i found l m = record {
+  room = length-set numbers i (number_of found);
+  here = λ within. ap as_found (get_or-set_same numbers i (number_of found) NONE m) ∙ found_again found l;
+  others = λ k differ. ap as_found (get_or-set_other numbers i k (number_of found) NONE differ);
+}
 
-found_last : (numbers : List ℕ) (found : Option ℕ) (k : ℕ) → k ≡ length numbers → IfSome found (λ i. i < NONE)
-    → found_in (numbers ++ number_of found ∷ []) k ≡ found
-found_last numbers found k e l =
-    ap (λ i. found_in (numbers ++ number_of found ∷ []) i) e
-    ∙ ap as_found (get_or-append_seam numbers (number_of found) [] NONE) ∙ found_again found l
+put_nowhere : (numbers : List ℕ) (i : ℕ) (found : Option ℕ) → length numbers ≤ i → IsPut numbers numbers i found
+put_nowhere numbers i found l = record { room = refl; here = λ within. absurd (omega (arith, l, within)); others = λ k differ. refl }
+
+pub put_is : (numbers new : List ℕ) (i : ℕ) (found : Option ℕ) → IfSome found (λ n. n < NONE) → new ≡ put_at numbers i (number_of found)
+    → IsPut numbers new i found
+put_is numbers new i found l is =
+    elim (cases_lt i (length numbers)) [
+      | inl lt ↦
+          subst (λ ns. IsPut numbers ns i found) (sym (is ∙ ap (λ b. if b then set numbers i (number_of found) else numbers) (lt-ltb i (length numbers) lt)))
+          (put_there numbers i found l lt)
+      | inr ge ↦
+          subst (λ ns. IsPut numbers ns i found) (sym (is ∙ ap (λ b. if b then set numbers i (number_of found) else numbers) (le-ltb i (length numbers) ge)))
+          (put_nowhere numbers i found ge)
+    ]
+
+pub put_few : (numbers new : List ℕ) (i : ℕ) (found : Option ℕ) → IfSome found (λ n. n + 1 < 2 ^ 32) → new ≡ put_at numbers i (number_of found)
+    → IsPut numbers new i found
+put_few numbers new i None l is = put_is numbers new i None tt is
+put_few numbers new i (Some n) l is = put_is numbers new i (Some n) (omega (arith, l)) is
 
 other_place : (c : Bool) (numbers : List ℕ) (i e h : ℕ) → h ≢ i → found_in (if c then set numbers i e else numbers) h ≡ found_in numbers h
 other_place true numbers i e h n = ap as_found (get_or-set_other numbers i h e NONE n)
@@ -105,37 +125,67 @@ wins_is : (w : Walk) (e : ℕ) → is_some (given_at w.rules.rules (deciding w e
 unfolding wanted
 wins_is w e = refl
 
-next_noted : (w : Walk) (e : ℕ) (decided winners : List ℕ) → AreNoted w e decided winners → e < NONE → IfSome (deciding w e) (λ i. i < NONE)
-    → AreNoted w (suc e) (decided ++ number_of (deciding w e) ∷ [])
-    (entered_if (is_some (wanted w e)) winners (group_of w.entries e) e)
-next_noted w e decided winners noted l m = record {
-  each_entry = omega (arith, length-append decided (number_of (deciding w e) ∷ []), noted.each_entry);
-  decided_are = λ k before.
-      elim (below_or_last e k before) [
-        | inl lt ↦ found_before decided (number_of (deciding w e)) k (omega (arith, lt, noted.each_entry)) ∙ noted.decided_are k lt
-        | inr same ↦
-            found_last decided (deciding w e) k (omega (arith, same, noted.each_entry)) m ∙ ap (λ i. deciding w i) same
-      ];
-  each_group = entered_length (is_some (wanted w e)) winners (group_of w.entries e) e ∙ noted.each_group;
-  winners_are = λ g within.
-      entered_found (is_some (wanted w e)) winners (group_of w.entries e) e g l (omega (arith, within, noted.each_group))
-      ∙ ap (λ o. found_or o e (can_win w g e)) (noted.winners_are g within);
-}
-
 pub noted_more : (w : Walk) (e : ℕ) (decided winners more_decided more_winners : List ℕ) (found : Option ℕ) (flag : Bool)
-    → AreNoted w e decided winners → e < NONE → found ≡ deciding w e → IfSome found (λ i. i < NONE)
+    → AreNoted w e decided winners → e < count w → e < NONE → found ≡ deciding w e
     → flag ≡ is_some (given_at w.rules.rules found)
-    → more_decided ≡ decided ++ number_of found ∷ []
+    → IfSome found (λ i. i < NONE)
+    → more_decided ≡ put_at decided e (number_of found)
     → more_winners ≡ entered_if flag winners (group_of w.entries e) e
     → AreNoted w (e + 1) more_decided more_winners
-noted_more w e decided winners more_decided more_winners found flag noted l is m flag_is d_is w_is =
+noted_more w e decided winners more_decided more_winners found flag noted inside l is flag_is small put_is_at w_is =
+    let put = put_is decided more_decided e found small put_is_at in
     let wins : flag ≡ is_some (wanted w e) = flag_is ∙ ap (λ f. is_some (given_at w.rules.rules f)) is ∙ wins_is w e in
-    let next = next_noted w e decided winners noted l (subst (λ f. IfSome f (λ i. i < NONE)) is m) in
-    rw (add-one e, d_is, w_is, is, wins) next
+    record {
+      each_entry = put.room ∙ noted.each_entry;
+      decided_are = λ k before.
+          elim (below_or_last e k (omega (arith, before))) [
+            | inl lt ↦ put.others k (λ same. omega (arith, lt, same)) ∙ noted.decided_are k lt
+            | inr same ↦
+                ap (λ i. found_in more_decided i) (sym same) ∙ put.here (omega (arith, inside, noted.each_entry)) ∙ is
+                ∙ ap (λ i. deciding w i) same
+          ];
+      each_group = ap length w_is ∙ entered_length flag winners (group_of w.entries e) e ∙ noted.each_group;
+      winners_are = λ g within.
+          ap (λ ns. found_in ns g) w_is
+          ∙ entered_found flag winners (group_of w.entries e) e g l (omega (arith, within, noted.each_group))
+          ∙ ap₂ (λ o b. found_or o e ((group_of w.entries e == g) && b)) (noted.winners_are g within) wins
+          ∙ ap (λ n. least_below n (can_win w g)) (sym (add-one e));
+    }
+
+-- nothing is noted before the first entry
+none_in : (n g : ℕ) → g < n → found_in (replicate n NONE) g ≡ None
+none_in n g l = ap as_found (get_or-replicate n g NONE NONE l)
+
+pub none_noted : (w : Walk) (decided winners : List ℕ) → decided ≡ replicate (count w) NONE → winners ≡ replicate (groups_in w.entries) NONE
+    → AreNoted w 0 decided winners
+none_noted w decided winners d v = record {
+  each_entry = ap length d ∙ length-replicate (count w) NONE;
+  decided_are = λ e before. absurd (omega (arith, before));
+  each_group = ap length v ∙ length-replicate (groups_in w.entries) NONE;
+  winners_are = λ g within. ap (λ ns. found_in ns g) v ∙ none_in (groups_in w.entries) g within;
+}
+
+pub room_noted : (w : Walk) (decided winners : List ℕ) → decided ≡ replicate (count w) NONE → winners ≡ replicate (groups_in w.entries) NONE
+    → HasRoom w decided winners
+room_noted w decided winners d v = record {
+  each_entry = ap length d ∙ length-replicate (count w) NONE;
+  each_group = ap length v ∙ length-replicate (groups_in w.entries) NONE;
+}
 
 pub few_indices : (found : Option ℕ) (n : ℕ) → IfSome found (λ i. i < n) → n ≤ NONE → IfSome found (λ i. i < NONE)
 few_indices None n h l = tt
 few_indices (Some i) n h l = omega (arith, h, l)
+
+-- what is wanted by a winner is what its specification gives
+pub winning_gives : (w : Walk) (found : Option ℕ) → given_at w.rules.rules (option_and_then (deciding w) found) ≡ option_and_then (wanted w) found
+unfolding wanted
+winning_gives w None = refl
+winning_gives w (Some k) = refl
+
+-- ---- how many entries are decided to a context
+
+pub more_wanted : (w : Walk) (n : ℕ) → wanted_below w (n + 1) ≡ wanted_below w n + one_if (is_wanted w n)
+more_wanted w n = ap (λ m. wanted_below w m) (add-one n) ∙ filtered_more (is_wanted w) (all_numbers n) n
 
 -- ---- how many entries were looked at
 

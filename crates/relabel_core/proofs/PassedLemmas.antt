@@ -12,7 +12,7 @@ use Rattle.tree_model.specs.Groups.{closed_at}
 use Rattle.tree_model.specs.Selection.{whole_at}
 use Rattle.tree_model.specs.Tree.{ByPath}
 use Rattle.tree_model.proofs.ExtentLemmas.{in_behind, in_chain, in_itself}
-use Rattle.relabel_core.specs.Passed.{ArePassed, ArePassing, is_covered, is_first, is_not, kept_of, meets, needed, renewal, renews, skip_of, uses_digests}
+use Rattle.relabel_core.specs.Passed.{ArePassed, ArePassing, is_covered, is_first, is_not, meets, needed, renewal, renews, skip_of, uses_digests}
 use Rattle.relabel_core.specs.Stored.{Adds, digests_in, told_before}
 use Rattle.relabel_core.specs.Walk.{Walk, count, digest_now, is_current, is_live, is_renewed, is_skipped, is_skipped_first, is_whole, skippable, skips, walked}
 use Rattle.relabel_core.specs.declared.passed.Skip.{Skip}
@@ -139,7 +139,7 @@ module _ (w : Walk) (up : ByPath w.entries) where
   renewal_skipped e h =
       none_if w.options.dry (w.options.digests || w.options.ignore_digests) (is_live w e) (is_skipped w e) (is_whole w e) (digest_now w e) h
 
-  renewal_kept : (e : ℕ) → e < count w → is_skipped w e ≡ false → renewal w e ≡ kept_of w (needed w e)
+  renewal_kept : (e : ℕ) → e < count w → is_skipped w e ≡ false → renewal w e ≡ (if w.options.dry then None else needed w e)
   unfolding is_renewed walked needed
   renewal_kept e l h =
       kept_if w.options.dry w.options.digests w.options.ignore_digests (is_live w e) (is_skipped w e) (is_whole w e) (is_some (w.stored e))
@@ -161,20 +161,16 @@ module _ (w : Walk) (up : ByPath w.entries) where
 
 -- ---- what is told of an entry
 
-told_not_is : (live s c : Bool) → (live && is_not (told s c)) ≡ (live && not (c || s))
+told_skips : (s c : Bool) → not (is_not (told s c)) ≡ (c || s)
 unfolding told
-told_not_is false s c = refl
-told_not_is true true true = refl
-told_not_is true true false = refl
-told_not_is true false true = refl
-told_not_is true false false = refl
+told_skips true true = refl
+told_skips true false = refl
+told_skips false true = refl
+told_skips false false = refl
 
-pub walked_is : (w : Walk) (up : ByPath w.entries) (e : ℕ) (live : Bool) (skip : Skip) → e < count w → live ≡ is_live w e → skip ≡ skip_of w e
-    → (live && is_not skip) ≡ walked w e
-unfolding walked
-walked_is w up e live skip l asked is =
-    ap₂ (λ b s. b && is_not s) asked (is ∙ skip_told w up e l) ∙ told_not_is (is_live w e) (skippable w e) (is_covered w e e)
-    ∙ ap (λ b. is_live w e && not b) (sym (skipped_at w up e l))
+pub skipped_is : (w : Walk) (up : ByPath w.entries) (e : ℕ) (skip : Skip) → e < count w → skip ≡ skip_of w e → not (is_not skip) ≡ is_skipped w e
+skipped_is w up e skip l is =
+    ap (λ s. not (is_not s)) (is ∙ skip_told w up e l) ∙ told_skips (skippable w e) (is_covered w e e) ∙ sym (skipped_at w up e l)
 
 first_if : (f s : Bool) → is_first (if f then First else if s then Below else Not) ≡ f
 first_if true s = refl
@@ -183,6 +179,17 @@ first_if false false = refl
 
 pub first_is : (w : Walk) (e : ℕ) (skip : Skip) → skip ≡ skip_of w e → is_first skip ≡ is_skipped_first w e
 first_is w e skip is = ap is_first is ∙ first_if (is_skipped_first w e) (is_skipped w e)
+
+-- ---- the digest that is made anew
+
+pub none_renewed_if_skipped : (w : Walk) (up : ByPath w.entries) (e : ℕ) → is_skipped w e ≡ true → renewal w e ≡ None
+none_renewed_if_skipped w up e h = renewal_skipped w up e h
+
+pub none_renewed_if_dry : (w : Walk) (e : ℕ) → w.options.dry ≡ true → renewal w e ≡ None
+none_renewed_if_dry w e h = ap (λ b. if not b && is_renewed w e then Some (digest_now w e) else None) h
+
+pub renewed_as_found : (w : Walk) (up : ByPath w.entries) (e : ℕ) → e < count w → is_skipped w e ≡ false → w.options.dry ≡ false → renewal w e ≡ needed w e
+renewed_as_found w up e l left wet = renewal_kept w up e l left ∙ ap (λ b. if b then None else needed w e) wet
 
 -- ---- one entry more
 
@@ -280,10 +287,16 @@ passing_over w up e end extent skips now made old l outside over run is =
       made_are = unchanged w e made old.made_are (renewal_skipped w up e skipped);
     }
 
-pub passing_by : (w : Walk) (up : ByPath w.entries) (e end : ℕ) (skips now : List Skip) (made new : BTreeMap ℕ (List ℕ)) (found : Option (List ℕ))
-    → ArePassing w e end skips made → e < count w → end ≤ e → skippable w e ≡ false → found ≡ needed w e
-    → Adds made new e (kept_of w found) → now ≡ skips ++ Not ∷ [] → ArePassing w (e + 1) end now new
-passing_by w up e end skips now made new found old l outside by told_needed adds is =
+-- an entry behind all that is skipped, which may not be skipped itself, isn't
+pub left_out : (w : Walk) (up : ByPath w.entries) (e end : ℕ) (skips : List Skip) (made : BTreeMap ℕ (List ℕ)) → ArePassing w e end skips made
+    → e < count w → end ≤ e → skippable w e ≡ false → is_skipped w e ≡ false
+left_out w up e end skips made old l outside by =
+    skipped_at w up e l ∙ ap₂ (λ c s. c || s) (old.covered_are e (omega arith) l ∙ le-ltb e end outside) by
+
+pub passing_by : (w : Walk) (up : ByPath w.entries) (e end : ℕ) (skips now : List Skip) (made new : BTreeMap ℕ (List ℕ)) (renewed : Option (List ℕ))
+    → ArePassing w e end skips made → e < count w → end ≤ e → skippable w e ≡ false → renewed ≡ renewal w e
+    → Adds made new e renewed → now ≡ skips ++ Not ∷ [] → ArePassing w (e + 1) end now new
+passing_by w up e end skips now made new renewed old l outside by told_renewed adds is =
     let clear : is_covered w e e ≡ false = old.covered_are e (omega arith) l ∙ le-ltb e end outside in
     let left : is_skipped w e ≡ false = skipped_at w up e l ∙ ap₂ (λ c s. c || s) clear by in
     record {
@@ -292,7 +305,7 @@ passing_by w up e end skips now made new found old l outside by told_needed adds
       covered_are = λ x a b.
           one_more w up e x ∙ ap (λ s. is_covered w e x || (s && in_extent w.entries e x)) by ∙ or_none (is_covered w e x)
           ∙ old.covered_are x (omega (arith, a)) b;
-      made_are = kept_more (renewal w) e made new (kept_of w found) old.made_are adds (ap (λ o. kept_of w o) told_needed ∙ sym (renewal_kept w up e l left));
+      made_are = kept_more (renewal w) e made new renewed old.made_are adds told_renewed;
     }
 
 -- ---- whether the digest that is found is the stored one

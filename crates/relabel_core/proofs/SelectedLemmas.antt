@@ -8,7 +8,7 @@ use Rattle.label_base.proofs.BoundedLemmas.{count_numbers}
 use Rattle.find_records.specs.Record.{Record}
 use Rattle.tree_model.specs.Selection.{absent_from, is_live, selected_by}
 use Rattle.tree_model.specs.Tree.{find_in}
-use Rattle.file_paths.specs.declared.choice.Choice.{Choice}
+use Rattle.tree_model.specs.declared.choice.Choice.{Choice}
 use Rattle.relabel_core.specs.Walked.{IsFor}
 
 one_of : (b : Bool) (index n : ℕ) (rest : List ℕ) → length rest ≤ n → length (if b then rest else index ∷ rest) ≤ suc n

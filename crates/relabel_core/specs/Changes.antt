@@ -1,5 +1,5 @@
 -- What a walk changes, as a dump of attributes.
-use Rattle.std.specs.Prelude.{ℕ, Bool, true, not, ◌&&◌, List, [], ◌∷◌, ◌++◌, Option, Some, None, is_some, if◌then◌else◌}
+use Rattle.std.specs.Prelude.{ℕ, Bool, true, not, ◌&&◌, List, [], ◌∷◌, ◌++◌, Option, Some, None, is_some, option_and_then, if◌then◌else◌}
 use Rattle.std.specs.List.{filter_map}
 use Rattle.label_base.specs.Bounded.{all_numbers}
 use Rattle.file_paths.specs.Path.{Path}
@@ -13,7 +13,7 @@ use Rattle.setfattr_dump.specs.declared.dump.Section.{Section}
 use Rattle.setfattr_dump.specs.declared.marks.TheConstants.{DIGEST_KEY, LABEL_KEY}
 use Rattle.tree_model.specs.Groups.{group_of, label_in}
 use Rattle.label_rules.specs.Decide.{given_in}
-use Rattle.relabel_core.specs.Walk.{Walk, count, digest_after, group_winner, is_at, is_outdated, label_after, path_at, verdict_with}
+use Rattle.relabel_core.specs.Walk.{Walk, count, digest_after, group_winner, is_at, is_outdated, label_after, path_at, verdict_where, wanted}
 
 -- ---- labels and digests that change
 
@@ -85,9 +85,13 @@ digest_change w d = if digest_changes w d then digest_after w d else None
 abbrev pub unless_stored : List ℕ → Option (List ℕ) → Option (List ℕ)
 unless_stored digest stored = if same_option (Some digest) stored then None else Some digest
 
--- the context that the label of a group changes to, by its winner
+-- the context that the label of a group changes to for which this one is wanted
+abbrev pub context_change : Walk → ℕ → Option ContextValue → Option ContextValue
+context_change w g wants = if w.options.dry then None else given_in (verdict_where w g wants)
+
+-- the same by its winner
 abbrev pub group_change : Walk → ℕ → Option ℕ → Option ContextValue
-group_change w g found = if w.options.dry then None else given_in (verdict_with w g found)
+group_change w g found = context_change w g (option_and_then (wanted w) found)
 
 -- the context that the label of an entry changes to, by the winner of its group
 abbrev pub change_with : Walk → ℕ → Option ℕ → Option ContextValue

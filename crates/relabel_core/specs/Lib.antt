@@ -5,6 +5,8 @@ pub mod OnePass
 pub mod Stored
 pub mod Passed
 pub mod Walked
+pub mod Known
+pub mod KnownEntry
 pub mod Answer
 pub mod Report
 pub mod Counts

@@ -1,5 +1,5 @@
 -- Rows of numbers, in which a place may have none.
-use Rattle.std.specs.Prelude.{ℕ, Bool, true, false, List, length, get_or, set, Option, Some, None, is_none, nat_lt, ◌==◌, ◌&&◌, if◌then◌else◌}
+use Rattle.std.specs.Prelude.{◌≡◌, ◌≢◌, ℕ, ◌<◌, Bool, true, false, List, length, get_or, set, Option, Some, None, is_none, nat_lt, ◌==◌, ◌&&◌, if◌then◌else◌}
 use Rattle.relabel_core.specs.declared.numbers.TheConstants.{NONE}
 
 abbrev pub as_found : ℕ → Option ℕ
@@ -24,3 +24,13 @@ entered_at numbers i number =
 abbrev pub entered_if : Bool → List ℕ → ℕ → ℕ → List ℕ
 entered_if true numbers i number = entered_at numbers i number
 entered_if false numbers i number = numbers
+
+-- an item put at an index, if there is room for it
+abbrev pub put_at : {A : Type 0} → List A → ℕ → A → List A
+put_at items i item = if nat_lt i (length items) then set items i item else items
+
+-- a number, or none, put at an index where there is room
+pub record IsPut (old new : List ℕ) (i : ℕ) (found : Option ℕ) : Type 0 where
+  pub room : length new ≡ length old
+  pub here : i < length old → found_in new i ≡ found
+  pub others : (k : ℕ) → k ≢ i → found_in new k ≡ found_in old k

@@ -3,7 +3,7 @@ use Rattle.std.specs.Prelude.{◌≡◌, ℕ, ◌<◌, ◌≤◌, Bool, true, fa
 use Rattle.std.specs.BTreeMap.{BTreeMap}
 use Rattle.label_base.specs.Bounded.{any_below}
 use Rattle.tree_model.specs.Extents.{in_extent}
-use Rattle.file_paths.specs.declared.options.Options.{Options}
+use Rattle.relabel_core.specs.declared.options.Options.{Options}
 use Rattle.relabel_core.specs.Stored.{digests_in, told_before}
 use Rattle.relabel_core.specs.Walk.{Walk, count, digest_now, is_current, is_renewed, is_skipped, is_skipped_first, is_whole, skippable, skips}
 use Rattle.relabel_core.specs.declared.passed.Skip.{Skip}
@@ -60,10 +60,6 @@ needed w d = if is_needed w d then Some (digest_now w d) else None
 abbrev pub meets : Bool → (stored found : Option (List ℕ)) → Bool
 meets may stored None = false
 meets may stored (Some digest) = may && is_current stored digest
-
--- the digest that is found is kept, unless the run is dry
-abbrev pub kept_of : Walk → Option (List ℕ) → Option (List ℕ)
-kept_of w found = if w.options.dry then None else found
 
 -- one of the directories before n may be skipped, and the entry is at or below it
 abbrev pub is_covered : Walk → ℕ → ℕ → Bool

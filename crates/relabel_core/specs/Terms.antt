@@ -1,7 +1,7 @@
 -- What decides the digests of the directories of a walk.
 use Rattle.context_syntax.specs.TypeNames.{in_order}
 use Rattle.dir_digest.specs.Terms.{Terms}
-use Rattle.file_paths.specs.declared.options.Options.{Options}
+use Rattle.relabel_core.specs.declared.options.Options.{Options}
 use Rattle.label_rules.specs.declared.rules.Rules.{Rules}
 
 abbrev pub terms_by : Rules → Options → Terms

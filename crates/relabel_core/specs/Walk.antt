@@ -10,18 +10,17 @@ use Rattle.context_syntax.specs.Label.{same_label}
 use Rattle.context_syntax.specs.TypeNames.{in_order}
 use Rattle.context_syntax.specs.declared.label.Label.{Label}
 use Rattle.spec_reader.specs.SpecValue.{SpecValue}
-use Rattle.dir_digest.specs.Digest.{digest_at}
+use Rattle.dir_digest.specs.Digest.{digest_at, void_digest}
 use Rattle.find_records.specs.Record.{Record}
 use Rattle.tree_model.specs.Extents.{entry_at, in_extent, is_directory}
 use Rattle.tree_model.specs.Groups.{group_of, label_in}
 use Rattle.tree_model.specs.Selection.{whole_at}
-use Rattle.file_paths.specs.declared.options.Options.{Options}
+use Rattle.relabel_core.specs.declared.options.Options.{Options}
 use Rattle.report_text.specs.Message.{MessageValue, NoDefault, Skipped, Absent, NoMatches}
 use Rattle.label_rules.specs.LookUp.{given_at, given_by, index_for}
 use Rattle.label_rules.specs.Lines.{conflict_line, verdict_line}
 use Rattle.label_rules.specs.Decide as verdicts
 use Rattle.label_rules.specs.Decide.{VerdictValue, label_by, verdict_for}
-use Rattle.relabel_core.specs.declared.digests.TheConstants.{VOID_DIGEST}
 use Rattle.label_rules.specs.declared.rules.Rules.{Rules}
 
 -- the digest that is stored for each directory that has one
@@ -65,7 +64,7 @@ is_whole w d = is_directory w.entries d && whole_at w.entries w.live d
 abbrev pub is_current : Option (List ℕ) → List ℕ → Bool
 is_current None digest = false
 is_current (Some stored) digest =
-    not (same_bytes stored VOID_DIGEST.now) && same_bytes stored digest
+    not (same_bytes stored void_digest) && same_bytes stored digest
 
 -- directories may be skipped
 abbrev pub skips : Walk → Bool
@@ -108,6 +107,18 @@ deciding w e = if walked w e then index_for w.rules (entry_at w.entries e) else 
 unfoldable pub wanted : Walk → ℕ → Option ContextValue
 wanted w e = given_at w.rules.rules (deciding w e)
 
+-- a context is decided for the entry, which was looked at then
+abbrev pub is_wanted : Walk → ℕ → Bool
+is_wanted w e = is_some (wanted w e)
+
+-- how many of the entries below n are decided to a context
+abbrev pub wanted_below : Walk → ℕ → ℕ
+wanted_below w n = length (filter (is_wanted w) (all_numbers n))
+
+-- how many entries are
+abbrev pub count_wanted : Walk → ℕ
+count_wanted w = wanted_below w (count w)
+
 -- ---- which name of a group decides
 
 -- the entry is a name of the group, and a context is decided for it
@@ -129,12 +140,16 @@ verdict_where w g (Some context) =
 abbrev pub verdict_with : Walk → ℕ → Option ℕ → VerdictValue
 verdict_with w g found = verdict_where w g (option_and_then (wanted w) found)
 
--- the label of a group after the walk
-abbrev pub new_label_with : Walk → ℕ → Option ℕ → Label
-new_label_with w g found =
+-- the label after the walk of a group for which this context is wanted
+abbrev pub label_where : Walk → ℕ → Option ContextValue → Label
+label_where w g wants =
     if w.options.dry
     then label_in w.entries g
-    else label_by (verdict_with w g found) (label_in w.entries g)
+    else label_by (verdict_where w g wants) (label_in w.entries g)
+
+-- the label of a group after the walk
+abbrev pub new_label_with : Walk → ℕ → Option ℕ → Label
+new_label_with w g found = label_where w g (option_and_then (wanted w) found)
 
 abbrev pub is_at : Option ℕ → ℕ → Bool
 is_at None e = false
@@ -226,7 +241,7 @@ unfoldable pub digest_after : Walk → ℕ → Option (List ℕ)
 digest_after w d =
     if w.options.dry then w.stored d
     else if is_renewed w d then Some (digest_now w d)
-    else if is_outdated w d then Some VOID_DIGEST.now
+    else if is_outdated w d then Some void_digest
     else w.stored d
 
 -- the digests of the entries after the walk

@@ -6,11 +6,11 @@ use Rattle.find_records.specs.Record.{Record}
 use Rattle.tree_model.specs.Groups.{groups_in}
 use Rattle.tree_model.specs.Selection.{SelectedValue, selected_by}
 use Rattle.tree_model.specs.Tree.{ByPath}
-use Rattle.file_paths.specs.declared.options.Options.{Options}
-use Rattle.file_paths.specs.declared.choice.Choice.{Choice}
+use Rattle.relabel_core.specs.declared.options.Options.{Options}
+use Rattle.tree_model.specs.declared.choice.Choice.{Choice}
 use Rattle.relabel_core.specs.Numbers.{found_in}
 use Rattle.relabel_core.specs.Stored.{digests_of}
-use Rattle.relabel_core.specs.Walk.{StoredDigests, Walk, can_win, deciding}
+use Rattle.relabel_core.specs.Walk.{StoredDigests, Walk, can_win, count, deciding, winner}
 use Rattle.relabel_core.specs.declared.input.WalkInput.{WalkInput}
 use Rattle.label_rules.specs.declared.rules.Rules.{Rules}
 
@@ -53,10 +53,20 @@ pub record IsFit (input : WalkInput) : Type 0 where
   pub selected : IsFor input.tree.now input.operands.now input.chosen.now
   pub few : length input.tree.now + length input.operands.now < 2 ^ 32
 
+-- what is found of all entries and groups, each at its position
+pub record AreFound (w : Walk) (decided winners : List ℕ) : Type 0 where
+  pub decided_are : (e : ℕ) → e < count w → found_in decided e ≡ deciding w e
+  pub winners_are : (g : ℕ) → g < groups_in w.entries → found_in winners g ≡ winner w g
+
+-- there is room for each entry and each group
+pub record HasRoom (w : Walk) (decided winners : List ℕ) : Type 0 where
+  pub each_entry : length decided ≡ count w
+  pub each_group : length winners ≡ groups_in w.entries
+
 -- what is noted when the entries below n were looked up: for each the specification that decides it,
 -- and for each group its winner among them
 pub record AreNoted (w : Walk) (n : ℕ) (decided winners : List ℕ) : Type 0 where
-  pub each_entry : length decided ≡ n
+  pub each_entry : length decided ≡ count w
   pub decided_are : (e : ℕ) → e < n → found_in decided e ≡ deciding w e
   pub each_group : length winners ≡ groups_in w.entries
   pub winners_are : (g : ℕ) → g < groups_in w.entries

@@ -1,5 +1,5 @@
+use crate::options::Options;
 use crate::test_walks::{Given, NOTHING, PLAIN, answer};
-use file_paths::Options;
 use label_base::Bytes;
 use std::alloc::Global;
 use std::test::Fail;

@@ -7,8 +7,8 @@ ghost use Rattle.relabel_core.specs.Walk.{count, digest_now};
 ghost use Rattle.relabel_core.specs.Walked.{walk_of};
 
 use crate::input::WalkInput;
-use dir_digest::{Listings, Mode};
-use file_paths::Options;
+use crate::options::Options;
+use dir_digest::{Digest, Listings, Mode};
 use label_base::{Bytes, OutOfMemory};
 use label_rules::Rules;
 use spec_match::Scratch;
@@ -63,7 +63,7 @@ pub fn digest_of(
     d: u32,
     listings: &Listings<'_>,
     buffers: &mut Buffers,
-) -> Result<[u8; 20], OutOfMemory>
+) -> Result<Digest, OutOfMemory>
     requires entry { d < count (walk_of input.now) }
     requires listings { terms_in listings.now ≡ terms_by input.now.rules.now input.now.options }
     requires own { IsScratchOf input.now.rules.now.rules buffers.old.scratch }

@@ -1,18 +1,14 @@
 ghost use Rattle.std.specs.Prelude.{◌≡◌};
 ghost use Rattle.relabel_core.specs.Answer.{walk_in};
-ghost use Rattle.std.specs.Option.{option_copied};
-ghost use Rattle.relabel_core.specs.Changes.{unless_stored};
 ghost use Rattle.relabel_core.specs.Counts.{AreTold};
 
+use crate::after::{DigestAfter, digest_after, digest_change};
 use crate::counts::{count_at, count_if_stored};
-use crate::digest_after::{DigestAfter, void_if};
 use crate::stored::is_directory;
 use crate::walked::Walked;
+use dir_digest::Digest;
 use label_base::OutOfMemory;
 use std::alloc::Global;
-
-/// The digest of a directory whose labels have changed since it was made: twenty zero bytes.
-pub const VOID_DIGEST: &[u8] = b"\0\0\0\0\0\0\0\0\0\0\0\0\0\0\0\0\0\0\0\0";
 
 /// The digests of the directories after a walk.
 #[derive(Drop)]
@@ -24,19 +20,9 @@ pub struct Digests<'w, 'a> {
     ghost told: { AreTold (walk_in walked.now) counts.items },
 }
 
-// The digest, unless it is the stored one.
-fn unless_stored<'d>(digest: &'d [u8], stored: Option<&[u8]>) -> Option<&'d [u8]>
-    ensures { option_copied result ≡ unless_stored digest.now (option_copied stored.entry) }
-{
-    match stored {
-        None => Some(digest),
-        Some(stored) => if digest == stored { None } else { Some(digest) },
-    }
-}
-
 impl<'w, 'a> Digests<'w, 'a> {
     ghost use Rattle.std.specs.Prelude.{◌<◌, false, is_some, true};
-    ghost use Rattle.relabel_core.specs.Changes.{digest_change, digest_changes, is_void};
+    ghost use Rattle.relabel_core.specs.Changes.{digest_change, digest_changes};
     ghost use Rattle.relabel_core.specs.DigestAfter.{digest_told};
     ghost use Rattle.relabel_core.specs.Digests.{walk_before};
     ghost use Rattle.relabel_core.specs.Passed.{renewal};
@@ -63,19 +49,10 @@ impl<'w, 'a> Digests<'w, 'a> {
         count_at(counts, d) < count_at(counts, walked.input.tree.extent(d))
     }
 
-    // Whether twenty zero bytes stand for the digest of an entry, if it isn't made anew.
-    fn is_void(&self, d: u32) -> bool
-        requires { d < count (walk_before self.now) }
-        ensures { result ≡ is_void (walk_before self.now) d }
-    {
-        let walked = self.walked;
-        !walked.input.options.dry && (self.does_rise(d) && walked.input.stored.get(d).is_some())
-    }
-
     // The digest that was made anew for an entry.
-    fn renewed(&self, d: u32) -> Option<&'w [u8; 20]>
+    fn renewed(&self, d: u32) -> Option<Digest>
         requires { d < count (walk_before self.now) }
-        ensures { option_copied result ≡ renewal (walk_before self.now) d }
+        ensures { result ≡ renewal (walk_before self.now) d }
     {
         let walked = self.walked;
         if !is_directory(walked.input.tree, d) {
@@ -86,36 +63,26 @@ impl<'w, 'a> Digests<'w, 'a> {
 
     /// What becomes of the digest of an entry. It looks at what was made once. With [`Options::dry`] all digests stay. Else
     /// each directory that was looked at, with nothing below it that was left out and no name of its inodes elsewhere, has
-    /// its digest anew, if digests are asked for; and [`VOID_DIGEST`] stands for one that is stored for another directory
+    /// its digest anew, if digests are asked for; and [`Digest::VOID`] stands for one that is stored for another directory
     /// where the label of an entry at or below it changes, in whichever place the name stands that decides it.
     ///
     /// [`Options::dry`]: crate::Options::dry
-    pub fn at(&self, d: u32) -> DigestAfter<'w>
+    pub fn at(&self, d: u32) -> DigestAfter
         requires { d < count (walk_before self.now) }
         ensures { digest_told result ((walk_before self.now).stored d)
             ≡ digest_after (walk_before self.now) d }
     {
-        match self.renewed(d) {
-            Some(digest) => DigestAfter::Anew(digest),
-            None => void_if(self.is_void(d)),
-        }
+        let walked = self.walked;
+        digest_after(&walked.input, d, self.renewed(d), self.does_rise(d))
     }
 
     /// The digest that an entry's changes to, if it changes.
-    pub fn change_at(&self, d: u32) -> Option<&'w [u8]>
+    pub fn change_at(&self, d: u32) -> Option<Digest>
         requires { d < count (walk_before self.now) }
-        ensures { option_copied result ≡ digest_change (walk_before self.now) d }
+        ensures { result ≡ digest_change (walk_before self.now) d }
     {
         let walked = self.walked;
-        match self.renewed(d) {
-            Some(digest) => unless_stored(digest, walked.input.stored.get(d)),
-            None => {
-                if !self.is_void(d) {
-                    return None;
-                }
-                unless_stored(VOID_DIGEST, walked.input.stored.get(d))
-            }
-        }
+        digest_change(&walked.input, d, self.renewed(d), self.does_rise(d))
     }
 
     /// Whether the digest of an entry changes.

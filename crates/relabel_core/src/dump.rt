@@ -1,5 +1,4 @@
 ghost use Rattle.std.specs.Prelude.{◌≡◌, ◌++◌, ◌<◌, OnOk, option_map};
-ghost use Rattle.std.specs.Option.{option_copied};
 ghost use Rattle.file_paths.specs.PathRef.{path_of};
 ghost use Rattle.context_syntax.specs.ContextRef.{context_lent};
 ghost use Rattle.setfattr_dump.specs.Texts.{attrs_text, dump_text};
@@ -11,6 +10,7 @@ ghost use Rattle.relabel_core.specs.Walk.{count};
 use crate::digests::Digests;
 use crate::walked::Walked;
 use context_syntax::ContextRef;
+use dir_digest::Digest;
 use file_paths::PathRef;
 use label_base::{Bytes, OutOfMemory};
 use setfattr_dump::{DIGEST_KEY, LABEL_KEY, add_attr, add_name, end_section};
@@ -39,22 +39,20 @@ fn add_label(
 
 // Adds the attribute of a digest that changes to this one.
 #[tactic(auto, using(crate::proofs::DumpLemmas::no_attrs, crate::proofs::DumpLemmas::one_attr))]
-fn add_digest(change: Option<&[u8]>, to: &mut Bytes) -> Result<(), OutOfMemory>
-    ensures { OnOk result (to.new
-        ≡ to.old ++ attrs_text (renewed_attrs (option_copied change.entry))) }
+fn add_digest(change: &Option<Digest>, to: &mut Bytes) -> Result<(), OutOfMemory>
+    ensures { OnOk result (to.new ≡ to.old ++ attrs_text (renewed_attrs change.now)) }
 {
     match change {
         None => Ok(()),
         Some(digest) => {
-            add_attr(DIGEST_KEY, digest, to)?;
+            add_attr(DIGEST_KEY, digest.as_bytes(), to)?;
             Ok(())
         }
     }
 }
 
-fn does_change(change: &Option<ContextRef<'_>>, digest: Option<&[u8]>) -> bool
-    ensures { result
-        ≡ does_change (option_map context_lent change.now) (option_copied digest.entry) }
+fn does_change(change: &Option<ContextRef<'_>>, digest: &Option<Digest>) -> bool
+    ensures { result ≡ does_change (option_map context_lent change.now) digest.now }
 {
     match change {
         None => digest.is_some(),
@@ -62,18 +60,19 @@ fn does_change(change: &Option<ContextRef<'_>>, digest: Option<&[u8]>) -> bool
     }
 }
 
-// Adds the section of a path whose label changes to a context, or whose digest to this one; nothing where neither does.
-fn add_section_of(
+/// Adds at the end the section of a path whose label changes to a context, or whose digest to this one; nothing where
+/// neither does. A buffer is lent in which the context is spelled.
+pub fn add_section_of(
     alloc: Global,
     path: &PathRef<'_>,
     change: &Option<ContextRef<'_>>,
-    digest: Option<&[u8]>,
+    digest: &Option<Digest>,
     spelled: &mut Bytes,
     to: &mut Bytes,
 ) -> Result<(), OutOfMemory>
     ensures { OnOk result (to.new ≡ to.old
         ++ optional_section (section_by (path_of path.now)
-        (option_map context_lent change.now) (option_copied digest.entry))) }
+        (option_map context_lent change.now) digest.now)) }
 {
     if !does_change(change, digest) {
         return Ok(());
@@ -85,29 +84,32 @@ fn add_section_of(
     Ok(())
 }
 
-// Adds the section of an entry, if its label or its digest changes.
-fn add_section(
-    alloc: Global,
-    digests: &Digests<'_, '_>,
-    e: u32,
-    spelled: &mut Bytes,
-    to: &mut Bytes,
-) -> Result<(), OutOfMemory>
-    requires { e < count (walk_before digests.now) }
-    ensures { OnOk result (to.new
-        ≡ to.old ++ optional_section (section_at (walk_before digests.now) e)) }
-{
-    let walked = digests.walked();
-    let change = walked.change_at(e);
-    add_section_of(
-        alloc,
-        &walked.path(e),
-        &change,
-        digests.change_at(e),
-        spelled,
-        to,
-    )?;
-    Ok(())
+impl<'w, 'a> Digests<'w, 'a> {
+    /// Adds at the end the section of an entry, if its label or its digest changes, the label before the digest. A buffer is
+    /// lent in which the context is spelled.
+    pub fn add_section(
+        &self,
+        alloc: Global,
+        e: u32,
+        spelled: &mut Bytes,
+        to: &mut Bytes,
+    ) -> Result<(), OutOfMemory>
+        requires { e < count (walk_before self.now) }
+        ensures { OnOk result (to.new
+            ≡ to.old ++ optional_section (section_at (walk_before self.now) e)) }
+    {
+        let walked = self.walked();
+        let change = walked.change_at(e);
+        add_section_of(
+            alloc,
+            &walked.path(e),
+            &change,
+            &self.change_at(e),
+            spelled,
+            to,
+        )?;
+        Ok(())
+    }
 }
 
 impl<'a> Walked<'a> {
@@ -120,7 +122,7 @@ impl<'a> Walked<'a> {
         let digests = self.digests(alloc)?;
         let mut spelled = Bytes::new(alloc);
         'entries: for e in 0..self.len() {
-            add_section(alloc, &digests, e, &mut spelled, to)?;
+            digests.add_section(alloc, e, &mut spelled, to)?;
         }
         Ok(())
     }

@@ -3,11 +3,12 @@ ghost use Rattle.tree_model.specs.Selection.{selected_by};
 ghost use Rattle.relabel_core.specs.Stored.{digests_of};
 ghost use Rattle.relabel_core.specs.Walked.{IsFit, walk_for, walk_of};
 
+use crate::options::Options;
 use crate::stored::Stored;
-use file_paths::{Choice, NormPath, Options};
+use file_paths::NormPath;
 use label_base::Row;
 use label_rules::Rules;
-use tree_model::{Selected, Tree};
+use tree_model::{Choice, Selected, Tree};
 
 /// What a walk goes over, and by what.
 #[derive(Clone, Copy)]

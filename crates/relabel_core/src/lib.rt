@@ -1,35 +1,46 @@
 //! The walk over a tree with one worker: which label each entry is to have, the report that tells it, and the dump of what
-//! changes.
+//! changes. What is done for one entry, one group or one directory is a call of its own, over which the walk only loops.
 #![tactic(auto)]
 
+mod after;
 mod counts;
-mod digest_after;
+mod deciding;
 mod digesting;
 mod digests;
 mod directories;
 mod dump;
 mod errors;
+mod finding;
 mod input;
+mod known;
 mod laws;
 mod next;
+mod noting;
 mod numbers;
+mod options;
 mod passed;
 mod report;
 mod stored;
 mod walked;
 mod walking;
 
-pub use digest_after::DigestAfter;
+pub use after::{DigestAfter, digest_after, digest_change};
+pub use deciding::{decide_entry, is_walked};
 pub use digesting::{Buffers, buffers_for, digest_of, listings_by};
-pub use digests::{Digests, VOID_DIGEST};
+pub use digests::Digests;
 pub use directories::pass_directories;
+pub use dump::add_section_of;
+pub use finding::{Finding, find_directory, renewed_digest, uses_digests};
 pub use input::{WalkInput, walk_input};
+pub use known::{Known, group_change, group_label, group_verdict};
 pub use laws::one_pass_is_walk;
-pub use next::next_labels;
-pub use passed::{Passed, Skip};
+pub use next::{next_digests, next_labels};
+pub use noting::{Noted, note_entry};
+pub use options::Options;
+pub use passed::{Passed, Skip, does_skip, is_first, is_skipped};
 pub use stored::Stored;
 pub use walked::Walked;
-pub use walking::{walk, walk_uncounted};
+pub use walking::walk;
 
 #[cfg(test)]
 mod digest_tests;

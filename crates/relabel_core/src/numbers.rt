@@ -1,5 +1,5 @@
 ghost use Rattle.std.specs.Prelude.{◌≡◌, IfOk, replicate};
-ghost use Rattle.relabel_core.specs.Numbers.{as_found, entered_at, entered_if, found_in, number_of};
+ghost use Rattle.relabel_core.specs.Numbers.{as_found, entered_at, entered_if, found_in, number_of, put_at};
 
 use label_base::OutOfMemory;
 use std::alloc::Global;
@@ -26,8 +26,8 @@ pub fn found_in(numbers: &[u32], i: u32) -> Option<u32>
     }
 }
 
-/// What is kept of a number, or of none.
-pub fn number_of(found: Option<u32>) -> u32
+// What is kept of a number, or of none.
+fn number_of(found: Option<u32>) -> u32
     ensures { result ≡ number_of found }
 {
     match found {
@@ -51,6 +51,21 @@ fn enter(numbers: &mut Vec<u32>, i: u32, number: u32)
     if (i as usize) < numbers.len() && found_in(numbers, i).is_none() {
         numbers[i as usize] = number;
     }
+}
+
+fn put(numbers: &mut Vec<u32>, i: u32, number: u32)
+    ensures { numbers.new.items ≡ put_at numbers.old.items i number }
+{
+    if (i as usize) < numbers.len() {
+        numbers[i as usize] = number;
+    }
+}
+
+/// Puts a number, or none, at an index, if there is room for it.
+pub fn put_number(numbers: &mut Vec<u32>, i: u32, found: Option<u32>)
+    ensures { numbers.new.items ≡ put_at numbers.old.items i (number_of found) }
+{
+    put(numbers, i, number_of(found));
 }
 
 /// So many places without a number.

@@ -1,11 +1,14 @@
-ghost use Rattle.std.specs.Prelude.{◌≡◌, ◌<◌, get_or};
-ghost use Rattle.std.specs.Option.{option_copied};
+ghost use Rattle.std.specs.Prelude.{◌≡◌, ℕ, ◌<◌, [], IfOk, None, OnOk, Some, get_or, not, replicate};
+ghost use Rattle.relabel_core.specs.Numbers.{put_at};
 ghost use Rattle.relabel_core.specs.Passed.{ArePassed, is_first, is_not};
-ghost use Rattle.relabel_core.specs.Stored.{digests_in};
-ghost use Rattle.relabel_core.specs.Walk.{count, is_skipped_first, walked};
+ghost use Rattle.relabel_core.specs.Stored.{Adds, digests_in};
+ghost use Rattle.relabel_core.specs.Walk.{count, is_skipped};
 ghost use Rattle.relabel_core.specs.Walked.{IsFit, walk_of};
 
 use crate::input::WalkInput;
+use dir_digest::Digest;
+use label_base::OutOfMemory;
+use std::alloc::Global;
 use std::collections::BTreeMap;
 
 /// Whether a walk skips an entry.
@@ -25,7 +28,7 @@ pub struct Passed {
     // For each entry; nothing where no digests are asked for.
     pub(crate) skips: Vec<Skip>,
     // By the indices of the directories.
-    pub(crate) made: BTreeMap<u32, [u8; 20]>,
+    pub(crate) made: BTreeMap<u32, Digest>,
 }
 
 // By hand: one call for an owner, where a derived drop is a step for each field.
@@ -36,6 +39,45 @@ impl Drop for Passed {
 }
 
 impl Passed {
+    /// No entry is skipped, and no digest is made.
+    pub fn none(alloc: Global) -> Passed
+        ensures skips { result.skips.items ≡ [] }
+        ensures made { result.made.entries ≡ [] }
+    {
+        Passed {
+            skips: Vec::new(alloc),
+            made: BTreeMap::new(alloc),
+        }
+    }
+
+    /// The same, with room to note of so many entries whether they are skipped.
+    pub fn with_room(alloc: Global, count: u32) -> Result<Passed, OutOfMemory>
+        ensures skips { IfOk result (λ passed. passed.skips.items ≡ replicate count Skip.Not) }
+        ensures made { IfOk result (λ passed. (d : ℕ) → digests_in passed.made d ≡ None) }
+    {
+        let skips = none_skipped(alloc, count)?;
+        let made = BTreeMap::new(alloc);
+        Ok(Passed { skips, made })
+    }
+
+    /// Notes at the position of an entry whether it is skipped, in whatever order entries come.
+    pub fn put_skip(&mut self, e: u32, skip: Skip)
+        ensures skips { self.new.skips.items ≡ put_at self.old.skips.items e skip }
+        ensures made { self.new.made ≡ self.old.made }
+    {
+        put_skip(&mut self.skips, e, skip);
+    }
+
+    /// Notes at the position of a directory, of which none is noted yet, the digest that it gets anew.
+    pub fn put_renewed(&mut self, d: u32, digest: Digest) -> Result<(), OutOfMemory>
+        requires { digests_in self.old.made d ≡ None }
+        ensures made { OnOk result (Adds self.old.made self.new.made d (Some digest)) }
+        ensures skips { self.new.skips.items ≡ self.old.skips.items }
+    {
+        let _ = self.made.insert(d, digest)?;
+        Ok(())
+    }
+
     /// Whether an entry is skipped.
     pub fn skip(&self, e: u32) -> Skip
         ensures { result ≡ get_or self.now.skips.items e Skip.Not }
@@ -47,13 +89,35 @@ impl Passed {
     }
 
     /// The digest that was made anew for a directory, if one was.
-    pub fn renewed(&self, d: u32) -> Option<&[u8; 20]>
-        ensures { option_copied result ≡ digests_in self.now.made d }
+    pub fn renewed(&self, d: u32) -> Option<Digest>
+        ensures { result ≡ digests_in self.now.made d }
     {
-        self.made.get(&d)
+        match self.made.get(&d) {
+            None => None,
+            Some(digest) => Some(*digest),
+        }
     }
 }
 
+fn put_skip(skips: &mut Vec<Skip>, e: u32, skip: Skip)
+    ensures { skips.new.items ≡ put_at skips.old.items e skip }
+{
+    if (e as usize) < skips.len() {
+        skips[e as usize] = skip;
+    }
+}
+
+fn none_skipped(alloc: Global, count: u32) -> Result<Vec<Skip>, OutOfMemory>
+    ensures { IfOk result (λ skips. skips.items ≡ replicate count Skip.Not) }
+{
+    let mut skips = Vec::with_capacity(alloc, count as usize)?;
+    'places: for _ in 0..count {
+        skips.push(Skip::Not)?;
+    }
+    Ok(skips)
+}
+
+// Whether it is none.
 fn is_not(skip: Skip) -> bool
     ensures { result ≡ is_not skip }
 {
@@ -63,30 +127,29 @@ fn is_not(skip: Skip) -> bool
     }
 }
 
-fn is_first(skip: Skip) -> bool
+/// Whether it is that of an entry at or below a directory that is skipped.
+pub fn does_skip(skip: Skip) -> bool
+    ensures { result ≡ not (is_not skip) }
+{
+    !is_not(skip)
+}
+
+/// Whether an entry is at or below a directory that is skipped.
+pub fn is_skipped(input: &WalkInput<'_>, passed: &Passed, e: u32) -> bool
+    requires fit { IsFit input.now }
+    requires entry { e < count (walk_of input.now) }
+    requires passed { ArePassed (walk_of input.now) passed.now.skips.items passed.now.made }
+    ensures { result ≡ is_skipped (walk_of input.now) e }
+{
+    does_skip(passed.skip(e))
+}
+
+/// Whether it is that of a directory that is skipped, and below no other such one.
+pub fn is_first(skip: Skip) -> bool
     ensures { result ≡ is_first skip }
 {
     match skip {
         Skip::First => true,
         Skip::Not | Skip::Below => false,
     }
-}
-
-/// Whether an entry is looked at: the run is asked for it, and it isn't skipped.
-pub fn is_walked(input: &WalkInput<'_>, passed: &Passed, e: u32) -> bool
-    requires fit { IsFit input.now }
-    requires entry { e < count (walk_of input.now) }
-    requires passed { ArePassed (walk_of input.now) passed.now.skips.items passed.now.made }
-    ensures { result ≡ walked (walk_of input.now) e }
-{
-    input.chosen.is_live(e) && is_not(passed.skip(e))
-}
-
-/// Whether an entry is a directory that is skipped, and below no other such one.
-pub fn is_skipped_first(input: &WalkInput<'_>, passed: &Passed, e: u32) -> bool
-    requires entry { e < count (walk_of input.now) }
-    requires passed { ArePassed (walk_of input.now) passed.now.skips.items passed.now.made }
-    ensures { result ≡ is_skipped_first (walk_of input.now) e }
-{
-    is_first(passed.skip(e))
 }

@@ -1,10 +1,10 @@
-ghost use Rattle.std.specs.Prelude.{◌≡◌, ◌++◌, [], IfOk, None, OnOk, Some, false, get_or, if◌then◌else◌, length, option_map, replicate, slice_get};
+ghost use Rattle.std.specs.Prelude.{◌≡◌, ◌<◌, ◌++◌, [], IfOk, None, OnOk, Some, false, get_or, if◌then◌else◌, length, option_map, replicate, slice_get};
 ghost use Rattle.file_paths.specs.PathRef.{path_of};
 ghost use Rattle.report_text.specs.Message.{message_of};
 ghost use Rattle.report_text.specs.Texts.{report_of};
 ghost use Rattle.relabel_core.specs.Answer.{walk_in};
 ghost use Rattle.relabel_core.specs.Report.{AreRaised, absent_text, optional_text, raised_at, text_below, unflagged_line};
-ghost use Rattle.relabel_core.specs.Walk.{absent_lines, entry_lines, line_of_spec, messages, unmatched_lines};
+ghost use Rattle.relabel_core.specs.Walk.{absent_lines, count, entry_lines, line, line_of_spec, messages, unmatched_lines};
 ghost use Rattle.relabel_core.specs.Walked.{walk_of};
 
 use crate::input::WalkInput;
@@ -75,7 +75,7 @@ fn add_entries(alloc: Global, walked: &Walked<'_>, to: &mut Bytes) -> Result<(),
     ensures { OnOk result (to.new ≡ to.old ++ report_of (entry_lines (walk_in walked.now))) }
 {
     'entries: for e in 0..walked.len() {
-        add_message(alloc, &walked.message_at(e), to)?;
+        walked.add_entry(alloc, e, to)?;
     }
     Ok(())
 }
@@ -182,6 +182,14 @@ fn add_unmatched(alloc: Global, walked: &Walked<'_>, to: &mut Bytes) -> Result<(
 }
 
 impl<'a> Walked<'a> {
+    /// Adds at the end the line of an entry, if it has one.
+    pub fn add_entry(&self, alloc: Global, e: u32, to: &mut Bytes) -> Result<(), OutOfMemory>
+        requires { e < count (walk_in self.now) }
+        ensures { OnOk result (to.new ≡ to.old ++ optional_text (line (walk_in self.now) e)) }
+    {
+        add_message(alloc, &self.message_at(e), to)
+    }
+
     /// Adds the lines of all messages at the end: those of the operands without an entry, those of the entries in the order
     /// of their paths, and those of the specifications that decide no entry. After want of memory a front of them may have
     /// been added.

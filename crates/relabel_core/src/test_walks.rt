@@ -2,12 +2,16 @@
 ghost use Rattle.std.specs.Prelude.{◌≡◌, ◌<◌};
 ghost use Rattle.relabel_core.specs.Walked.{IsFit};
 
-use crate::{DigestAfter, Stored, WalkInput, Walked, next_labels, walk, walk_input};
+use crate::{
+    DigestAfter, Noted, Options, Stored, WalkInput, Walked, next_digests, next_labels, walk,
+    walk_input,
+};
 use context_syntax::read_customizable;
-use file_paths::{Choice, NormPath, Options};
+use file_paths::NormPath;
+use file_roles::Part;
 use find_records::{RecordLimits, read_records};
 use input_output::MemSource;
-use label_base::{Bytes, OutOfMemory, Part, Row, Steps};
+use label_base::{Bytes, OutOfMemory, Row, Steps};
 use label_rules::{LabelAfter, Rules};
 use path_subs::{SubList, Subs, read_subs};
 use setfattr_dump::Dump;
@@ -17,7 +21,7 @@ use std::alloc::Global;
 use std::marker::Brand;
 use std::sync::ledger::{Blank, Ledger};
 use std::test::Fail;
-use tree_model::Tree;
+use tree_model::{Choice, Tree};
 
 // What a test walks over, and by what.
 #[derive(Clone, Copy)]
@@ -66,6 +70,8 @@ pub struct Told {
     pub does_change: bool,
     pub has_message: bool,
     pub has_conflict: bool,
+    pub is_walked: bool,
+    pub is_skipped_first: bool,
 }
 
 // What becomes of the digest of an entry.
@@ -83,9 +89,13 @@ pub struct Answered {
     pub text: Bytes,
     pub told: Option<Told>,
     pub digest: Option<(Digest, bool)>,
-    // How many labels the walk leaves.
-    pub groups: usize,
+    // How many labels and digests the walk leaves.
+    pub left: (usize, usize),
     pub errors: u32,
+    // How many entries are decided to a context.
+    pub wanted: u32,
+    // What is noted of the first entry and group where 7 and 5 were put there.
+    pub noted: (Option<u32>, Option<u32>),
 }
 
 const TYPES: &[u8] = b"public_content_t\n";
@@ -173,16 +183,18 @@ fn told_of(walked: &Walked<'_>, e: u32) -> Option<Told> {
     Some(Told {
         winner: walked.winner(e),
         deciding: walked.deciding(e),
-        wants: walked.wanted(e).is_some(),
+        wants: walked.known(e).wanted().is_some(),
         given: is_given(&walked.label_at(e)),
         is_changed: walked.is_changed(e),
         does_change: walked.change_at(e).is_some(),
         has_message: walked.message_at(e).is_some(),
         has_conflict: walked.has_conflict(e),
+        is_walked: walked.is_walked(e),
+        is_skipped_first: walked.is_skipped_first(e),
     })
 }
 
-fn kind_of(digest: &DigestAfter<'_>) -> Digest {
+fn kind_of(digest: &DigestAfter) -> Digest {
     match digest {
         DigestAfter::Stays => Digest::Stays,
         DigestAfter::Void => Digest::Void,
@@ -207,15 +219,38 @@ fn count_labels(alloc: Global, walked: &Walked<'_>) -> Result<usize, OutOfMemory
     Ok(labels.len())
 }
 
-fn all_told(alloc: Global, walked: &Walked<'_>, e: u32) -> Result<Answered, OutOfMemory> {
+fn count_digests(alloc: Global, walked: &Walked<'_>) -> Result<usize, OutOfMemory> {
+    let digests = next_digests(alloc, walked)?;
+    Ok(digests.len())
+}
+
+fn noted_of(
+    alloc: Global,
+    input: &WalkInput<'_>,
+) -> Result<(Option<u32>, Option<u32>), OutOfMemory> {
+    let mut noted = Noted::none(alloc, input)?;
+    noted.put_decided(0, Some(7));
+    noted.put_winner(0, Some(5));
+    Ok((noted.decided_at(0), noted.winner_at(0)))
+}
+
+fn all_told(
+    alloc: Global,
+    walked: &Walked<'_>,
+    e: u32,
+    noted: (Option<u32>, Option<u32>),
+) -> Result<Answered, OutOfMemory> {
     let digest = digest_told(alloc, walked, e)?;
     let groups = count_labels(alloc, walked)?;
+    let digests = count_digests(alloc, walked)?;
     Ok(Answered {
         text: text_of(alloc, walked)?,
         told: told_of(walked, e),
         digest,
-        groups,
+        left: (groups, digests),
         errors: walked.errors(),
+        wanted: walked.count_wanted(),
+        noted,
     })
 }
 
@@ -242,8 +277,9 @@ fn counted_once<'a>(alloc: Global, input: &WalkInput<'a>) -> Result<Walked<'a>, 
 fn answered_input(alloc: Global, input: &WalkInput<'_>, e: u32) -> Result<Answered, OutOfMemory>
     requires { IsFit input.now }
 {
+    let noted = noted_of(alloc, input)?;
     let walked = counted_once(alloc, input)?;
-    all_told(alloc, &walked, e)
+    all_told(alloc, &walked, e, noted)
 }
 
 fn answered_choice(

@@ -1,7 +1,6 @@
-use crate::one_pass_is_walk;
 use crate::test_walks::{Digest, Given, NOTHING, PLAIN, Told, answer};
-use file_paths::Options;
-use label_base::Bytes;
+use crate::{Options, Passed, Skip, does_skip, is_first, one_pass_is_walk};
+use label_base::{Bytes, OutOfMemory};
 use std::alloc::Global;
 use std::test::Fail;
 
@@ -11,6 +10,13 @@ const FORCED: Options = Options {
     dry: true,
     verbose: true,
     ..PLAIN
+};
+
+// `-v -F`, where links are strict.
+const STRICT: Options = Options {
+    dry: false,
+    strict_links: true,
+    ..FORCED
 };
 
 // Two names of one inode, in two directories.
@@ -149,18 +155,16 @@ fn an_inode_has_the_label_of_its_first_record(rt: HostRuntime) -> Result<(), Fai
     Ok(())
 }
 
-// What is told of the entry, what becomes of its digest, and how many labels and errors there are.
-fn told(
-    alloc: Global,
-    given: &Given<'_>,
-) -> Result<(Option<Told>, Option<(Digest, bool)>, usize, u32), Fail> {
+// What is told of the entry, and what becomes of its digest.
+fn told(alloc: Global, given: &Given<'_>) -> Result<(Option<Told>, Option<(Digest, bool)>), Fail> {
     let answered = answer(alloc, given)?;
-    Ok((
-        answered.told,
-        answered.digest,
-        answered.groups,
-        answered.errors,
-    ))
+    Ok((answered.told, answered.digest))
+}
+
+// How many labels and digests a walk leaves, and how many errors and entries decided to a context it has.
+fn counted(alloc: Global, given: &Given<'_>) -> Result<((usize, usize), u32, u32), Fail> {
+    let answered = answer(alloc, given)?;
+    Ok((answered.left, answered.errors, answered.wanted))
 }
 
 #[test]
@@ -175,20 +179,52 @@ fn entries_are_told_one_by_one(rt: HostRuntime) -> Result<(), Fail> {
         does_change: false,
         has_message: true,
         has_conflict: true,
-    };
-    let strict = Options {
-        dry: false,
-        strict_links: true,
-        ..FORCED
+        is_walked: true,
+        is_skipped_first: false,
     };
     let told = told(
         rt.alloc(),
         &Given {
-            options: strict,
+            options: STRICT,
             entry: 3,
             ..LINKED
         },
     )?;
-    assert!(rt; told == (Some(of_entry), Some((Digest::Stays, false)), 3, 1));
+    assert!(rt; told == (Some(of_entry), Some((Digest::Stays, false))));
+    Ok(())
+}
+
+#[test]
+fn a_walk_is_counted(rt: HostRuntime) -> Result<(), Fail> {
+    let counted = counted(
+        rt.alloc(),
+        &Given {
+            options: STRICT,
+            ..LINKED
+        },
+    )?;
+    assert!(rt; counted == ((3, 4), 1, 4));
+    Ok(())
+}
+
+#[test]
+fn what_is_put_at_a_position_is_there(rt: HostRuntime) -> Result<(), Fail> {
+    let answered = answer(rt.alloc(), &LINKED)?;
+    assert!(rt; answered.noted == (Some(7), Some(5)));
+    Ok(())
+}
+
+// What is found of an entry of which it is noted.
+fn passed_at(alloc: Global) -> Result<(bool, bool, bool), OutOfMemory> {
+    let mut passed = Passed::with_room(alloc, 2)?;
+    passed.put_skip(1, Skip::First);
+    passed.put_renewed(1, dir_digest::Digest::VOID)?;
+    let skip = passed.skip(1);
+    Ok((does_skip(skip), is_first(skip), passed.renewed(1).is_some()))
+}
+
+#[test]
+fn what_is_noted_of_a_directory_is_found(rt: HostRuntime) -> Result<(), Fail> {
+    assert!(rt; passed_at(rt.alloc())? == (true, true, true));
     Ok(())
 }

@@ -1,7 +1,0 @@
-pub mod Completeness
-pub mod MemoryRuns
-pub mod PartLemmas
-pub mod RefusedRuns
-pub mod SampleLemmas
-pub mod WordRuns
-pub mod WrittenRuns

@@ -1,4 +1,1 @@
-pub mod Sample
-pub mod Answer
-pub mod Run
-pub mod Stages
+pub mod Tools

@@ -1,25 +1,28 @@
-//! The program: setfiles(8), restorecon(8) and matchpathcon(8) over the files of a policy and the records of a tree, and
-//! a sample of a tree, walked twice.
+//! The program: setfiles(8), restorecon(8) and matchpathcon(8) over the files of a policy and the
+//! records of a tree, genhomedircon over a template and a list of users, and a sample of a tree,
+//! walked twice.
 #![tactic(auto)]
 
 ghost use Rattle.std.specs.Prelude.{◌<◌, ◌^◌, IfOk, length};
 
 mod runs;
-mod sample;
 #[cfg(test)]
 mod tests;
-mod told;
 
 use crate::runs::top;
 use input_output::{FileStore, ReadSource, WriteSink};
+use policy_files::CUSTOMIZABLE_TYPES;
 use std::alloc::Global;
+use std::env::VarError;
 use std::io::ErrorKind;
 use std::process::ExitCode;
 use std::{env, io};
 
+/// The variable that names the file to which the name of the customizable types leads.
+const TYPES_VARIABLE: &str = "RELABEL_CUSTOMIZABLE_TYPES";
 /// The exit status where the program is given 2^31 words or more.
 const TOO_MANY_WORDS: u8 = 250;
-/// The exit status where the system refuses a word, as one that is no text.
+/// The exit status where a word, or the variable, is no text.
 const WORDS_REFUSED: u8 = 251;
 /// The exit status where there is no memory for the words.
 const NO_MEMORY: u8 = 254;
@@ -45,13 +48,27 @@ fn words_of(alloc: Global, rt: &HostRuntime) -> Result<Vec<String>, u8>
     Ok(words)
 }
 
+// What the variable says, nothing where it isn't set, or the status to end with.
+fn types_named(rt: &HostRuntime) -> Result<String, u8> {
+    match env::var(rt, TYPES_VARIABLE) {
+        Ok(name) => Ok(name),
+        Err(VarError::NotPresent) => Ok(String::new(rt.alloc())),
+        Err(VarError::NotUnicode) => Err(WORDS_REFUSED),
+        Err(VarError::OutOfMemory) => Err(NO_MEMORY),
+    }
+}
+
 fn main(rt: HostRuntime) -> ExitCode {
     let alloc = rt.alloc();
     let words = match words_of(alloc, &rt) {
         Ok(words) => words,
         Err(status) => return ExitCode::from(status),
     };
-    let mut store = FileStore::new(&rt);
+    let types = match types_named(&rt) {
+        Ok(types) => types,
+        Err(status) => return ExitCode::from(status),
+    };
+    let mut store = FileStore::redirected(&rt, CUSTOMIZABLE_TYPES, types.as_str());
     let mut input = ReadSource::new(rt.reader());
     let mut out = WriteSink::new(io::writer(&rt));
     let outcome = top(alloc, words.as_slice(), 1, &mut store, &mut input, &mut out);

@@ -1,124 +1,227 @@
-ghost use Rattle.std.specs.Prelude.{◌≡◌, ◌<◌, ◌^◌, Ok, length};
-ghost use Rattle.tool_words.specs.Words.{command_of, named_paths, word_texts};
-ghost use Rattle.run_faults.specs.Asked.{is_soft_in};
+ghost use Rattle.std.specs.Prelude.{◌≡◌, ◌+◌, ◌<◌, ◌^◌, Err, Option, Some, length};
+ghost use Rattle.label_base.specs.Answers.{cause_of};
+ghost use Rattle.tool_words.specs.Words.{usage, word_texts};
+ghost use Rattle.tool_words.specs.declared.usage.UsageWhy.TheVariants.{UnknownTool};
 ghost use Rattle.run_faults.specs.Faults.{status_of};
-ghost use Rattle.run_faults.specs.Names.{names_for};
-ghost use Rattle.relabel_program.specs.Run.{Run};
-ghost use Rattle.relabel_program.specs.Stages.{FilesRead, Tells};
+ghost use Rattle.tool_runs.specs.Plan.{is_soft_in, planned};
+ghost use Rattle.tool_runs.specs.Complete.{Complete};
+ghost use Rattle.tool_runs.specs.Run.{Run};
+ghost use Rattle.tree_relabelling.specs.Plan.{relabel_plan};
+ghost use Rattle.tree_relabelling.specs.Words.{restorecon_words, setfiles_words};
+ghost use Rattle.path_lookups.specs.Plan.{lookup_plan};
+ghost use Rattle.path_lookups.specs.Words.{lookup_words};
+ghost use Rattle.home_contexts.specs.Asked.{homes_words};
+ghost use Rattle.home_contexts.specs.Plan.{homes_plan};
+ghost use Rattle.sample_tree.specs.Plan.{sample_plan};
+ghost use Rattle.sample_tree.specs.Words.{sample_words};
+ghost use Rattle.relabel_program.specs.Tools.{asked_for, asked_of, tool_named};
 
-use crate::told::tell_command;
-use input_output::{SaveFault, Sink, Source, Store};
-use policy_files::{Policy, read_policy};
-use run_faults::{
-    Cause, FileNames, Outcome, finish, give_up, is_soft, lose_dump, read_entries, refuse,
-    refuse_words, save, status,
-};
+use home_contexts::{GENHOMEDIRCON, read_homes};
+use input_output::{Sink, Source, Store};
+use label_base::Fault;
+use path_lookups::{MATCHPATHCON, read_lookup};
+use run_faults::Outcome;
+use sample_tree::{SAMPLE, SampleWords, read_sample};
 use std::alloc::Global;
-use tool_words::{Command, read_words};
-use tree_model::Tree;
+use tool_runs::run_words;
+use tool_words::{Usage, UsageWhy};
+use tree_relabelling::{RESTORECON, SETFILES, read_restorecon, read_setfiles};
 
-// Tells what a command asks for, of the policy and the tree. All texts are made before the first byte is written, and
-// the dump is written first.
-fn tell<S: Store, O: Sink>(
-    alloc: Global,
-    command: &Command,
-    policy: &Policy,
-    tree: &Tree,
-    store: &mut S,
-    out: &mut O,
-) -> Cause
-    requires tree { length tree.now < 2 ^ 31 }
-    requires words { length (named_paths command.now) < 2 ^ 31 }
-    ensures { Tells S.files S.read_faults S.write_faults O.written O.faults command.now policy.now
-        tree.now store.old store.new out.old out.new result }
+// The index of the first word behind a tool's name.
+const FIRST: u32 = 1;
+
+// The tools.
+#[derive(Clone, Copy)]
+enum ToolName {
+    Setfiles,
+    Restorecon,
+    Matchpathcon,
+    Genhomedircon,
+    Sample,
+}
+
+// The tool that a word names.
+fn tool_named(word: &str) -> Option<ToolName>
+    ensures { result ≡ tool_named word.now }
 {
-    let told = match tell_command(alloc, command, policy, tree) {
-        Ok(told) => told,
-        Err(_) => return give_up(out),
-    };
-    match save(alloc, &told, store) {
-        Ok(()) => finish(&told, out),
-        Err(SaveFault::Failed) => lose_dump(out),
-        Err(SaveFault::OutOfMemory) => give_up(out),
+    if word == SETFILES {
+        Some(ToolName::Setfiles)
+    } else if word == RESTORECON {
+        Some(ToolName::Restorecon)
+    } else if word == MATCHPATHCON {
+        Some(ToolName::Matchpathcon)
+    } else if word == GENHOMEDIRCON {
+        Some(ToolName::Genhomedircon)
+    } else if word == SAMPLE {
+        Some(ToolName::Sample)
+    } else {
+        None
     }
 }
 
-// Runs a command whose files were read and have this policy: reads the input, then tells.
-fn run_ruled<S: Store, I: Source, O: Sink>(
+fn unknown_tool() -> Fault<Usage>
+    ensures { cause_of result ≡ Some (usage 0 UnknownTool) }
+{
+    Fault::Why(Usage {
+        index: 0,
+        why: UsageWhy::UnknownTool,
+    })
+}
+
+// Runs setfiles by the words behind its name.
+fn run_setfiles<S: Store, I: Source, O: Sink>(
     alloc: Global,
-    command: &Command,
-    names: &FileNames,
-    policy: &Policy,
+    words: &[String],
     store: &mut S,
     input: &mut I,
     out: &mut O,
-) -> Cause
-    requires words { length (named_paths command.now) < 2 ^ 31 }
-    requires names { names.now ≡ names_for command.now }
-    ensures { (before : S)
-        → FilesRead S.files S.read_faults S.write_faults command.now before store.old
-        (Ok policy.now)
-        → Run S.files S.read_faults S.write_faults I.left I.faults O.written O.faults
-        (Ok command.now) before store.new input.old input.new out.old out.new result }
+) -> Outcome
+    requires { length words.now + FIRST < 2 ^ 31 }
+    ensures status { result.status ≡ status_of (is_soft_in (planned relabel_plan (setfiles_words FIRST (word_texts words.now)))) result.cause }
+    ensures run { Run S.files S.read_faults S.write_faults I.left I.faults O.written O.faults
+        (planned relabel_plan (setfiles_words FIRST (word_texts words.now))) store.old store.new input.old input.new
+        out.old out.new result.cause }
 {
-    let tree = match read_entries(alloc, command, input) {
-        Ok(tree) => tree,
-        Err(refusal) => return refuse(alloc, names, refusal, out),
-    };
-    tell(alloc, command, policy, &tree, store, out)
+    run_words(alloc, read_setfiles(alloc, words, FIRST), store, input, out)
 }
 
-// Runs a command whose files have these names: reads them before the input.
+// Runs restorecon by the words behind its name.
+fn run_restorecon<S: Store, I: Source, O: Sink>(
+    alloc: Global,
+    words: &[String],
+    store: &mut S,
+    input: &mut I,
+    out: &mut O,
+) -> Outcome
+    requires { length words.now + FIRST < 2 ^ 31 }
+    ensures status { result.status ≡ status_of (is_soft_in (planned relabel_plan (restorecon_words FIRST (word_texts words.now)))) result.cause }
+    ensures run { Run S.files S.read_faults S.write_faults I.left I.faults O.written O.faults
+        (planned relabel_plan (restorecon_words FIRST (word_texts words.now))) store.old store.new input.old input.new
+        out.old out.new result.cause }
+{
+    run_words(
+        alloc,
+        read_restorecon(alloc, words, FIRST),
+        store,
+        input,
+        out,
+    )
+}
+
+// Runs matchpathcon by the words behind its name.
+fn run_lookup<S: Store, I: Source, O: Sink>(
+    alloc: Global,
+    words: &[String],
+    store: &mut S,
+    input: &mut I,
+    out: &mut O,
+) -> Outcome
+    requires { length words.now + FIRST < 2 ^ 31 }
+    ensures status { result.status ≡ status_of (is_soft_in (planned lookup_plan (lookup_words FIRST (word_texts words.now)))) result.cause }
+    ensures run { Run S.files S.read_faults S.write_faults I.left I.faults O.written O.faults
+        (planned lookup_plan (lookup_words FIRST (word_texts words.now))) store.old store.new input.old input.new
+        out.old out.new result.cause }
+{
+    run_words(alloc, read_lookup(alloc, words, FIRST), store, input, out)
+}
+
+// Runs genhomedircon by the words behind its name.
+fn run_homes<S: Store, I: Source, O: Sink>(
+    alloc: Global,
+    words: &[String],
+    store: &mut S,
+    input: &mut I,
+    out: &mut O,
+) -> Outcome
+    requires { length words.now + FIRST < 2 ^ 31 }
+    ensures status { result.status ≡ status_of (is_soft_in (planned homes_plan (homes_words FIRST (word_texts words.now)))) result.cause }
+    ensures run { Run S.files S.read_faults S.write_faults I.left I.faults O.written O.faults
+        (planned homes_plan (homes_words FIRST (word_texts words.now))) store.old store.new input.old input.new
+        out.old out.new result.cause }
+{
+    run_words(alloc, read_homes(alloc, words, FIRST), store, input, out)
+}
+
+// Runs sample by the words behind its name.
+fn run_sample<S: Store, I: Source, O: Sink>(
+    alloc: Global,
+    words: &[String],
+    store: &mut S,
+    input: &mut I,
+    out: &mut O,
+) -> Outcome
+    requires { length words.now + FIRST < 2 ^ 31 }
+    ensures status { result.status ≡ status_of (is_soft_in (planned sample_plan (sample_words FIRST (word_texts words.now)))) result.cause }
+    ensures run { Run S.files S.read_faults S.write_faults I.left I.faults O.written O.faults
+        (planned sample_plan (sample_words FIRST (word_texts words.now))) store.old store.new input.old input.new
+        out.old out.new result.cause }
+{
+    run_words(alloc, read_sample(alloc, words, FIRST), store, input, out)
+}
+
+// Refuses words that name no tool: any tool's words would do.
+fn refuse_tool<S: Store, I: Source, O: Sink>(
+    alloc: Global,
+    store: &mut S,
+    input: &mut I,
+    out: &mut O,
+) -> Outcome
+    ensures status { result.status ≡ status_of (is_soft_in (Err (usage 0 UnknownTool))) result.cause }
+    ensures run { Run S.files S.read_faults S.write_faults I.left I.faults O.written O.faults
+        (Err (usage 0 UnknownTool)) store.old store.new input.old input.new
+        out.old out.new result.cause }
+{
+    let refused: Result<SampleWords, Fault<Usage>> = Err(unknown_tool());
+    run_words(alloc, refused, store, input, out)
+}
+
+// Runs a tool by the words behind its name.
 fn run_named<S: Store, I: Source, O: Sink>(
     alloc: Global,
-    command: &Command,
-    names: &FileNames,
+    tool: Option<ToolName>,
+    words: &[String],
     store: &mut S,
     input: &mut I,
     out: &mut O,
-) -> Cause
-    requires words { length (named_paths command.now) < 2 ^ 31 }
-    requires names { names.now ≡ names_for command.now }
-    ensures { Run S.files S.read_faults S.write_faults I.left I.faults O.written O.faults
-        (Ok command.now) store.old store.new input.old input.new out.old out.new result }
+) -> Outcome
+    requires { length words.now + FIRST < 2 ^ 31 }
+    ensures status { result.status ≡ status_of (is_soft_in (asked_for tool (word_texts words.now))) result.cause }
+    ensures run { Run S.files S.read_faults S.write_faults I.left I.faults O.written O.faults
+        (asked_for tool (word_texts words.now)) store.old store.new input.old input.new
+        out.old out.new result.cause }
 {
-    let policy = match read_policy(alloc, command, names, store) {
-        Ok(policy) => policy,
-        Err(refusal) => return refuse(alloc, names, refusal, out),
-    };
-    run_ruled(alloc, command, names, &policy, store, input, out)
-}
-
-// Runs a command. Each function from here inwards owns one value: together, their ways were too many for one proof.
-fn run<S: Store, I: Source, O: Sink>(
-    alloc: Global,
-    command: &Command,
-    store: &mut S,
-    input: &mut I,
-    out: &mut O,
-) -> Cause
-    requires { length (named_paths command.now) < 2 ^ 31 }
-    ensures { Run S.files S.read_faults S.write_faults I.left I.faults O.written O.faults
-        (Ok command.now) store.old store.new input.old input.new out.old out.new result }
-{
-    let names = match FileNames::of(alloc, command) {
-        Ok(names) => names,
-        Err(_) => return give_up(out),
-    };
-    run_named(alloc, command, &names, store, input, out)
-}
-
-fn ended(cause: Cause, soft: bool) -> Outcome
-    ensures cause { result.cause ≡ cause }
-    ensures status { result.status ≡ status_of soft cause }
-{
-    Outcome {
-        status: status(&cause, soft),
-        cause,
+    match tool {
+        Some(ToolName::Setfiles) => run_setfiles(alloc, words, store, input, out),
+        Some(ToolName::Restorecon) => run_restorecon(alloc, words, store, input, out),
+        Some(ToolName::Matchpathcon) => run_lookup(alloc, words, store, input, out),
+        Some(ToolName::Genhomedircon) => run_homes(alloc, words, store, input, out),
+        Some(ToolName::Sample) => run_sample(alloc, words, store, input, out),
+        None => refuse_tool(alloc, store, input, out),
     }
 }
 
-/// Runs the command with one worker, whatever number its words ask for. There are fewer than 2^31 words.
+// Runs the tool that the first word names.
+fn run_asked<S: Store, I: Source, O: Sink>(
+    alloc: Global,
+    words: &[String],
+    store: &mut S,
+    input: &mut I,
+    out: &mut O,
+) -> Outcome
+    requires { length words.now < 2 ^ 31 }
+    ensures status { result.status ≡ status_of (is_soft_in (asked_of (word_texts words.now))) result.cause }
+    ensures run { Run S.files S.read_faults S.write_faults I.left I.faults O.written O.faults
+        (asked_of (word_texts words.now)) store.old store.new input.old input.new
+        out.old out.new result.cause }
+{
+    let [word, rest @ ..] = words else {
+        return refuse_tool(alloc, store, input, out);
+    };
+    run_named(alloc, tool_named(word.as_str()), rest, store, input, out)
+}
+
+/// Runs the tool that the first word names, with one worker, whatever number its words ask for. There
+/// are fewer than 2^31 words.
 pub fn plain<S: Store, I: Source, O: Sink>(
     alloc: Global,
     words: &[String],
@@ -128,18 +231,19 @@ pub fn plain<S: Store, I: Source, O: Sink>(
 ) -> Outcome
     requires { length words.now < 2 ^ 31 }
     ensures status { result.status
-        ≡ status_of (is_soft_in (command_of (word_texts words.now))) result.cause }
+        ≡ status_of (is_soft_in (asked_of (word_texts words.now))) result.cause }
     ensures run { Run S.files S.read_faults S.write_faults I.left I.faults O.written O.faults
-        (command_of (word_texts words.now)) store.old store.new input.old input.new out.old out.new
+        (asked_of (word_texts words.now)) store.old store.new input.old input.new out.old out.new
         result.cause }
+    ensures complete { Complete S.files S.read_faults S.write_faults I.left I.faults O.written
+        O.faults (asked_of (word_texts words.now)) store.old store.new input.old input.new out.old
+        out.new result.status result.cause }
 {
-    match read_words(alloc, words) {
-        Ok(command) => ended(run(alloc, &command, store, input, out), is_soft(&command)),
-        Err(fault) => ended(refuse_words(alloc, fault, out), false),
-    }
+    run_asked(alloc, words, store, input, out)
 }
 
-/// Runs the command. `cores` is the number of processors; one worker does all the work so far.
+/// Runs the tool that the first word names. `cores` is the number of processors; one worker does all
+/// the work.
 pub fn top<S: Store, I: Source, O: Sink>(
     alloc: Global,
     words: &[String],
@@ -150,10 +254,13 @@ pub fn top<S: Store, I: Source, O: Sink>(
 ) -> Outcome
     requires few { length words.now < 2 ^ 31 }
     ensures status { result.status
-        ≡ status_of (is_soft_in (command_of (word_texts words.now))) result.cause }
+        ≡ status_of (is_soft_in (asked_of (word_texts words.now))) result.cause }
     ensures run { Run S.files S.read_faults S.write_faults I.left I.faults O.written O.faults
-        (command_of (word_texts words.now)) store.old store.new input.old input.new out.old out.new
+        (asked_of (word_texts words.now)) store.old store.new input.old input.new out.old out.new
         result.cause }
+    ensures complete { Complete S.files S.read_faults S.write_faults I.left I.faults O.written
+        O.faults (asked_of (word_texts words.now)) store.old store.new input.old input.new out.old
+        out.new result.status result.cause }
 {
     plain(alloc, words, store, input, out)
 }

@@ -188,6 +188,18 @@ const REFUSED_WORDS: &[(&[&str], &[u8])] = &[
         &["sample", "1000001"],
         b"relabel: usage: word 1: bad number\n",
     ),
+    (
+        &["genhomedircon", "-t", "tpl", "users", "-o", "out"],
+        b"relabel: usage: word 3: unknown option\n",
+    ),
+    (
+        &["genhomedircon", "-u", "users"],
+        b"relabel: usage: word 3: missing operand\n",
+    ),
+    (
+        &["genhomedircon", "-t", "tpl", "-u", "users"],
+        b"relabel: usage: word 5: needs -n or -o\n",
+    ),
 ];
 
 #[test]
@@ -422,6 +434,68 @@ fn a_lookup_reads_no_types_and_no_records(rt: HostRuntime) -> Result<(), Fail> {
     let ran = run(rt.alloc(), words, files, RECORDS, &later)?;
     let lines = b"/etc/foo.conf\tu:r:foo_t:s0\n/x\t<<none>>\n".as_slice();
     assert!(rt; ran.refused(0, lines));
+    Ok(())
+}
+
+const HOMES_WORDS: &[&str] = &[
+    "genhomedircon",
+    "-t",
+    "tpl",
+    "-u",
+    "users",
+    "-o",
+    "fc.homedirs",
+];
+
+const USERS: &[u8] = b"ana\tuser\t/home/ana\nb.o\tstaff\t/home/b.o\n";
+
+const TEMPLATE: &[u8] = b"# homes
+HOME_ROOT\t-d\tsystem_u:object_r:home_root_t:s0
+HOME_DIR\t-d\tunconfined_u:object_r:ROLE_home_dir_t:s0
+HOME_DIR/.+\tunconfined_u:object_r:ROLE_home_t:s0
+/srv\tsystem_u:object_r:srv_t:s0
+";
+
+const HOMES: &[u8] = b"/home\t-d\tsystem_u:object_r:home_root_t:s0
+/home/ana\t-d\tunconfined_u:object_r:user_home_dir_t:s0
+/home/b\\.o\t-d\tunconfined_u:object_r:staff_home_dir_t:s0
+/home/ana/.+\tunconfined_u:object_r:user_home_t:s0
+/home/b\\.o/.+\tunconfined_u:object_r:staff_home_t:s0
+";
+
+#[test]
+fn a_file_of_homes_is_made(rt: HostRuntime) -> Result<(), Fail> {
+    let files: &[(&str, &[u8])] = &[("users", USERS), ("tpl", TEMPLATE)];
+    let ran = run(rt.alloc(), HOMES_WORDS, files, RECORDS, &NONE_FAILS)?;
+    assert!(rt; ran.refused(0, b"") && ran.has("fc.homedirs", HOMES));
+    Ok(())
+}
+
+/// Templates and users that are refused, and their line.
+const REFUSED_HOMES: &[(&[(&str, &[u8])], &[u8])] = &[
+    (&[("users", USERS)], b"relabel: tpl: not found\n"),
+    (
+        &[
+            ("tpl", b"# x\nHOME_DIR[\tunconfined_u:object_r:x_t:s0\n"),
+            ("users", USERS),
+        ],
+        b"relabel: tpl: line 2: pattern: syntax at 9\n",
+    ),
+    (
+        &[("tpl", TEMPLATE), ("users", b"ana user /root\n")],
+        b"relabel: users: line 1: not a user\n",
+    ),
+];
+
+#[test]
+fn refused_homes_are_not_written(rt: HostRuntime) -> Result<(), Fail> {
+    for (files, line) in REFUSED_HOMES {
+        let ran = run(rt.alloc(), HOMES_WORDS, *files, RECORDS, &NONE_FAILS)?;
+        assert!(rt;
+            ran.refused(255, *line) && ran.lacks("fc.homedirs"),
+            "at {line:?}"
+        );
+    }
     Ok(())
 }
 

@@ -14,7 +14,7 @@ use Rattle.tree_model.specs.Groups.{group_of, inodes_behind, label_at, label_in}
 use Rattle.tree_model.specs.Links.{inode_of, same_inode}
 use Rattle.tree_model.specs.Selection.{admits_found, is_live, selected_by}
 use Rattle.tree_model.specs.Tree.{find_in, is_at}
-use Rattle.file_paths.specs.declared.choice.Choice.{Choice}
+use Rattle.tree_model.specs.declared.choice.Choice.{Choice}
 use Rattle.relabel_runs.specs.Runs.{labelled, labelled_from}
 
 abbrev pub path_in : List Record → ℕ → Path

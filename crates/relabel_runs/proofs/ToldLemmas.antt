@@ -10,7 +10,7 @@ use Rattle.path_subs.specs.Subs.{substituted}
 use Rattle.spec_reader.specs.SpecValue.{SpecValue}
 use Rattle.spec_match.specs.LastMatch.{fits, last_index, last_match}
 use Rattle.dir_digest.specs.Alike.{decided_at, decision_of}
-use Rattle.file_paths.specs.declared.options.Options.{Options}
+use Rattle.relabel_core.specs.declared.options.Options.{Options}
 use Rattle.relabel_core.specs.Terms.{terms_by}
 use Rattle.label_rules.specs.LookUp.{context_in, given_by, index_asked}
 use Rattle.label_rules.specs.declared.rules.Rules.{Rules}

@@ -11,21 +11,20 @@ use Rattle.context_syntax.specs.Context.{ContextValue}
 use Rattle.context_syntax.specs.Label.{same_label}
 use Rattle.context_syntax.specs.declared.label.Label.{Label}
 use Rattle.spec_reader.specs.SpecValue.{SpecValue}
-use Rattle.dir_digest.specs.Digest.{digest_at}
+use Rattle.dir_digest.specs.Digest.{digest_at, void_digest}
 use Rattle.dir_digest.specs.ListingBytes.{listing_bytes}
 use Rattle.dir_digest.specs.Terms.{listing_on}
 use Rattle.find_records.specs.Record.{Record}
 use Rattle.tree_model.specs.Extents.{entry_at, in_extent, is_directory}
 use Rattle.tree_model.specs.Groups.{group_of, label_in}
 use Rattle.tree_model.specs.Selection.{whole_at}
-use Rattle.file_paths.specs.declared.options.Options.{Options}
+use Rattle.relabel_core.specs.declared.options.Options.{Options}
 use Rattle.skip_runs.specs.Relabel as runs
 use Rattle.skip_runs.specs.Relabel.{Decision, Nothing, Give, Kinds, Tree}
 use Rattle.label_rules.specs.Decide.{label_by, verdict_for}
 use Rattle.relabel_core.specs.Terms.{terms_by}
 use Rattle.relabel_core.specs.Walk.{Walk, can_win, count, deciding, digest_after, digest_now, has_changed_name, is_changed, is_current, is_outdated, is_renewed, is_skipped, new_label, skippable, verdict_where, walked, wanted, winner}
 use Rattle.label_rules.specs.LookUp.{given_at, index_asked, index_for}
-use Rattle.relabel_core.specs.declared.digests.TheConstants.{VOID_DIGEST}
 use Rattle.label_rules.specs.declared.rules.Rules.{Rules}
 use Rattle.relabel_runs.proofs.DecideLemmas.{given, label_given}
 use Rattle.relabel_runs.proofs.LabelledLemmas.{kind_in, path_in}
@@ -41,7 +40,7 @@ kinds =
       same_label = same_label;
       same_digest = same_bytes;
       digest_of = sha1;
-      zero_digest = VOID_DIGEST.now;
+      zero_digest = void_digest;
     }
 
 abbrev pub tree_of : List Record → Tree
@@ -87,7 +86,7 @@ walks w = runs.walked (tree_of w.entries) (run_of w) (runs.skippable (tree_of w.
 
 current_same : (stored : Option (List ℕ)) (digest listing : List ℕ) → digest ≡ sha1 listing → is_current stored digest ≡ runs.is_current kinds stored listing
 current_same None digest listing e = refl
-current_same (Some stored) digest listing e = ap (λ d. not (same_bytes stored VOID_DIGEST.now) && same_bytes stored d) e
+current_same (Some stored) digest listing e = ap (λ d. not (same_bytes stored void_digest) && same_bytes stored d) e
 
 digest_same : (w : Walk) (d : ℕ) → digest_now w d ≡ sha1 ((run_of w).listing d)
 unfolding digest_now digest_at
@@ -217,17 +216,17 @@ renewed_same w d =
     renewed_turned (walked w d) (is_directory w.entries d) (whole_at w.entries w.live d) (w.options.digests || w.options.ignore_digests)
     ∙ ap (λ b. ((is_directory w.entries d && b) && whole_at w.entries w.live d) && (w.options.digests || w.options.ignore_digests)) (walked_same w d)
 
-zeroed_same : (stored : Option (List ℕ)) (void : Bool) → cond (is_some stored && void) (Some VOID_DIGEST.now) stored ≡ runs.zeroed kinds stored void
+zeroed_same : (stored : Option (List ℕ)) (void : Bool) → cond (is_some stored && void) (Some void_digest) stored ≡ runs.zeroed kinds stored void
 zeroed_same None void = refl
 zeroed_same (Some stored) true = refl
 zeroed_same (Some stored) false = refl
 
 new_digest_same : (w : Walk) (d : ℕ) → w.options.dry ≡ false
-    → cond (is_renewed w d) (Some (digest_now w d)) (cond (is_outdated w d) (Some VOID_DIGEST.now) (w.stored d)) ≡ runs.new_digest (tree_of w.entries) (run_of w) (walks w) (state_of w) d
+    → cond (is_renewed w d) (Some (digest_now w d)) (cond (is_outdated w d) (Some void_digest) (w.stored d)) ≡ runs.new_digest (tree_of w.entries) (run_of w) (walks w) (state_of w) d
 new_digest_same w d wet =
-    ap₂ (λ b digest. cond b (Some digest) (cond (is_outdated w d) (Some VOID_DIGEST.now) (w.stored d))) (renewed_same w d) (digest_same w d)
+    ap₂ (λ b digest. cond b (Some digest) (cond (is_outdated w d) (Some void_digest) (w.stored d))) (renewed_same w d) (digest_same w d)
     ∙ ap (λ rest. cond (runs.renewed (tree_of w.entries) (run_of w) (walks w) d) (Some (sha1 ((run_of w).listing d))) rest)
-    (ap (λ b. cond (is_some (w.stored d) && b) (Some VOID_DIGEST.now) (w.stored d)) (above_same w d wet)
+    (ap (λ b. cond (is_some (w.stored d) && b) (Some void_digest) (w.stored d)) (above_same w d wet)
     ∙ zeroed_same (w.stored d) (runs.above_change (tree_of w.entries) (run_of w) (walks w) (label_in w.entries) d))
 
 dry_or : {X : Type 0} (b : Bool) (x y z : X) → (b ≡ false → y ≡ z) → cond b x y ≡ cond b x z
@@ -237,6 +236,6 @@ dry_or false x y z h = h refl
 pub digest_after_same : (w : Walk) (d : ℕ) → digest_after w d ≡ (runs.after (tree_of w.entries) (state_of w) (run_of w)).digests d
 unfolding digest_after
 digest_after_same w d =
-    dry_or w.options.dry (w.stored d) (cond (is_renewed w d) (Some (digest_now w d)) (cond (is_outdated w d) (Some VOID_DIGEST.now) (w.stored d)))
+    dry_or w.options.dry (w.stored d) (cond (is_renewed w d) (Some (digest_now w d)) (cond (is_outdated w d) (Some void_digest) (w.stored d)))
     (runs.new_digest (tree_of w.entries) (run_of w) (walks w) (state_of w) d) (new_digest_same w d)
     ∙ digests_of w.options.dry (state_of w) (left w) d

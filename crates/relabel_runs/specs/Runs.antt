@@ -3,8 +3,8 @@ use Rattle.std.specs.Prelude.{◌≡◌, ℕ, suc, ◌||◌, false, List, [], �
 use Rattle.context_syntax.specs.declared.label.Label.{Label}
 use Rattle.find_records.specs.Record.{Record}
 use Rattle.tree_model.specs.Groups.{group_of}
-use Rattle.file_paths.specs.declared.options.Options.{Options}
-use Rattle.file_paths.specs.declared.choice.Choice.{Choice}
+use Rattle.relabel_core.specs.declared.options.Options.{Options}
+use Rattle.tree_model.specs.declared.choice.Choice.{Choice}
 use Rattle.relabel_core.specs.Walk.{StoredDigests, Walk, digest_after, new_label}
 use Rattle.relabel_core.specs.Walked.{walk_for}
 use Rattle.label_rules.specs.declared.rules.Rules.{Rules}

@@ -1,17 +1,22 @@
+ghost use Rattle.std.specs.Prelude.{◌≡◌, ◌<◌};
+
 use crate::{next_walk, none_is_skipped, one_more_run_keeps_labels, skipping_keeps_labels};
 use context_syntax::TypeNames;
-use file_paths::{Choice, NormPath, Options};
+use file_paths::NormPath;
+use file_roles::Part;
 use find_records::{RecordLimits, read_records};
 use input_output::MemSource;
-use label_base::{Bytes, OutOfMemory, Part, Row};
+use label_base::{Bytes, OutOfMemory, Row, Steps};
 use label_rules::Rules;
 use path_subs::{SubList, Subs};
-use relabel_core::{Stored, Walked};
+use relabel_core::{Options, Stored, Walked};
 use spec_match::RuleSet;
 use spec_reader::read_specs;
 use std::alloc::Global;
+use std::marker::Brand;
+use std::sync::ledger::{Blank, Ledger};
 use std::test::Fail;
-use tree_model::Tree;
+use tree_model::{Choice, Tree};
 
 // `-D`.
 const DIGESTING: Options = Options {
@@ -77,12 +82,17 @@ fn first_decided(walked: &Walked<'_>) -> Option<u32> {
 }
 
 // The index of the specification that decides the first entry, where entries and operands are few.
-fn decided(
+fn decided<L: Ledger>(
     alloc: Global,
     tree: &Tree,
     choice: &Choice,
     rules: &Rules,
-) -> Result<Option<u32>, OutOfMemory> {
+    blank: Blank,
+) -> Result<Option<u32>, OutOfMemory>
+    requires name { blank.name ≡ L.name }
+    requires parts { blank.parts ≡ L.parts }
+    requires some { 0 < blank.parts }
+{
     let entries = tree.len();
     let operands = choice.operands.len();
     if entries > 99 {
@@ -93,7 +103,11 @@ fn decided(
     }
     let chosen = tree.select(alloc, choice)?;
     let stored = Stored::none(alloc);
-    let walked = next_walk(alloc, tree, choice, &chosen, rules, DIGESTING, &stored)?;
+    let mut steps = Steps::<L>::open(blank);
+    let options = DIGESTING;
+    let walked = next_walk(
+        alloc, tree, choice, &chosen, rules, options, &stored, &mut steps,
+    )?;
     Ok(first_decided(&walked))
 }
 
@@ -103,7 +117,8 @@ fn a_walk_after_no_other(rt: HostRuntime) -> Result<(), Fail> {
     let tree = one_file(alloc)?;
     let rules = rules(alloc)?;
     let choice = whole_tree(alloc)?;
-    assert_eq!(rt; decided(alloc, &tree, &choice, &rules)?, Some(0));
+    let decided = decided::<Brand>(alloc, &tree, &choice, &rules, Blank::new(1))?;
+    assert_eq!(rt; decided, Some(0));
     Ok(())
 }
 

@@ -5,16 +5,16 @@ ghost use Rattle.relabel_core.specs.Stored.{digests_of};
 ghost use Rattle.relabel_core.specs.Walked.{walk_for};
 ghost use Rattle.relabel_runs.specs.Laws.{KeepsLabels};
 
-use file_paths::{Choice, Options};
-use label_base::OutOfMemory;
+use label_base::{OutOfMemory, Steps};
 use label_rules::Rules;
-use relabel_core::{Stored, Walked, walk_input, walk_uncounted};
+use relabel_core::{Options, Stored, Walked, walk, walk_input};
 use std::alloc::Global;
-use tree_model::{Selected, Tree};
+use std::sync::ledger::Ledger;
+use tree_model::{Choice, Selected, Tree};
 
 /// Walks over a tree that other runs may have left as it is, with the digests that they stored: the labels that it
-/// leaves are those that all of them and this walk leave with skipping off.
-pub fn next_walk<'a>(
+/// leaves are those that all of them and this walk leave with skipping off. It counts what [`walk`] counts.
+pub fn next_walk<'a, L: Ledger>(
     alloc: Global,
     tree: &'a Tree,
     choice: &'a Choice,
@@ -22,6 +22,7 @@ pub fn next_walk<'a>(
     rules: &'a Rules,
     options: Options,
     stored: &'a Stored,
+    steps: &mut Steps<L>,
 ) -> Result<Walked<'a>, OutOfMemory>
     requires chosen { chosen.now ≡ selected_by choice.now tree.now }
     requires few { length tree.now + length choice.now.operands < 2 ^ 32 }
@@ -32,5 +33,5 @@ pub fn next_walk<'a>(
         (walk_in walked)) }
 {
     let input = walk_input(tree, choice, chosen, rules, options, stored);
-    walk_uncounted(alloc, &input)
+    walk(alloc, &input, steps)
 }

@@ -5,7 +5,7 @@ use Rattle.label_base.specs.declared.fault.Fault.{Fault}
 use Rattle.label_base.specs.declared.fault.Fault.TheVariants as faults
 use Rattle.tool_words.specs.declared.usage.Usage as wrong_word
 use Rattle.run_faults.specs.declared.cause.Cause.{Cause}
-use Rattle.run_faults.specs.declared.cause.Cause.TheVariants.{Done, Usage, Missing, SpecRefused, SubRefused, CustomRefused, DumpRefused, RecordRefused, Unended, Doubled, Limit, WalkErrors, Differs, ReadFault, WriteFault, OutOfMemory}
+use Rattle.run_faults.specs.declared.cause.Cause.TheVariants.{Done, Usage, Missing, SpecRefused, SubRefused, CustomRefused, DumpRefused, TemplateRefused, UsersRefused, RecordRefused, Unended, Doubled, Limit, WalkErrors, Differs, ReadFault, WriteFault, OutOfMemory}
 use Rattle.run_faults.specs.declared.cause.LimitKind.{LimitKind}
 use Rattle.run_faults.specs.declared.cause.LimitKind.TheVariants.{File, Specs, Records, RecordBytes}
 
@@ -39,7 +39,7 @@ IsReadingCause cause = ⊥
 
 -- the limits of the files
 abbrev pub IsFileLimit : LimitKind → Type 0
-IsFileLimit (File part) = Unit {0}
+IsFileLimit (File role) = Unit {0}
 IsFileLimit Specs = Unit {0}
 IsFileLimit which = ⊥
 
@@ -52,10 +52,12 @@ IsInputLimit which = ⊥
 -- the causes that a look at the files can have
 abbrev pub IsFileCause : Cause → Type 0
 IsFileCause (Missing name) = Unit {0}
-IsFileCause (SpecRefused part line why) = Unit {0}
-IsFileCause (SubRefused part line) = Unit {0}
+IsFileCause (SpecRefused role line why) = Unit {0}
+IsFileCause (SubRefused role line) = Unit {0}
 IsFileCause (CustomRefused line) = Unit {0}
 IsFileCause (DumpRefused line why) = Unit {0}
+IsFileCause (TemplateRefused line why) = Unit {0}
+IsFileCause (UsersRefused line) = Unit {0}
 IsFileCause (Limit which) = IsFileLimit which
 IsFileCause cause = IsReadingCause cause
 

@@ -1,13 +1,13 @@
 ghost use Rattle.std.specs.Prelude.{◌≡◌, ◌++◌, OnOk, IfOk, if◌then◌else◌};
 ghost use Rattle.std.specs.Fmt.{decimal};
 ghost use Rattle.label_base.specs.Escape.{escaped};
-ghost use Rattle.run_faults.specs.Faults.{dump_text, fault_line, limit_text, path_text, pattern_text, place_text, record_text, refusal_text, spec_text, status_of, usage_text};
+ghost use Rattle.run_faults.specs.Faults.{dump_reason, fault_line, limit_text, path_reason, pattern_reason, place_text, record_reason, reason_text, spec_reason, status_of, usage_reason};
 
 use crate::cause::{Cause, LimitKind};
-use crate::names::FileNames;
 use file_paths::PathWhy;
+use file_roles::{FileList, FileRole, Part};
 use find_records::RecordWhy;
-use label_base::{Bytes, OutOfMemory, Part, write_escaped};
+use label_base::{Bytes, OutOfMemory, write_escaped};
 use pattern_syntax::PatternWhy;
 use setfattr_dump::DumpWhy;
 use spec_reader::SpecWhy;
@@ -37,6 +37,8 @@ const LIMIT_RECORDS: &str = "limit: records";
 const LIMIT_RECORD_BYTES: &str = "limit: bytes of input";
 
 const NOT_A_TYPE: &str = ": not a type";
+
+const NOT_A_USER: &str = ": not a user";
 
 const RECORD: &str = "record ";
 
@@ -151,7 +153,7 @@ fn add_place(alloc: Global, name: &str, line: u32, text: &mut Bytes) -> Result<(
 }
 
 fn add_pattern(alloc: Global, why: PatternWhy, text: &mut Bytes) -> Result<(), OutOfMemory>
-    ensures { OnOk result (text.new ≡ text.old ++ pattern_text why) }
+    ensures { OnOk result (text.new ≡ text.old ++ pattern_reason why) }
 {
     let (words, place) = match why {
         PatternWhy::Syntax { at } => (PATTERN_SYNTAX, at),
@@ -164,7 +166,7 @@ fn add_pattern(alloc: Global, why: PatternWhy, text: &mut Bytes) -> Result<(), O
 }
 
 fn add_why(alloc: Global, why: SpecWhy, text: &mut Bytes) -> Result<(), OutOfMemory>
-    ensures { OnOk result (text.new ≡ text.old ++ spec_text why) }
+    ensures { OnOk result (text.new ≡ text.old ++ spec_reason why) }
 {
     match why {
         SpecWhy::MissingContext => add(MISSING_CONTEXT, text),
@@ -175,7 +177,7 @@ fn add_why(alloc: Global, why: SpecWhy, text: &mut Bytes) -> Result<(), OutOfMem
 }
 
 fn usage_words(why: UsageWhy) -> &'static str
-    ensures { result.now ≡ usage_text why }
+    ensures { result.now ≡ usage_reason why }
 {
     match why {
         UsageWhy::UnknownTool => UNKNOWN_TOOL,
@@ -190,7 +192,7 @@ fn usage_words(why: UsageWhy) -> &'static str
 }
 
 fn dump_words(why: DumpWhy) -> &'static str
-    ensures { result.now ≡ dump_text why }
+    ensures { result.now ≡ dump_reason why }
 {
     match why {
         DumpWhy::NoSection => NO_SECTION,
@@ -201,7 +203,7 @@ fn dump_words(why: DumpWhy) -> &'static str
 }
 
 fn path_words(why: PathWhy) -> &'static str
-    ensures { result.now ≡ path_text why }
+    ensures { result.now ≡ path_reason why }
 {
     match why {
         PathWhy::Empty => PATH_EMPTY,
@@ -213,7 +215,7 @@ fn path_words(why: PathWhy) -> &'static str
 }
 
 fn record_words(why: RecordWhy) -> &'static str
-    ensures { result.now ≡ record_text why }
+    ensures { result.now ≡ record_reason why }
 {
     match why {
         RecordWhy::MissingField => MISSING_FIELD,
@@ -232,14 +234,14 @@ fn add_file_limit(alloc: Global, name: &str, text: &mut Bytes) -> Result<(), Out
 
 fn add_limit(
     alloc: Global,
-    names: &FileNames,
+    files: &FileList,
     which: LimitKind,
     text: &mut Bytes,
 ) -> Result<(), OutOfMemory>
-    ensures { OnOk result (text.new ≡ text.old ++ limit_text names.now which) }
+    ensures { OnOk result (text.new ≡ text.old ++ limit_text files.now which) }
 {
     match which {
-        LimitKind::File(part) => add_file_limit(alloc, names.name_of(part), text),
+        LimitKind::File(role) => add_file_limit(alloc, files.name_of(role), text),
         LimitKind::Specs => add(LIMIT_SPECS, text),
         LimitKind::Records => add(LIMIT_RECORDS, text),
         LimitKind::RecordBytes => add(LIMIT_RECORD_BYTES, text),
@@ -248,7 +250,7 @@ fn add_limit(
 
 fn add_usage(alloc: Global, index: u32, why: UsageWhy, text: &mut Bytes) -> Result<(), OutOfMemory>
     ensures { OnOk result (text.new ≡ text.old
-        ++ (USAGE_WORD.now ++ decimal index ++ COLON.now ++ usage_text why)) }
+        ++ (USAGE_WORD.now ++ decimal index ++ COLON.now ++ usage_reason why)) }
 {
     add(USAGE_WORD, text)?;
     add_number(alloc, index, text)?;
@@ -265,7 +267,7 @@ fn add_line_why(
     text: &mut Bytes,
 ) -> Result<(), OutOfMemory>
     ensures { OnOk result (text.new ≡ text.old
-        ++ (place_text name.now line ++ COLON.now ++ spec_text why)) }
+        ++ (place_text name.now line ++ COLON.now ++ spec_reason why)) }
 {
     add_place(alloc, name, line, text)?;
     add(COLON, text)?;
@@ -281,7 +283,7 @@ fn add_dump_why(
     text: &mut Bytes,
 ) -> Result<(), OutOfMemory>
     ensures { OnOk result (text.new ≡ text.old
-        ++ (place_text name.now line ++ COLON.now ++ dump_text why)) }
+        ++ (place_text name.now line ++ COLON.now ++ dump_reason why)) }
 {
     add_place(alloc, name, line, text)?;
     add(COLON, text)?;
@@ -309,7 +311,7 @@ fn add_record(
     text: &mut Bytes,
 ) -> Result<(), OutOfMemory>
     ensures { OnOk result (text.new ≡ text.old
-        ++ (RECORD.now ++ decimal number ++ COLON.now ++ record_text why)) }
+        ++ (RECORD.now ++ decimal number ++ COLON.now ++ record_reason why)) }
 {
     add(RECORD, text)?;
     add_number(alloc, number, text)?;
@@ -336,13 +338,13 @@ fn add_doubled(alloc: Global, first: u32, second: u32, text: &mut Bytes) -> Resu
     add(TWO_ENTRIES, text)
 }
 
-fn add_refusal(
+fn add_reason(
     alloc: Global,
-    names: &FileNames,
+    files: &FileList,
     cause: &Cause,
     text: &mut Bytes,
 ) -> Result<(), OutOfMemory>
-    ensures { OnOk result (text.new ≡ text.old ++ refusal_text names.now cause.now) }
+    ensures { OnOk result (text.new ≡ text.old ++ reason_text files.now cause.now) }
 {
     match cause {
         Cause::Done | Cause::WalkErrors { .. } | Cause::Differs { .. } => Ok(()),
@@ -351,37 +353,52 @@ fn add_refusal(
             add_name(alloc, name.as_str(), text)?;
             add(NOT_FOUND, text)
         }
-        Cause::SpecRefused { part, line, why } => {
-            add_line_why(alloc, names.name_of(*part), *line, *why, text)
+        Cause::SpecRefused { role, line, why } => {
+            add_line_why(alloc, files.name_of(*role), *line, *why, text)
         }
-        Cause::SubRefused { part, line } => {
-            let name = names.name_of(*part);
+        Cause::SubRefused { role, line } => {
+            let name = files.name_of(*role);
             add_line_not(alloc, name, *line, NOT_A_SUBSTITUTION, text)
         }
         Cause::CustomRefused { line } => {
-            let name = names.name_of(Part::Customizable);
+            let name = files.name_of(FileRole::alone(Part::Customizable));
             add_line_not(alloc, name, *line, NOT_A_TYPE, text)
         }
         Cause::DumpRefused { line, why } => {
-            add_dump_why(alloc, names.name_of(Part::Kept), *line, *why, text)
+            add_dump_why(
+                alloc,
+                files.name_of(FileRole::alone(Part::Kept)),
+                *line,
+                *why,
+                text,
+            )
+        }
+        Cause::TemplateRefused { line, why } => {
+            let name = files.name_of(FileRole::alone(Part::Template));
+            add_line_why(alloc, name, *line, *why, text)
+        }
+        Cause::UsersRefused { line } => {
+            let name = files.name_of(FileRole::alone(Part::Users));
+            add_line_not(alloc, name, *line, NOT_A_USER, text)
         }
         Cause::RecordRefused { number, why } => add_record(alloc, *number, *why, text),
         Cause::Unended { number } => add_unended(alloc, *number, text),
         Cause::Doubled { first, second } => add_doubled(alloc, *first, *second, text),
-        Cause::Limit { which } => add_limit(alloc, names, *which, text),
+        Cause::Limit { which } => add_limit(alloc, files, *which, text),
         Cause::ReadFault => add(READ_FAILED, text),
         Cause::WriteFault => add(WRITE_FAILED, text),
         Cause::OutOfMemory => add(OUT_OF_MEMORY, text),
     }
 }
 
-/// The line that tells a refusal, with its line feed; the names in it are escaped.
-pub fn refusal_line(alloc: Global, names: &FileNames, cause: &Cause) -> Result<Bytes, OutOfMemory>
-    ensures { IfOk result (λ line. line ≡ fault_line names.now cause.now) }
+/// The fault line of a cause, with its line feed; the names in it are escaped. It fails for want of
+/// memory alone.
+pub fn fault_line(alloc: Global, files: &FileList, cause: &Cause) -> Result<Bytes, OutOfMemory>
+    ensures { IfOk result (λ line. line ≡ fault_line files.now cause.now) }
 {
     let mut text = Bytes::new(alloc);
     add(PROGRAM, &mut text)?;
-    add_refusal(alloc, names, cause, &mut text)?;
+    add_reason(alloc, files, cause, &mut text)?;
     add(LINE_FEED, &mut text)?;
     Ok(text)
 }

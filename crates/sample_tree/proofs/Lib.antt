@@ -1,1 +1,3 @@
+pub mod OwnLemmas
 pub mod TextLemmas
+pub mod WalkLemmas

@@ -1,2 +1,6 @@
 pub mod Sample
 pub mod Summary
+pub mod Words
+pub mod Choice
+pub mod Walks
+pub mod Plan

@@ -1,4 +1,6 @@
-use crate::{Summary, sample_records};
+ghost use Rattle.std.specs.Prelude.{◌<◌, ◌^◌, IfOk, length};
+
+use crate::{Summary, read_sample, sample_records};
 use label_base::OutOfMemory;
 use std::alloc::Global;
 use std::test::Fail;
@@ -35,5 +37,35 @@ fn a_summary_has_a_line_for_each_number(rt: HostRuntime) -> Result<(), Fail> {
     let wanted =
         "entries 116\nrelabelled 53\nconflicts 0\nerrors 1\nskipped again 10\nrelabelled again 2\n";
     assert!(rt; summary.text(rt.alloc())?.as_slice() == wanted.as_bytes());
+    Ok(())
+}
+
+fn words_of(alloc: Global, words: &[&str]) -> Result<Vec<String>, OutOfMemory>
+    ensures { IfOk result (λ made. length made.items < 2 ^ 30) }
+{
+    let mut made = Vec::new(alloc);
+    'words: for word in words {
+        made.push(String::from_str(alloc, word)?)?;
+    }
+    if made.len() >= 1 << 30 {
+        return Err(OutOfMemory);
+    }
+    Ok(made)
+}
+
+// How many files are asked for, where nothing is wrong.
+fn asked(alloc: Global, words: &[&str]) -> Result<Option<u32>, OutOfMemory> {
+    let words = words_of(alloc, words)?;
+    Ok(
+        read_sample(alloc, words.as_slice(), 1)
+            .ok()
+            .map(|asked| asked.count),
+    )
+}
+
+#[test]
+fn a_sample_has_a_number_of_files(rt: HostRuntime) -> Result<(), Fail> {
+    assert_eq!(rt; asked(rt.alloc(), ["1000"].as_slice())?, Some(1000));
+    assert_eq!(rt; asked(rt.alloc(), ["1000001"].as_slice())?, None);
     Ok(())
 }

@@ -5,7 +5,7 @@ use Rattle.label_base.specs.Answers.{Answers, Explains}
 use Rattle.label_base.specs.Cut.{front, behind}
 use Rattle.label_base.specs.Escape.{in_front, unescaped, unescaped_left}
 use Rattle.label_base.specs.Lines.{with_front}
-use Rattle.file_paths.specs.Path.{Path, path_read}
+use Rattle.file_paths.specs.Path.{Path, path_or}
 use Rattle.label_base.specs.declared.lines.RefusedLine.{RefusedLine}
 use Rattle.label_base.proofs.EscapeLemmas.{unescaped_cut}
 use Rattle.setfattr_dump.specs.declared.dump.Attr.{Attr}
@@ -15,7 +15,7 @@ use Rattle.setfattr_dump.specs.declared.fault.DumpWhy.TheVariants.{BadName}
 use Rattle.setfattr_dump.specs.declared.line.Said.{Said}
 use Rattle.setfattr_dump.specs.declared.line.Said.TheVariants.{Ends, Names, Gives}
 use Rattle.setfattr_dump.specs.declared.reading.SoFar.{SoFar}
-use Rattle.setfattr_dump.specs.Reading.{line_read, name_read, open_section, path_or_bad, said_then, sections_from, spelled_path, with_slash}
+use Rattle.setfattr_dump.specs.Reading.{line_read, name_read, open_section, said_then, sections_from, spelled_path, with_slash}
 use Rattle.setfattr_dump.specs.SoFar.{IsState, Takes}
 
 -- ---- names
@@ -26,7 +26,7 @@ without_escapes name plain f b =
     ∙ ap (λ o. in_front (front (λ b. b == 92) name) (unescaped_left o)) (sym b)
     ∙ ap Some (append-nil (front (λ b. b == 92) name) ∙ sym f)
 
-pub spelled_by : {F : Type 0} (view : F → Option DumpWhy) (result : Result Path F) (name bytes : List ℕ) → unescaped name ≡ Some bytes → Answers (λ (path : Path). path) view result (path_or_bad (path_read (with_slash bytes))) → Answers (λ (path : Path). path) view result (name_read name)
+pub spelled_by : {F : Type 0} (view : F → Option DumpWhy) (result : Result Path F) (name bytes : List ℕ) → unescaped name ≡ Some bytes → Answers (λ (path : Path). path) view result (path_or BadName (with_slash bytes)) → Answers (λ (path : Path). path) view result (name_read name)
 unfolding name_read
 spelled_by view result name bytes e h = subst (λ o. Answers (λ (path : Path). path) view result (spelled_path o)) (sym e) h
 

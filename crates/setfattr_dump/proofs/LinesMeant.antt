@@ -4,6 +4,7 @@ use Rattle.std.specs.Prelude.{◌==◌, Contains, Option, Some, None, Result, Ok
 use Rattle.std.proofs.lemmas.Bool.Decides.{Decides-eqb}
 use Rattle.std.proofs.lemmas.List.Prefix.{front_rest}
 use Rattle.std.proofs.lemmas.Slice.Eq.{starts_is}
+use Rattle.label_base.specs.Answers.{with_reason}
 use Rattle.label_base.specs.Cut.{front, behind}
 use Rattle.label_base.specs.Escape.{unescaped}
 use Rattle.label_base.specs.Text.{is_nonempty}
@@ -17,7 +18,7 @@ use Rattle.setfattr_dump.specs.declared.line.Said.{Said}
 use Rattle.setfattr_dump.specs.declared.line.Said.TheVariants.{Ends, Names, Gives}
 use Rattle.setfattr_dump.specs.declared.marks.TheConstants.{EQUALS, FILE_MARK}
 use Rattle.setfattr_dump.specs.Grammar.{HasKey, IsAttr, IsBad, IsName, IsValue}
-use Rattle.setfattr_dump.specs.Reading.{attr_read, gives, line_read, name_read, names, path_or_bad, spelled_path, with_given, with_slash, with_value}
+use Rattle.setfattr_dump.specs.Reading.{attr_read, gives, line_read, name_read, names, spelled_path, with_given, with_slash, with_value}
 use Rattle.setfattr_dump.specs.Texts.{is_marked}
 use Rattle.setfattr_dump.specs.Values.{value_or_bad, value_read}
 use Rattle.setfattr_dump.proofs.ValuesMeant.{value_complete, value_sound}
@@ -36,6 +37,9 @@ behind_mark : (line rest : List ℕ) → line ≡ FILE_MARK.now ++ rest → drop
 behind_mark line rest e = front_rest line FILE_MARK.now rest e
 
 -- ---- names
+
+abbrev path_or_bad : Result Path PathWhy → Result Path DumpWhy
+path_or_bad = with_reason (λ _. BadName)
 
 path_found : (o : Option (List ℕ)) (bytes : List ℕ) (name : Path) → o ≡ Some bytes → path_read (with_slash bytes) ≡ Ok name → spelled_path o ≡ Ok name
 path_found o bytes name e h = ap spelled_path e ∙ ap path_or_bad h

@@ -1,7 +1,7 @@
 -- What a value reads as, from one escape, or one pair of digits, to the next.
-use Rattle.std.proofs.Common.{◌≡◌, ◌∙◌, ap, sym, refl, subst, ℕ, zero, suc, ◌<◌, ◌≤◌, Bool, true, false, cond, List, [], ◌∷◌, ◌++◌, length, get_or, take, drop, append_assoc, append-nil, arith}
+use Rattle.std.proofs.Common.{◌≡◌, ◌∙◌, ap, sym, refl, subst, ℕ, zero, suc, ◌<◌, ◌≤◌, Bool, true, false, cond, List, [], ◌∷◌, ◌++◌, length, get_or, take, drop, append_assoc, arith}
 use Rattle.std.proofs.Math.Seq.{take-length, drop-length}
-use Rattle.std.specs.Prelude.{Option, Some, None, ◌==◌, ◌||◌, Result, Ok, Err}
+use Rattle.std.specs.Prelude.{Option, Some, None, ◌==◌, ◌||◌, Result, Err}
 use Rattle.std.proofs.lemmas.Bool.{eqb-true, eqb-false, false_from_ne_true, ne_eqb, or_parts, cond-true, cond-false}
 use Rattle.memchr.specs.Find.{Nowhere, Passes, is_byte2}
 use Rattle.label_base.specs.Answers.{Answers}
@@ -9,7 +9,7 @@ use Rattle.label_base.specs.Escape.{in_front, led_by, octal_byte}
 use Rattle.label_base.proofs.EscapeLemmas.{in_front-nil, in_front-append}
 use Rattle.setfattr_dump.specs.declared.fault.DumpWhy.{DumpWhy}
 use Rattle.setfattr_dump.specs.declared.fault.DumpWhy.TheVariants.{BadValue}
-use Rattle.setfattr_dump.specs.Values.{behind_zero, is_digits_mark, Nothing, Backslash, One, closed, digits_read, is_escapable, pair_value, text_read, value_or_bad, value_read}
+use Rattle.setfattr_dump.specs.Values.{behind_zero, is_digits_mark, Nothing, Backslash, One, closed, digits_read, is_escapable, text_read, value_or_bad, value_read}
 
 pub last_chosen : (p q : Bool) (x y z : Option (List ℕ)) → p ≡ false → q ≡ false → cond p x (cond q y z) ≡ z
 last_chosen p q x y z hp hq = rw (hp, hq) refl
@@ -108,44 +108,6 @@ goes_on text plain rest behind old pushed new b h e p n =
     ∙ in_front-append (old ++ plain) (b ∷ []) left
     ∙ ap (λ xs. in_front (xs ++ b ∷ []) left) (sym p)
     ∙ ap (λ xs. in_front xs left) (sym n)
-
--- ---- pairs of digits
-
-pub pair_first : (digits : List ℕ) → 2 ≤ length digits → digits_read digits ≡ led_by (pair_value (get_or digits 0 0) (get_or digits 1 0)) (digits_read (drop 2 digits))
-unfolding digits_read
-pair_first [] h = absurd (omega arith)
-pair_first (high ∷ []) h = absurd (omega arith)
-pair_first (high ∷ low ∷ rest) h = refl
-
-pub digit_left : (digits : List ℕ) → length digits < 2 → (length digits == 0) ≡ false → digits_read digits ≡ None
-unfolding digits_read
-digit_left [] h e = absurd (eqb-false 0 0 e refl)
-digit_left (digit ∷ []) h e = refl
-digit_left (high ∷ low ∷ rest) h e = absurd (omega arith)
-
-pub digits_end : (digits : List ℕ) → (length digits == 0) ≡ true → digits_read digits ≡ Some []
-unfolding digits_read
-digits_end [] h = refl
-digits_end (digit ∷ rest) h = absurd (omega (arith, eqb-true (length (digit ∷ rest)) 0 h))
-
-pub pair_read : (all left read new : List ℕ) (b : ℕ) → in_front read (digits_read left) ≡ digits_read all → 2 ≤ length left → pair_value (get_or left 0 0) (get_or left 1 0) ≡ Some b → new ≡ read ++ b ∷ [] → in_front new (digits_read (drop 2 left)) ≡ digits_read all
-pair_read all left read new b h few e n =
-    let rest = digits_read (drop 2 left) in
-    ap (λ xs. in_front xs rest) n
-    ∙ sym (in_front-append read (b ∷ []) rest)
-    ∙ ap (λ o. in_front read (led_by o rest)) (sym e)
-    ∙ ap (in_front read) (sym (pair_first left few))
-    ∙ h
-
-pub pair_bad : (all left read : List ℕ) → in_front read (digits_read left) ≡ digits_read all → 2 ≤ length left → pair_value (get_or left 0 0) (get_or left 1 0) ≡ None → value_or_bad (digits_read all) ≡ Err BadValue
-pair_bad all left read h few e =
-    ap value_or_bad (sym h ∙ ap (in_front read) (pair_first left few ∙ ap (λ o. led_by o (digits_read (drop 2 left))) e))
-
-pub digits_bad : (all left read : List ℕ) → in_front read (digits_read left) ≡ digits_read all → digits_read left ≡ None → value_or_bad (digits_read all) ≡ Err BadValue
-digits_bad all left read h e = ap value_or_bad (sym h ∙ ap (in_front read) e)
-
-pub digits_good : (all left read : List ℕ) → in_front read (digits_read left) ≡ digits_read all → digits_read left ≡ Some [] → value_or_bad (digits_read all) ≡ Ok read
-digits_good all left read h e = ap value_or_bad (sym h ∙ ap (in_front read) e) ∙ ap Ok (append-nil read)
 
 -- ---- the first bytes of a value
 

@@ -1,11 +1,14 @@
 -- A value reads as the bytes that its grammar gives it.
-use Rattle.std.proofs.Common.{◌≡◌, ◌∙◌, ap, sym, refl, subst, ℕ, ◌+◌, ◌*◌, true, false, cond, List, [], ◌∷◌, ◌++◌}
-use Rattle.std.specs.Prelude.{◌==◌, Option, Some, None}
+use Rattle.std.proofs.Common.{◌≡◌, ◌∙◌, ap, sym, refl, subst, ℕ, true, false, cond, List, [], ◌∷◌, ◌++◌}
+use Rattle.std.specs.Prelude.{◌==◌, Option, Some, None, Result, Ok, Err}
 use Rattle.std.proofs.lemmas.Bool.{eqb-true, or_from, or_parts, cond-true, cond-false}
+use Rattle.std.specs.Result.{result_ok}
+use Rattle.hex.specs.Hex.{decode_of}
+use Rattle.hex.specs.declared.error.FromHexError.{FromHexError}
 use Rattle.label_base.specs.Escape.{in_front, led_by, octal_byte}
 use Rattle.setfattr_dump.specs.Grammar as grammar
 use Rattle.setfattr_dump.specs.Grammar.{AreDigits, IsText, IsValue}
-use Rattle.setfattr_dump.specs.Values.{Before, Nothing, Backslash, One, Two, behind_zero, both_digits, closed, digit_value, digits_read, is_digits_mark, is_escapable, text_read, value_read}
+use Rattle.setfattr_dump.specs.Values.{Before, Nothing, Backslash, One, Two, behind_zero, closed, digits_read, is_digits_mark, is_escapable, text_read, value_read}
 use Rattle.setfattr_dump.proofs.ValueLemmas.{last_chosen}
 
 -- ---- what the grammar gives is read
@@ -28,14 +31,6 @@ text_complete text value (grammar.octal x y z b rest bytes other digits h) =
     ∙ ap (λ o. led_by o (text_read Nothing left)) digits
     ∙ ap (in_front (b ∷ [])) (text_complete rest bytes h)
 
-pub digits_complete : (digits value : List ℕ) → AreDigits digits value → digits_read digits ≡ Some value
-unfolding digits_read
-digits_complete digits value grammar.none = refl
-digits_complete digits value (grammar.more high low h l rest bytes eh el are) =
-    ap (λ o. led_by (both_digits o (digit_value low)) (digits_read rest)) eh
-    ∙ ap (λ o. led_by (both_digits (Some h) o) (digits_read rest)) el
-    ∙ ap (in_front ((h * 16 + l) ∷ [])) (digits_complete rest bytes are)
-
 marked_digits : (x : ℕ) (spelled : List ℕ) → is_digits_mark x ≡ true → behind_zero (x ∷ spelled) ≡ digits_read spelled
 unfolding behind_zero
 marked_digits x spelled h = cond-true (is_digits_mark x) (digits_read spelled) None h
@@ -43,7 +38,7 @@ marked_digits x spelled h = cond-true (is_digits_mark x) (digits_read spelled) N
 pub value_complete : (given value : List ℕ) → IsValue given value → value_read given ≡ Some value
 unfolding value_read
 value_complete given value (grammar.text spelled bytes h) = text_complete spelled value h
-value_complete given value (grammar.digits x spelled bytes mark h) = marked_digits x spelled mark ∙ digits_complete spelled value h
+value_complete given value (grammar.digits x spelled bytes mark h) = marked_digits x spelled mark ∙ ap result_ok h
 
 -- ---- what is read, the grammar gives
 
@@ -142,35 +137,16 @@ text_sound (Two x y) (z ∷ rest) value can h =
           octal_end x y z b rest value l.rest can e (text_sound Nothing rest l.rest tt l.found) l.whole
     ] refl h
 
-record ArePair (a b : Option ℕ) (rest : Option (List ℕ)) (value : List ℕ) : Type 0 where
-  pub high : ℕ
-  pub low : ℕ
-  pub bytes : List ℕ
-  pub high_is : a ≡ Some high
-  pub low_is : b ≡ Some low
-  pub rest_is : rest ≡ Some bytes
-  pub whole : (high * 16 + low) ∷ bytes ≡ value
-
-pair_of : (a b : Option ℕ) (rest : Option (List ℕ)) (value : List ℕ) → led_by (both_digits a b) rest ≡ Some value → ArePair a b rest value
-pair_of None b rest value h = cc
-pair_of (Some high) None rest value h = cc
-pair_of (Some high) (Some low) None value h = cc
-pair_of (Some high) (Some low) (Some bytes) value h = record { high = high; low = low; bytes = bytes; high_is = refl; low_is = refl; rest_is = refl; whole = cc }
-
-digits_sound : (digits value : List ℕ) → digits_read digits ≡ Some value → AreDigits digits value
-unfolding digits_read
-digits_sound [] value h = let e : [] ≡ value = cc in subst (AreDigits []) e grammar.none
-digits_sound (digit ∷ []) value h = cc
-digits_sound (high ∷ low ∷ rest) value h =
-    let p = pair_of (digit_value high) (digit_value low) (digits_read rest) value h in
-    subst (AreDigits (high ∷ low ∷ rest)) p.whole (grammar.more high low p.high p.low rest p.bytes p.high_is p.low_is (digits_sound rest p.bytes p.rest_is))
+is_ok : (read : Result (List ℕ) FromHexError) (value : List ℕ) → result_ok read ≡ Some value → read ≡ Ok value
+is_ok (Ok bytes) value h = cc
+is_ok (Err e) value h = cc
 
 zero_sound : (rest value : List ℕ) → behind_zero rest ≡ Some value → IsValue (48 ∷ rest) value
 unfolding behind_zero
 zero_sound [] value h = cc
 zero_sound (x ∷ digits) value h =
     elim (is_digits_mark x) as (λ q. is_digits_mark x ≡ q → cond q (digits_read digits) None ≡ Some value → IsValue (48 ∷ x ∷ digits) value) [
-      | true ↦ λ t h. grammar.digits x digits value t (digits_sound digits value h)
+      | true ↦ λ t h. grammar.digits x digits value t (is_ok (decode_of digits) value h)
       | false ↦ λ f h. cc
     ] refl h
 

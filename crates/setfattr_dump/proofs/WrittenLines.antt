@@ -1,10 +1,11 @@
 -- The lines of what is written, and that none of its parts has a line feed.
-use Rattle.std.proofs.Common.{◌≡◌, ◌∙◌, ap, sym, refl, subst, ℕ, ◌+◌, ◌/◌, ◌%◌, ◌<◌, ◌≤◌, Bool, true, false, cond, List, [], ◌∷◌, ◌++◌, length, append_assoc, arith}
-use Rattle.std.specs.Prelude.{◌==◌, ◌&&◌, not, nat_lt, Contains, Result, Ok, Err, IfOk}
+use Rattle.std.proofs.Common.{◌≡◌, ◌∙◌, ap, sym, refl, subst, ℕ, zero, suc, ◌+◌, ◌/◌, ◌%◌, ◌<◌, ◌≤◌, Bool, true, false, cond, List, [], ◌∷◌, ◌++◌, length, append_assoc, arith}
+use Rattle.std.specs.Prelude.{◌==◌, ◌&&◌, not, slice_index, Contains, Result, Ok, Err, IfOk}
 use Rattle.std.specs.List.{AllByRecursion, list_all, list_any}
 use Rattle.std.proofs.lemmas.Bool.{eqb-false, ne_eqb, or_from, or_parts}
 use Rattle.std.proofs.lemmas.Bool.Decides.{nat_tests}
 use Rattle.std.specs.Cmp.{first_so, second_so}
+use Rattle.hex.specs.Hex.{encode_with, lower_digits}
 use Rattle.label_base.specs.Escape.{escaped, escaped_byte, is_plain}
 use Rattle.label_base.specs.LineGrammar as cuts
 use Rattle.label_base.specs.LineGrammar.{AreLines}
@@ -19,7 +20,7 @@ use Rattle.setfattr_dump.specs.Grammar.{AreAttrs, AreSections, IsAttr, IsName}
 use Rattle.setfattr_dump.specs.Reading.{dump_read, with_slash}
 use Rattle.setfattr_dump.specs.ReadsBack.{AttrReads, NameReads, SectionReads}
 use Rattle.setfattr_dump.specs.Texts.{are_writable, attr_line, attrs_text, dump_text, is_key, is_marked, is_readable, is_writable, section_text}
-use Rattle.setfattr_dump.specs.Values.{hex_byte, hex_bytes, hex_digit, is_digest, quoted_byte, quoted_bytes, value_text}
+use Rattle.setfattr_dump.specs.Values.{hex_byte, hex_bytes, is_digest, quoted_byte, quoted_bytes, value_text}
 use Rattle.setfattr_dump.proofs.LinesMeant.{mark_found, marked_rest}
 use Rattle.setfattr_dump.proofs.SectionsMeant.{sections_read}
 
@@ -65,13 +66,14 @@ quoted_feed : (bytes : List ℕ) → no_feed (quoted_bytes bytes)
 quoted_feed [] = refl
 quoted_feed (b ∷ bs) = joined 10 (quoted_byte b) (quoted_bytes bs) (quote_feed b (b == 34)) (quoted_feed bs)
 
-hex_feed : (n : ℕ) (v : Bool) → (cond v (48 + n) (87 + n) == 10) ≡ false
-hex_feed n true = digit_feed (48 + n) (omega arith)
-hex_feed n false = digit_feed (87 + n) (omega arith)
+feed_at : (bytes : List ℕ) (i : ℕ) → no_feed bytes → (slice_index bytes i == 10) ≡ false
+feed_at [] i h = refl
+feed_at (b ∷ bs) zero h = (or_parts (b == 10) (list_any (λ b. b == 10) bs) h).0
+feed_at (b ∷ bs) (suc i) h = feed_at bs i (or_parts (b == 10) (list_any (λ b. b == 10) bs) h).1
 
 pair_feed : (b : ℕ) → no_feed (hex_byte b)
-pair_feed b = or_from (hex_digit (b / 16) == 10) (list_any (λ b. b == 10) (hex_digit (b % 16) ∷ [])) (hex_feed (b / 16) (nat_lt (b / 16) 10))
-    (or_from (hex_digit (b % 16) == 10) false (hex_feed (b % 16) (nat_lt (b % 16) 10)) refl)
+unfolding encode_with
+pair_feed b = or_from _ _ (feed_at lower_digits (b / 16) refl) (or_from _ _ (feed_at lower_digits (b % 16) refl) refl)
 
 digits_feed : (bytes : List ℕ) → no_feed (hex_bytes bytes)
 digits_feed [] = refl

@@ -1,5 +1,6 @@
 -- The grammar of a dump of extended attributes, as setfattr(1) reads it with --restore.
-use Rattle.std.specs.Prelude.{◌≡◌, ℕ, ◌+◌, ◌*◌, ◌<◌, Bool, true, false, List, [], ◌∷◌, ◌++◌, length, Contains, Some, Result, Ok, Err}
+use Rattle.std.specs.Prelude.{◌≡◌, ℕ, ◌+◌, ◌<◌, Bool, true, false, List, [], ◌∷◌, ◌++◌, length, Contains, Some, Result, Ok, Err}
+use Rattle.hex.specs.Hex.{decode_of}
 use Rattle.label_base.specs.Escape.{octal_byte, unescaped}
 use Rattle.label_base.specs.LineGrammar.{AreLines}
 use Rattle.label_base.specs.Text.{is_nonempty}
@@ -12,7 +13,7 @@ use Rattle.setfattr_dump.specs.declared.fault.DumpWhy.TheVariants.{NoSection, Ba
 use Rattle.setfattr_dump.specs.declared.marks.TheConstants.{BACKSLASH, EQUALS, FILE_MARK, QUOTE, ZERO}
 use Rattle.setfattr_dump.specs.Reading.{with_slash}
 use Rattle.setfattr_dump.specs.Texts.{is_marked}
-use Rattle.setfattr_dump.specs.Values.{digit_value, is_digits_mark, is_escapable}
+use Rattle.setfattr_dump.specs.Values.{is_digits_mark, is_escapable}
 
 -- ---- values
 
@@ -34,13 +35,8 @@ pub data IsText : List ℕ → List ℕ → Type 0 where
       → IsText (BACKSLASH ∷ x ∷ y ∷ z ∷ text) (b ∷ value)
 
 -- these are pairs of hexadecimal digits, of either case, and their bytes
-pub data AreDigits : List ℕ → List ℕ → Type 0 where
-  none : AreDigits [] []
-  more : (high low h l : ℕ) (digits value : List ℕ)
-      → digit_value high ≡ Some h
-      → digit_value low ≡ Some l
-      → AreDigits digits value
-      → AreDigits (high ∷ low ∷ digits) ((h * 16 + l) ∷ value)
+abbrev pub AreDigits : List ℕ → List ℕ → Type 0
+AreDigits digits value = decode_of digits ≡ Ok value
 
 -- a value is a text between quotes, or pairs of digits behind 0x
 pub data IsValue : List ℕ → List ℕ → Type 0 where

@@ -4,9 +4,8 @@ use Rattle.label_base.specs.Cut.{front, behind}
 use Rattle.label_base.specs.Escape.{unescaped}
 use Rattle.label_base.specs.Lines.{lines_of, with_front}
 use Rattle.label_base.specs.Text.{is_nonempty}
-use Rattle.file_paths.specs.Path.{Path, path_read}
+use Rattle.file_paths.specs.Path.{Path, path_or}
 use Rattle.file_paths.specs.declared.path.TheConstants.{SLASH}
-use Rattle.file_paths.specs.declared.path_fault.PathWhy.{PathWhy}
 use Rattle.label_base.specs.declared.lines.RefusedLine.{RefusedLine}
 use Rattle.setfattr_dump.specs.declared.dump.Attr.{Attr}
 use Rattle.setfattr_dump.specs.declared.dump.Section.{Section}
@@ -28,13 +27,9 @@ has_slash (b ∷ bs) = b == SLASH
 abbrev pub with_slash : List ℕ → List ℕ
 with_slash bytes = if has_slash bytes then bytes else SLASH ∷ bytes
 
-abbrev pub path_or_bad : Result Path PathWhy → Result Path DumpWhy
-path_or_bad (Ok path) = Ok path
-path_or_bad (Err why) = Err BadName
-
 abbrev pub spelled_path : Option (List ℕ) → Result Path DumpWhy
 spelled_path None = Err BadName
-spelled_path (Some bytes) = path_or_bad (path_read (with_slash bytes))
+spelled_path (Some bytes) = path_or BadName (with_slash bytes)
 
 -- the path that a name with escapes spells
 unfoldable pub name_read : List ℕ → Result Path DumpWhy

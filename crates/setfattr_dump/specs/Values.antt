@@ -1,6 +1,8 @@
 -- The values of attributes: a text between quotes, or hexadecimal digits, as setfattr(1) has them.
-use Rattle.std.specs.Prelude.{ℕ, ◌+◌, ◌-◌, ◌*◌, ◌/◌, ◌%◌, Bool, false, ◌==◌, ◌&&◌, ◌||◌, nat_le, nat_lt, List, [], ◌∷◌, ◌++◌, Option, Some, None, Result, Ok, Err, if◌then◌else◌}
+use Rattle.std.specs.Prelude.{ℕ, Bool, false, ◌==◌, ◌||◌, List, [], ◌∷◌, ◌++◌, Option, Some, None, Result, Ok, Err, if◌then◌else◌}
 use Rattle.std.specs.List.{flat_map}
+use Rattle.std.specs.Result.{result_ok}
+use Rattle.hex.specs.Hex.{decode_of, encode_lower}
 use Rattle.label_base.specs.Escape.{escaped_byte, is_plain, led_by, octal_byte}
 use Rattle.label_base.specs.Text.{same_bytes}
 use Rattle.setfattr_dump.specs.declared.fault.DumpWhy.{DumpWhy}
@@ -37,27 +39,9 @@ text_read Backslash (x ∷ rest) =
 text_read (One x) (y ∷ rest) = text_read (Two x y) rest
 text_read (Two x y) (z ∷ rest) = led_by (octal_byte x y z) (text_read Nothing rest)
 
--- the value of a hexadecimal digit of either case
-abbrev pub digit_value : ℕ → Option ℕ
-digit_value c =
-    if nat_le 48 c && nat_le c 57 then Some (c - 48)
-    else if nat_le 97 c && nat_le c 102 then Some (c - 87)
-    else if nat_le 65 c && nat_le c 70 then Some (c - 55)
-    else None
-
-abbrev pub both_digits : Option ℕ → Option ℕ → Option ℕ
-both_digits (Some high) (Some low) = Some (high * 16 + low)
-both_digits high low = None
-
--- the byte of two digits
-abbrev pub pair_value : ℕ → ℕ → Option ℕ
-pair_value high low = both_digits (digit_value high) (digit_value low)
-
--- the bytes of pairs of digits
-unfoldable pub digits_read : List ℕ → Option (List ℕ)
-digits_read [] = Some []
-digits_read (digit ∷ []) = None
-digits_read (high ∷ low ∷ rest) = led_by (pair_value high low) (digits_read rest)
+-- the bytes of pairs of hexadecimal digits, of either case
+abbrev pub digits_read : List ℕ → Option (List ℕ)
+digits_read digits = result_ok (decode_of digits)
 
 -- an x of either case
 abbrev pub is_digits_mark : ℕ → Bool
@@ -97,11 +81,9 @@ is_kept b = if b == QUOTE then false else is_plain b
 abbrev pub quoted_bytes : List ℕ → List ℕ
 quoted_bytes bytes = flat_map quoted_byte bytes
 
-abbrev pub hex_digit : ℕ → ℕ
-hex_digit n = if nat_lt n 10 then 48 + n else 87 + n
-
+-- a byte in two lower-case digits
 abbrev pub hex_byte : ℕ → List ℕ
-hex_byte b = hex_digit (b / 16) ∷ hex_digit (b % 16) ∷ []
+hex_byte b = encode_lower (b ∷ [])
 
 abbrev pub hex_bytes : List ℕ → List ℕ
 hex_bytes bytes = flat_map hex_byte bytes

@@ -1,7 +1,7 @@
 ghost use Rattle.std.specs.Prelude.{◌≡◌, ◌≤◌, length, true};
 ghost use Rattle.label_base.specs.Answers.{Answers, cause_of};
-ghost use Rattle.file_paths.specs.Path.{path_read};
-ghost use Rattle.setfattr_dump.specs.Reading.{attr_read, has_slash, line_read, name_read, path_or_bad, with_slash, with_value};
+ghost use Rattle.file_paths.specs.Path.{path_or};
+ghost use Rattle.setfattr_dump.specs.Reading.{attr_read, has_slash, line_read, name_read, with_slash, with_value};
 ghost use Rattle.setfattr_dump.specs.Texts.{is_marked};
 ghost use Rattle.setfattr_dump.specs.Values.{value_or_bad, value_read};
 
@@ -21,16 +21,6 @@ pub enum Said {
     Gives(Attr),
 }
 
-fn read_path(alloc: Global, bytes: &[u8]) -> Result<NormPath, Fault<DumpWhy>>
-    ensures { Answers (λ path. path) cause_of result (path_or_bad (path_read bytes.now)) }
-{
-    match NormPath::read(alloc, bytes) {
-        Ok(path) => Ok(path),
-        Err(Fault::Why(_)) => Err(Fault::Why(DumpWhy::BadName)),
-        Err(Fault::OutOfMemory) => Err(Fault::OutOfMemory),
-    }
-}
-
 fn has_slash(bytes: &[u8]) -> bool
     ensures { result ≡ has_slash bytes.now }
 {
@@ -43,15 +33,15 @@ fn has_slash(bytes: &[u8]) -> bool
 // The path that the bytes spell, with a slash before them if they have none.
 fn read_slashed(alloc: Global, bytes: &[u8]) -> Result<NormPath, Fault<DumpWhy>>
     ensures { Answers (λ path. path) cause_of result
-        (path_or_bad (path_read (with_slash bytes.now))) }
+        (path_or DumpWhy.BadName (with_slash bytes.now)) }
 {
     if has_slash(bytes) {
-        return read_path(alloc, bytes);
+        return NormPath::read_or(alloc, bytes, DumpWhy::BadName);
     }
     let mut slashed = Bytes::new(alloc);
     slashed.push_byte(SLASH)?;
     slashed.push(bytes)?;
-    read_path(alloc, slashed.as_slice())
+    NormPath::read_or(alloc, slashed.as_slice(), DumpWhy::BadName)
 }
 
 // The path that a name with escapes spells.

@@ -1,7 +1,7 @@
-ghost use Rattle.std.specs.Prelude.{◌≡◌, ◌++◌, ◌<◌, OnOk};
+ghost use Rattle.std.specs.Prelude.{◌≡◌, ◌++◌, OnOk};
 ghost use Rattle.std.specs.List.{list_all};
 ghost use Rattle.label_base.specs.Escape.{is_plain};
-ghost use Rattle.setfattr_dump.specs.Values.{hex_bytes, hex_digit, is_digest, is_kept, quoted_byte, quoted_bytes, value_text};
+ghost use Rattle.setfattr_dump.specs.Values.{hex_byte, hex_bytes, is_digest, is_kept, quoted_byte, quoted_bytes, value_text};
 
 use crate::marks::{BACKSLASH, DEL, DIGEST_KEY, HEX_MARK, QUOTE, QUOTE_ESCAPE, QUOTE_MARK};
 use label_base::{BLANK, Bytes, OutOfMemory};
@@ -58,18 +58,21 @@ fn add_quoted(bytes: &[u8], text: &mut Bytes) -> Result<(), OutOfMemory>
     }
 }
 
-fn hex_digit(n: u8) -> u8
-    requires { n < 16 }
-    ensures { result ≡ hex_digit n }
+fn push_digits(b: u8, text: &mut Bytes) -> Result<(), OutOfMemory>
+    ensures { OnOk result (text.new ≡ text.old ++ hex_byte b) }
 {
-    if n < 10 { b'0' + n } else { b'a' - 10 + n }
+    let mut digits = [0; 2];
+    let Ok(()) = hex::encode_to_slice([b], &mut digits) else {
+        unreachable!()
+    };
+    text.push(&digits)
 }
 
 fn add_digits(bytes: &[u8], text: &mut Bytes) -> Result<(), OutOfMemory>
     ensures { OnOk result (text.new ≡ text.old ++ hex_bytes bytes.now) }
 {
     for b in bytes {
-        text.push(&[hex_digit(*b / 16), hex_digit(*b % 16)])?;
+        push_digits(*b, text)?;
     }
     Ok(())
 }

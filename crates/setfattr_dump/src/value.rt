@@ -4,10 +4,11 @@ ghost use Rattle.label_base.specs.Answers.{Answers, Explains, cause_of};
 ghost use Rattle.label_base.specs.Escape.{in_front, led_by, octal_byte};
 ghost use Rattle.label_base.specs.Pieces.{turns_left};
 ghost use Rattle.setfattr_dump.specs.Values as value;
-ghost use Rattle.setfattr_dump.specs.Values.{behind_zero, digit_value, digits_read, is_digits_mark, is_escapable, pair_value, text_left, text_read, value_or_bad, value_read};
+ghost use Rattle.setfattr_dump.specs.Values.{behind_zero, digits_read, is_digits_mark, is_escapable, text_left, text_read, value_or_bad, value_read};
 
 use crate::fault::DumpWhy;
 use crate::marks::{BACKSLASH, QUOTE, ZERO};
+use hex::FromHexError;
 use label_base::{Bytes, Fault, octal_byte};
 use memchr::memchr2;
 use std::alloc::Global;
@@ -93,43 +94,15 @@ fn read_text(alloc: Global, text: &[u8]) -> Result<Bytes, Fault<DumpWhy>>
     Ok(read)
 }
 
-fn digit_value(c: u8) -> Option<u8>
-    ensures { result ≡ digit_value c }
-{
-    match c {
-        b'0'..=b'9' => Some(c - b'0'),
-        b'a'..=b'f' => Some(c - b'a' + 10),
-        b'A'..=b'F' => Some(c - b'A' + 10),
-        _ => None,
-    }
-}
-
-// The byte of two hexadecimal digits.
-fn pair_value(high: u8, low: u8) -> Option<u8>
-    ensures { result ≡ pair_value high low }
-{
-    let high = digit_value(high)?;
-    let low = digit_value(low)?;
-    Some(high * 16 + low)
-}
-
 // Reads the bytes of pairs of hexadecimal digits.
 fn read_digits(alloc: Global, digits: &[u8]) -> Result<Bytes, Fault<DumpWhy>>
     ensures { Answers (λ read. read) cause_of result (value_or_bad (digits_read digits.now)) }
 {
-    let mut read = Bytes::with_capacity(alloc, digits.len() / 2)?;
-    let mut left = digits;
-    'pairs: while let [high, low, rest @ ..] = left {
-        let Some(b) = pair_value(*high, *low) else {
-            return Err(Fault::Why(DumpWhy::BadValue));
-        };
-        read.push_byte(b)?;
-        left = rest;
+    match hex::decode(alloc, digits) {
+        Ok(read) => Ok(Bytes::from(read)),
+        Err(FromHexError::OutOfMemory) => Err(Fault::OutOfMemory),
+        Err(_) => Err(Fault::Why(DumpWhy::BadValue)),
     }
-    if !left.is_empty() {
-        return Err(Fault::Why(DumpWhy::BadValue));
-    }
-    Ok(read)
 }
 
 fn is_digits_mark(x: u8) -> bool

@@ -63,33 +63,7 @@ impl Carried {
         })
     }
 
-    /// What [`RuleSet::find_last`] finds for a child of the path. It takes no memory.
-    pub fn find_last(
-        &self,
-        rules: &RuleSet,
-        scratch: &mut Scratch,
-        name: &[u8],
-        asked: Asked,
-    ) -> Option<u32>
-        requires scratch { IsScratchOf rules.now scratch.old }
-        requires own { IsCarriedOf rules.now self.now }
-        ensures own { IsScratchOf rules.now scratch.new }
-        ensures told { (path : Path) → StandsAt rules.now self.now path
-            → IsAnswer asked (path_text (path ++ name.now ∷ [])) rules.now result }
-    {
-        match scratch.room.look_up_child(
-            rules.rules.as_slice(),
-            &self.alive,
-            self.is_root,
-            name,
-            asked,
-        ) {
-            Some(i) => Some(i as u32),
-            None => None,
-        }
-    }
-
-    /// The same as [`find_last`](Carried::find_last), counted as one step.
+    /// What [`RuleSet::last_match`] finds for a child of the path. It takes no memory, and counts one step.
     pub fn last_match<L: Ledger>(
         &self,
         rules: &RuleSet,
@@ -106,7 +80,16 @@ impl Carried {
         ensures count { steps.new ≡ steps.old + 1 }
     {
         steps.tick();
-        self.find_last(rules, scratch, name, asked)
+        match scratch.room.look_up_child(
+            rules.rules.as_slice(),
+            &self.alive,
+            self.is_root,
+            name,
+            asked,
+        ) {
+            Some(i) => Some(i as u32),
+            None => None,
+        }
     }
 
     /// What [`RuleSet::relevant`] finds for the path.

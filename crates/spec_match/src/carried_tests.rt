@@ -5,7 +5,8 @@ ghost use Rattle.spec_match.specs.Scratches.{IsScratchOf};
 use crate::carried::Carried;
 use crate::rule_set::RuleSet;
 use crate::scratch::Scratch;
-use label_base::{Asked, EntryKind, Part, Steps};
+use file_roles::Part;
+use label_base::{Asked, EntryKind, Steps};
 use spec_reader::read_specs;
 use std::alloc::Global;
 use std::marker::Brand;
@@ -27,12 +28,31 @@ fn entered(alloc: Global, rules: &RuleSet, name: &[u8]) -> Option<Carried>
     root.enter(alloc, rules, name).ok()
 }
 
+fn counted<L: Ledger>(
+    rules: &RuleSet,
+    carried: &Carried,
+    scratch: &mut Scratch,
+    name: &[u8],
+    asked: Asked,
+    blank: Blank,
+) -> Option<u32>
+    requires own { IsCarriedOf rules.now carried.now }
+    requires scratch { IsScratchOf rules.now scratch.old }
+    requires name { blank.name ≡ L.name }
+    requires parts { blank.parts ≡ L.parts }
+    requires some { 0 < blank.parts }
+    ensures { IsScratchOf rules.now scratch.new }
+{
+    let mut steps = Steps::<L>::open(blank);
+    carried.last_match(rules, scratch, name, asked, &mut steps)
+}
+
 // The last match of x in a directory in the root, and how many specifications were tried.
 fn found(alloc: Global, name: &[u8], asked: Asked) -> Option<(Option<u32>, u64)> {
     let rules = rules(alloc)?;
     let carried = entered(alloc, &rules, name)?;
     let mut scratch = Scratch::new(alloc, &rules).ok()?;
-    let found = carried.find_last(&rules, &mut scratch, b"x", asked);
+    let found = counted::<Brand>(&rules, &carried, &mut scratch, b"x", asked, Blank::new(1));
     Some((found, scratch.tried()))
 }
 
@@ -44,32 +64,17 @@ fn look_ups_by_names(rt: HostRuntime) {
     assert_eq!(rt; found(rt.alloc(), b"s6", file), Some((None, 0)));
 }
 
-fn counted<L: Ledger>(
-    rules: &RuleSet,
-    carried: &Carried,
-    scratch: &mut Scratch,
-    blank: Blank,
-) -> Option<u32>
-    requires own { IsCarriedOf rules.now carried.now }
-    requires scratch { IsScratchOf rules.now scratch.old }
-    requires name { blank.name ≡ L.name }
-    requires parts { blank.parts ≡ L.parts }
-    requires some { 0 < blank.parts }
-{
-    let mut steps = Steps::<L>::open(blank);
-    carried.last_match(rules, scratch, b"s4", Asked::Any, &mut steps)
-}
-
 // The last match of s4 in the root.
 fn found_in_root(alloc: Global) -> Option<Option<u32>> {
     let rules = rules(alloc)?;
     let carried = Carried::root(alloc, &rules).ok()?;
     let mut scratch = Scratch::new(alloc, &rules).ok()?;
-    Some(counted::<Brand>(&rules, &carried, &mut scratch, Blank::new(1)))
+    let any = Asked::Any;
+    Some(counted::<Brand>(&rules, &carried, &mut scratch, b"s4", any, Blank::new(1)))
 }
 
 #[test]
-fn a_counted_look_up_in_the_root(rt: HostRuntime) {
+fn a_look_up_in_the_root(rt: HostRuntime) {
     assert_eq!(rt; found_in_root(rt.alloc()), Some(None));
 }
 

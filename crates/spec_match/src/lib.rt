@@ -19,6 +19,8 @@ mod table;
 #[cfg(test)]
 mod tests;
 mod trail;
+#[cfg(test)]
+mod tried_tests;
 mod workspace;
 
 pub use carried::Carried;

@@ -141,28 +141,9 @@ impl RuleSet {
     }
 
     /// The index of the last specification whose kind applies to what is asked and whose language holds the path's text,
-    /// or none where there is no such specification. It takes no memory.
+    /// or none where there is no such specification. It takes no memory, and counts one step.
     ///
     /// A specification without a kind applies always, one with a kind to it and to [`Asked::Any`].
-    pub fn find_last(&self, scratch: &mut Scratch, path: &PathRef<'_>, asked: Asked) -> Option<u32>
-        requires { IsScratchOf self.now scratch.old }
-        ensures own { IsScratchOf self.now scratch.new }
-        ensures within { IfSome result (λ i. i < length self.now) }
-        ensures index { result ≡ last_index asked (path_text (path_of path.now)) self.now }
-        ensures member { option_and_then (slice_get self.now) result
-            ≡ last_match asked (path_text (path_of path.now)) self.now }
-        ensures decides { Decides asked (path_text (path_of path.now)) self.now result }
-    {
-        match scratch
-            .room
-            .look_up(self.rules.as_slice(), &self.starts, path.as_text(), asked)
-        {
-            Some(i) => Some(i as u32),
-            None => None,
-        }
-    }
-
-    /// The same as [`find_last`](RuleSet::find_last), counted as one step.
     pub fn last_match<L: Ledger>(
         &self,
         scratch: &mut Scratch,
@@ -180,7 +161,13 @@ impl RuleSet {
         ensures count { steps.new ≡ steps.old + 1 }
     {
         steps.tick();
-        self.find_last(scratch, path, asked)
+        match scratch
+            .room
+            .look_up(self.rules.as_slice(), &self.starts, path.as_text(), asked)
+        {
+            Some(i) => Some(i as u32),
+            None => None,
+        }
     }
 
     /// The indices of the specifications that can decide at or below a path, in ascending order: those whose language

@@ -4,32 +4,43 @@ ghost use Rattle.spec_match.specs.Scratches.{IsScratchOf};
 use crate::rule_set::RuleSet;
 use crate::scratch::Scratch;
 use file_paths::{NormPath, PathRef};
-use label_base::{Asked, EntryKind, Part, Row, Steps};
+use file_roles::Part;
+use label_base::{Asked, EntryKind, Row, Steps};
 use spec_reader::{Spec, read_specs};
 use std::alloc::Global;
 use std::marker::Brand;
 use std::sync::ledger::{Blank, Ledger};
 
 fn counted<L: Ledger>(
-    alloc: Global,
     rules: &RuleSet,
+    scratch: &mut Scratch,
     path: &PathRef<'_>,
     asked: Asked,
     blank: Blank,
 ) -> Option<u32>
+    requires scratch { IsScratchOf rules.now scratch.old }
     requires name { blank.name ≡ L.name }
     requires parts { blank.parts ≡ L.parts }
     requires some { 0 < blank.parts }
+    ensures { IsScratchOf rules.now scratch.new }
 {
     let mut steps = Steps::<L>::open(blank);
-    match Scratch::new(alloc, rules) {
-        Ok(mut scratch) => rules.last_match(&mut scratch, path, asked, &mut steps),
-        Err(_) => None,
-    }
+    rules.last_match(scratch, path, asked, &mut steps)
+}
+
+// The last match, where nobody asks for the count.
+fn last_in(rules: &RuleSet, scratch: &mut Scratch, path: &PathRef<'_>, asked: Asked) -> Option<u32>
+    requires { IsScratchOf rules.now scratch.old }
+    ensures { IsScratchOf rules.now scratch.new }
+{
+    counted::<Brand>(rules, scratch, path, asked, Blank::new(1))
 }
 
 fn looked_up(alloc: Global, rules: &RuleSet, path: &PathRef<'_>, asked: Asked) -> Option<u32> {
-    counted::<Brand>(alloc, rules, path, asked, Blank::new(1))
+    match Scratch::new(alloc, rules) {
+        Ok(mut scratch) => last_in(rules, &mut scratch, path, asked),
+        Err(_) => None,
+    }
 }
 
 fn found(alloc: Global, specs: Row<Spec>, path: &[u8], asked: Asked) -> Option<u32>
@@ -52,22 +63,6 @@ fn last(alloc: Global, specs: &[u8], path: &[u8], asked: Asked) -> Option<u32>
         Ok(specs) => found(alloc, specs, path, asked),
         Err(_) => Some(99),
     }
-}
-
-fn found_last(alloc: Global, specs: &[u8], path: &[u8]) -> Option<u32>
-    requires { length specs.now < 2 ^ 32 }
-{
-    let specs = read_specs(alloc, specs, Part::Base, 9).ok()?;
-    let rules = RuleSet::new(alloc, specs).ok()?;
-    let path = NormPath::read(alloc, path).ok()?;
-    let mut scratch = Scratch::new(alloc, &rules).ok()?;
-    rules.find_last(&mut scratch, &path.path(), Asked::Any)
-}
-
-#[test]
-fn a_look_up_that_counts_nothing(rt: HostRuntime) {
-    let specs = b"/a <<none>>\n/[ab] <<none>>\n/b <<none>>\n".as_slice();
-    assert_eq!(rt; found_last(rt.alloc(), specs, b"/a"), Some(1));
 }
 
 #[test]
@@ -140,7 +135,7 @@ fn found_in(alloc: Global, rules: &RuleSet, scratch: &mut Scratch, path: &[u8]) 
     ensures { IsScratchOf rules.now scratch.new }
 {
     match NormPath::read(alloc, path) {
-        Ok(path) => rules.find_last(scratch, &path.path(), Asked::Any),
+        Ok(path) => last_in(rules, scratch, &path.path(), Asked::Any),
         Err(_) => Some(99),
     }
 }

@@ -1,7 +1,8 @@
 ghost use Rattle.std.specs.Prelude.{◌<◌, ◌^◌, length};
 
 use crate::order::ordered;
-use label_base::{Part, Row};
+use file_roles::Part;
+use label_base::Row;
 use spec_reader::{Spec, SpecFault, read_specs};
 use std::alloc::Global;
 use std::test::Fail;

@@ -4,7 +4,7 @@ use Rattle.std.specs.Prelude.{◌↔◌, Option, Some, None, Result, Ok, Err}
 use Rattle.std.proofs.lemmas.Slice.Eq.{bytes_eq-Decides}
 use Rattle.label_base.specs.Text.{same_bytes}
 use Rattle.label_base.specs.declared.kind.EntryKind.{EntryKind}
-use Rattle.label_base.specs.declared.kind.Part.{Part}
+use Rattle.file_roles.specs.declared.role.Part.{Part}
 use Rattle.label_base.specs.declared.lines.LinesWhy.{LinesWhy}
 use Rattle.label_base.proofs.LinesMeant.{lines_mean_within}
 use Rattle.context_syntax.specs.Context.{ContextValue, context_of}
@@ -13,7 +13,7 @@ use Rattle.pattern_syntax.specs.Tree.{Tree}
 use Rattle.pattern_syntax.specs.Reading.{pattern_of}
 use Rattle.pattern_syntax.specs.declared.pattern_fault.PatternWhy.{PatternWhy}
 use Rattle.spec_reader.specs.SpecGrammar.{AreBad, FieldsMean, HasDecision, HasKind, IsDecision, IsKind, Parts, SpecsMean, parts_of}
-use Rattle.spec_reader.specs.TypeField.{kind_of}
+use Rattle.label_base.specs.Kind.{field_kind}
 use Rattle.spec_reader.specs.SpecLines.{spec_in, specs_of, with_context, with_decision, with_pattern, with_tree, with_type}
 use Rattle.spec_reader.specs.SpecValue.{SpecValue}
 use Rattle.spec_reader.specs.declared.line.TheConstants.{NO_CONTEXT}
@@ -71,11 +71,11 @@ decision_sound part number parts kind k =
 abbrev typed : List ℕ → List ℕ → List ℕ → Parts
 typed pattern type context = record { pattern = pattern; type = Some type; context = context }
 
-no_kind : (pattern type context : List ℕ) → kind_of type ≡ None → ¬ HasKind (typed pattern type context)
+no_kind : (pattern type context : List ℕ) → field_kind type ≡ None → ¬ HasKind (typed pattern type context)
 no_kind pattern type context none (Some kind, h) = let e = h.1 in cc
 no_kind pattern type context none (None, h) = let e = h.0 in cc
 
-type_sound : (part : Part) (number : ℕ) (pattern type context : List ℕ) (kind : Option EntryKind) → kind_of type ≡ kind → PartsMean part number (typed pattern type context) (with_type part number pattern kind context)
+type_sound : (part : Part) (number : ℕ) (pattern type context : List ℕ) (kind : Option EntryKind) → field_kind type ≡ kind → PartsMean part number (typed pattern type context) (with_type part number pattern kind context)
 type_sound part number pattern type context (Some kind) e = decision_sound part number (typed pattern type context) (Some kind) (refl, e)
 type_sound part number pattern type context None e = bad_parts part number (typed pattern type context) BadKind (no_kind pattern type context e)
 
@@ -83,13 +83,13 @@ fields_sound : (part : Part) (number : ℕ) (fields : List (List ℕ)) → Field
 fields_sound part number [] = omega arith
 fields_sound part number (pattern ∷ []) = omega arith
 fields_sound part number (pattern ∷ context ∷ []) = decision_sound part number (record { pattern = pattern; type = None; context = context }) None refl (pattern ∷ context ∷ []) refl
-fields_sound part number (pattern ∷ type ∷ context ∷ rest) = type_sound part number pattern type context (kind_of type) refl (pattern ∷ type ∷ context ∷ rest) refl
+fields_sound part number (pattern ∷ type ∷ context ∷ rest) = type_sound part number pattern type context (field_kind type) refl (pattern ∷ type ∷ context ∷ rest) refl
 
 -- ---- what is meant is read
 
 abbrev with_parts : Part → ℕ → List ℕ → Option (List ℕ) → List ℕ → Result SpecValue SpecWhy
 with_parts part number pattern None context = with_decision part number pattern None context
-with_parts part number pattern (Some type) context = with_type part number pattern (kind_of type) context
+with_parts part number pattern (Some type) context = with_type part number pattern (field_kind type) context
 
 abbrev from_parts : Part → ℕ → Parts → Result SpecValue SpecWhy
 from_parts part number parts = with_parts part number parts.pattern parts.type parts.context
@@ -131,13 +131,13 @@ pattern_complete part number pattern kind decision read e = ap (with_tree part n
 same_spec : (part : Part) (number : ℕ) (text : List ℕ) (spec : SpecValue) → text ≡ spec.text → part ≡ spec.part → number ≡ spec.line → with_tree part number text spec.kind spec.decision (Ok spec.pattern) ≡ Ok spec
 same_spec part number text spec e f g = λ i. Ok (record { text = e i; pattern = spec.pattern; kind = spec.kind; decision = spec.decision; part = f i; line = g i })
 
-no_kind_read : (part : Part) (number : ℕ) (parts : Parts) (kind : Option EntryKind) (type : List ℕ) → parts.type ≡ Some type → kind_of type ≡ kind → ¬ HasKind parts → with_type part number parts.pattern kind parts.context ≡ Err BadKind
+no_kind_read : (part : Part) (number : ℕ) (parts : Parts) (kind : Option EntryKind) (type : List ℕ) → parts.type ≡ Some type → field_kind type ≡ kind → ¬ HasKind parts → with_type part number parts.pattern kind parts.context ≡ Err BadKind
 no_kind_read part number parts (Some kind) type has e bad = absurd (bad (Some kind, subst (λ t. IsKind t (Some kind)) (sym has) (refl, e)))
 no_kind_read part number parts None type has e bad = refl
 
 bad_kind_read : (part : Part) (number : ℕ) (parts : Parts) (type : Option (List ℕ)) → parts.type ≡ type → ¬ HasKind parts → with_parts part number parts.pattern type parts.context ≡ Err BadKind
 bad_kind_read part number parts None has bad = absurd (bad (None, subst (λ t. IsKind t None) (sym has) refl))
-bad_kind_read part number parts (Some type) has bad = no_kind_read part number parts (kind_of type) type has refl bad
+bad_kind_read part number parts (Some type) has bad = no_kind_read part number parts (field_kind type) type has refl bad
 
 bad_context_from : (part : Part) (number : ℕ) (parts : Parts) (kind : Option EntryKind) (read : Option ContextValue) → context_of parts.context ≡ read → ¬ HasDecision parts → with_context part number parts.pattern kind read ≡ Err BadContext
 bad_context_from part number parts kind (Some context) e bad = absurd (bad (Give context, sound parts.context context e))

@@ -2,12 +2,12 @@
 -- has them.
 use Rattle.std.specs.Prelude.{◌≡◌, ℕ, ◌<◌, List, [], ◌∷◌, length, Option, Some, None, IsSome, Result, Ok, Err}
 use Rattle.label_base.specs.declared.kind.EntryKind.{EntryKind}
-use Rattle.label_base.specs.declared.kind.Part.{Part}
+use Rattle.file_roles.specs.declared.role.Part.{Part}
 use Rattle.label_base.specs.declared.lines.LinesWhy.{LinesWhy}
 use Rattle.label_base.specs.LineGrammar.{LinesMeanWithin}
 use Rattle.context_syntax.specs.Context.{Spells}
 use Rattle.pattern_syntax.specs.Reading.{pattern_of}
-use Rattle.spec_reader.specs.TypeField.{kind_of}
+use Rattle.label_base.specs.Kind.{field_kind}
 use Rattle.spec_reader.specs.SpecValue.{SpecValue}
 use Rattle.spec_reader.specs.declared.line.TheConstants.{NO_CONTEXT}
 use Rattle.spec_reader.specs.declared.spec.Decision.{Decision}
@@ -32,7 +32,7 @@ parts_of fields = None
 -- a type names a kind; without one a specification is for every kind
 abbrev pub IsKind : Option (List ℕ) → Option EntryKind → Type 0
 IsKind None kind = kind ≡ None
-IsKind (Some type) kind = IsSome kind × (kind_of type ≡ kind)
+IsKind (Some type) kind = IsSome kind × (field_kind type ≡ kind)
 
 -- files keep the labels that they have, or they get the context that the field spells
 abbrev pub IsDecision : List ℕ → Decision → Type 0

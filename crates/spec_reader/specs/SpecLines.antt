@@ -1,7 +1,7 @@
 -- What the lines of a file_contexts file say, as selabel_file(5) has it: a pattern, a type or none, and a context.
 use Rattle.std.specs.Prelude.{ℕ, List, [], ◌∷◌, Option, Some, None, Result, Ok, Err, if◌then◌else◌}
 use Rattle.label_base.specs.declared.kind.EntryKind.{EntryKind}
-use Rattle.label_base.specs.declared.kind.Part.{Part}
+use Rattle.file_roles.specs.declared.role.Part.{Part}
 use Rattle.label_base.specs.declared.lines.LinesWhy.{LinesWhy}
 use Rattle.label_base.specs.Lines.{lines_within}
 use Rattle.label_base.specs.Text.{same_bytes}
@@ -10,7 +10,7 @@ use Rattle.pattern_syntax.specs.Tree.{Tree}
 use Rattle.pattern_syntax.specs.Reading.{pattern_of}
 use Rattle.pattern_syntax.specs.declared.pattern_fault.PatternWhy.{PatternWhy}
 use Rattle.spec_reader.specs.SpecValue.{SpecValue}
-use Rattle.spec_reader.specs.TypeField.{kind_of}
+use Rattle.label_base.specs.Kind.{field_kind}
 use Rattle.spec_reader.specs.declared.line.TheConstants.{NO_CONTEXT}
 use Rattle.spec_reader.specs.declared.spec.Decision.{Decision}
 use Rattle.spec_reader.specs.declared.spec.Decision.TheVariants.{Leave, Give}
@@ -54,7 +54,7 @@ with_type part line text (Some kind) field = with_decision part line text (Some 
 -- follows is passed over
 abbrev pub spec_in : Part → ℕ → List (List ℕ) → Result SpecValue SpecWhy
 spec_in part line (text ∷ context ∷ []) = with_decision part line text None context
-spec_in part line (text ∷ kind ∷ context ∷ more) = with_type part line text (kind_of kind) context
+spec_in part line (text ∷ kind ∷ context ∷ more) = with_type part line text (field_kind kind) context
 spec_in part line fields = Err MissingContext
 
 -- the specifications of a file, or its first line that is refused or gives one too many

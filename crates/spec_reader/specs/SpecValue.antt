@@ -1,8 +1,8 @@
 -- A specification, as contracts see it.
-use Rattle.std.specs.Prelude.{◌≡◌, ℕ, Bool, true, false, List, Option, Some, Ok}
+use Rattle.std.specs.Prelude.{◌≡◌, ℕ, Bool, true, List, Option, Some, None, Ok}
+use Rattle.label_base.specs.Kind.{has_names}
 use Rattle.label_base.specs.declared.kind.EntryKind.{EntryKind}
-use Rattle.label_base.specs.declared.kind.EntryKind.TheVariants.{Other}
-use Rattle.label_base.specs.declared.kind.Part.{Part}
+use Rattle.file_roles.specs.declared.role.Part.{Part}
 use Rattle.pattern_syntax.specs.Tree.{Tree}
 use Rattle.pattern_syntax.specs.Reading.{pattern_of}
 use Rattle.spec_reader.specs.declared.spec.Decision.{Decision}
@@ -17,8 +17,8 @@ pub record SpecValue : Type 0 where
 
 -- a kind that a type field can name, or none
 abbrev pub is_spec_kind : Option EntryKind → Bool
-is_spec_kind (Some Other) = false
-is_spec_kind kind = true
+is_spec_kind None = true
+is_spec_kind (Some kind) = has_names kind
 
 -- the pattern is what the text reads as, and the kind is one that a type field can name
 pub record IsSpec (spec : SpecValue) : Type 0 where

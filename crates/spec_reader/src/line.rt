@@ -7,9 +7,9 @@ ghost use Rattle.spec_reader.specs.SpecLines.{spec_in, with_decision, with_patte
 
 use crate::spec::{Decision, Spec};
 use crate::spec_fault::SpecWhy;
-use crate::type_fields::kind_in;
 use context_syntax::{Context, ContextFault};
-use label_base::{Bytes, EntryKind, Fault, LineReader, Part, next_field};
+use file_roles::Part;
+use label_base::{Bytes, EntryKind, Fault, LineReader, next_field};
 use pattern_syntax::{Pattern, PatternFault};
 use std::alloc::Global;
 
@@ -103,7 +103,7 @@ impl LineReader for SpecReader {
         let Some((third, _)) = next_field(more) else {
             return read_decision(alloc, self.part, number, first, None, second);
         };
-        match kind_in(second) {
+        match EntryKind::of_type_field(second) {
             Some(kind) => read_decision(alloc, self.part, number, first, Some(kind), third),
             None => Err(Fault::Why(SpecWhy::BadKind)),
         }

@@ -6,7 +6,8 @@ ghost use Rattle.spec_reader.specs.SpecLines.{specs_of};
 use crate::line::SpecReader;
 use crate::spec::Spec;
 use crate::spec_fault::SpecFault;
-use label_base::{Part, Row, read_lines_within};
+use file_roles::Part;
+use label_base::{Row, read_lines_within};
 use std::alloc::Global;
 
 /// Reads the specifications of a file_contexts file (selabel_file(5)), in the order of its lines.

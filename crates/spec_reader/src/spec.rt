@@ -1,5 +1,6 @@
 use context_syntax::Context;
-use label_base::{Bytes, EntryKind, Part};
+use file_roles::Part;
+use label_base::{Bytes, EntryKind};
 use pattern_syntax::Pattern;
 use std::marker::Model;
 

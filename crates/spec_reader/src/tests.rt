@@ -3,8 +3,8 @@ ghost use Rattle.std.specs.Prelude.{◌<◌, ◌^◌, length};
 use crate::reading::{read_specs, specs_follow_grammar};
 use crate::spec::Decision;
 use crate::spec_fault::{SpecFault, SpecWhy};
-use crate::type_fields::type_field;
-use label_base::{EntryKind, Fault, LinesWhy, Part, RefusedLine};
+use file_roles::Part;
+use label_base::{EntryKind, Fault, LinesWhy, RefusedLine};
 use pattern_syntax::PatternWhy;
 use std::test::Fail;
 
@@ -19,7 +19,6 @@ fn reads_lines(rt: HostRuntime) -> Result<(), Fail> {
     let root = specs.get(0);
     assert_eq!(rt; root.text.as_slice(), b"/".as_slice());
     assert_eq!(rt; root.kind, Some(EntryKind::Directory));
-    assert_eq!(rt; type_field(EntryKind::Directory), b"-d".as_slice());
     assert_eq!(rt; root.part, Part::Local);
     assert_eq!(rt; root.line, 3);
     let Decision::Give(context) = &root.decision else {

@@ -1,20 +1,20 @@
 -- What is read of the words is what their grammar says.
 use Rattle.std.proofs.Common.{◌≡◌, ◌∙◌, Bool, inl, inr, ap, sym, refl, subst, ℕ, ◌+◌, ◌-◌, ◌<◌, true, false, cond, List, [], ◌∷◌, ◌++◌, length, drop, arith}
-use Rattle.std.specs.Prelude.{◌⊎◌, ◌≢◌, ◌↔◌, ⊤}
+use Rattle.std.specs.Prelude.{◌⊎◌, ◌≢◌, ◌↔◌, ⊤, Option, Some, None}
 use Rattle.std.proofs.lemmas.Bool.{eqb-true}
 use Rattle.std.proofs.lemmas.List.{append-nil}
 use Rattle.std.proofs.lemmas.Slice.Eq.{bytes_eq-Decides}
 use Rattle.label_base.specs.Text.{same_bytes}
-use Rattle.tool_words.specs.Grammar.{AreAlone, AreLetters, AreWords, all_alone, valued, unknown, none, options, value, missing, operand, end, flags, operands_at}
-use Rattle.tool_words.specs.Items.{Item, Letters, Taken, any_taken, ahead, flag, is_cluster, item, items_from, items_of, letters_say, letters_taken, operand_says, operand_taken, valued_says, with_letter, wrong}
-use Rattle.tool_words.specs.Tools.{letter_of}
+use Rattle.tool_words.specs.Grammar.{AreAlone, AreLetters, AreWords, all_alone, with_text, unknown, none, options, value, missing, operand, end, flags, operands_at}
+use Rattle.tool_words.specs.Items.{Item, Letters, Taken, any_taken, ahead, flag, is_cluster, item, items_from, items_of, letters_say, letters_taken, operand_says, operand_taken, valued, valued_says, with_letter, wrong}
+use Rattle.tool_words.specs.Tool.{Tool, takes_of}
 use Rattle.tool_words.specs.declared.cutting.Expects.TheVariants.{Any, ValueOf, Operands}
 use Rattle.tool_words.specs.declared.cutting.TheConstants.{DASH, END}
 use Rattle.tool_words.specs.declared.item.Says.TheVariants.{Given}
-use Rattle.tool_words.specs.declared.tool.Letter.{Letter}
-use Rattle.tool_words.specs.declared.tool.Letter.TheVariants.{Alone, WithValue, Unknown}
-use Rattle.tool_words.specs.declared.tool.Tool.{Tool}
-use Rattle.tool_words.specs.declared.tool.Tool.TheVariants.{Setfiles, Restorecon, Matchpathcon, Sample}
+use Rattle.tool_words.specs.declared.letters.Form.{Form}
+use Rattle.tool_words.specs.declared.letters.Takes.{Takes}
+use Rattle.tool_words.specs.declared.letters.Takes.TheVariants.{Flag as Alone, Value}
+use Rattle.tool_words.specs.declared.letters.Valued.{Valued}
 use Rattle.tool_words.specs.declared.usage.UsageWhy.TheVariants.{MissingValue, UnknownOption}
 
 -- ---- letters
@@ -30,15 +30,16 @@ front_says tool index (b ∷ front) rest alone =
     ap (λ u. with_letter index b u (front ++ rest) (letters_say tool index (front ++ rest))) alone.0
     ∙ ap (λ (s : Letters). (flag b index ∷ s.0, s.1)) (front_says tool index front rest alone.1)
 
-letter_says : (tool : Tool) (index : ℕ) (front : List ℕ) (letter : ℕ) (rest : List ℕ) (role : Letter) → AreAlone tool front → letter_of tool letter ≡ role → letters_say tool index (front ++ letter ∷ rest) ≡ behind_flags index front (with_letter index letter role rest (letters_say tool index rest))
+letter_says : (tool : Tool) (index : ℕ) (front : List ℕ) (letter : ℕ) (rest : List ℕ) (role : Option Takes) → AreAlone tool front → takes_of tool letter ≡ role → letters_say tool index (front ++ letter ∷ rest) ≡ behind_flags index front (with_letter index letter role rest (letters_say tool index rest))
 unfolding letters_say
 letter_says tool index front letter rest role alone e =
     front_says tool index front (letter ∷ rest) alone
     ∙ ap (λ u. behind_flags index front (with_letter index letter u rest (letters_say tool index rest))) e
 
-valued_some : (index letter : ℕ) (text : List ℕ) → 0 < length text → valued_says index letter text ≡ (item (Given letter) index text ∷ [], Any)
-valued_some index letter [] some = absurd (omega (arith, some))
-valued_some index letter (b ∷ bs) some = refl
+valued_some : (index : ℕ) (v : Valued) (text : List ℕ) → 0 < length text
+    → valued_says index v text ≡ (item (Given v) index text ∷ [], Any)
+valued_some index v [] some = absurd (omega (arith, some))
+valued_some index v (b ∷ bs) some = refl
 
 nil_says : (tool : Tool) (index : ℕ) → letters_say tool index [] ≡ ([], Any)
 unfolding letters_say
@@ -50,15 +51,19 @@ letters_are tool index _ _ (all_alone front are) =
     ∙ front_says tool index front [] are
     ∙ ap (behind_flags index front) (nil_says tool index)
     ∙ ap (λ xs. (xs, Any)) (append-nil (flags index front))
-letters_are tool index _ _ (valued front letter text are role some) =
-    letter_says tool index front letter text WithValue are role
-    ∙ ap (behind_flags index front) (valued_some index letter text some)
-letters_are tool index _ _ (unknown front letter rest are role) = letter_says tool index front letter rest Unknown are role
+letters_are tool index _ _ (with_text front letter form text are role some) =
+    letter_says tool index front letter text (Some (Value form)) are role
+    ∙ ap (behind_flags index front) (valued_some index (valued letter form) text some)
+letters_are tool index _ _ (unknown front letter rest are role) =
+    letter_says tool index front letter rest None are role
 
-awaiting : (tool : Tool) (index : ℕ) (front : List ℕ) (letter : ℕ) → AreAlone tool front → letter_of tool letter ≡ WithValue → letters_say tool index (front ++ letter ∷ []) ≡ (flags index front, ValueOf letter)
-awaiting tool index front letter are role =
-    letter_says tool index front letter [] WithValue are role
-    ∙ ap (λ xs. (xs, ValueOf letter)) (append-nil (flags index front))
+awaiting : (tool : Tool) (index : ℕ) (front : List ℕ) (letter : ℕ) (form : Form)
+    → AreAlone tool front → takes_of tool letter ≡ Some (Value form)
+    → letters_say tool index (front ++ letter ∷ [])
+    ≡ (flags index front, ValueOf (valued letter form))
+awaiting tool index front letter form are role =
+    letter_says tool index front letter [] (Some (Value form)) are role
+    ∙ ap (λ xs. (xs, ValueOf (valued letter form))) (append-nil (flags index front))
 
 -- ---- words
 
@@ -97,13 +102,17 @@ unfolding items_from
 operands_are tool first index [] = refl
 operands_are tool first index (word ∷ words) = ap (λ xs. item (operand_says tool first) index word ∷ xs) (operands_are tool false (index + 1) words)
 
-value_from : (tool : Tool) (first : Bool) (index letter : ℕ) (text : List ℕ) (words : List (List ℕ)) → items_from tool (ahead (ValueOf letter) first) index (text ∷ words) ≡ item (Given letter) index text ∷ items_from tool (ahead Any first) (index + 1) words
+value_from : (tool : Tool) (first : Bool) (index : ℕ) (v : Valued) (text : List ℕ)
+    → (words : List (List ℕ))
+    → items_from tool (ahead (ValueOf v) first) index (text ∷ words)
+    ≡ item (Given v) index text ∷ items_from tool (ahead Any first) (index + 1) words
 unfolding items_from
-value_from tool first index letter text words = refl
+value_from tool first index v text words = refl
 
-missing_from : (tool : Tool) (first : Bool) (index letter : ℕ) → items_from tool (ahead (ValueOf letter) first) (index + 1) [] ≡ wrong MissingValue index ∷ []
+missing_from : (tool : Tool) (first : Bool) (index : ℕ) (v : Valued)
+    → items_from tool (ahead (ValueOf v) first) (index + 1) [] ≡ wrong MissingValue index ∷ []
 unfolding items_from
-missing_from tool first index letter = ap (λ i. wrong MissingValue i ∷ []) (before index)
+missing_from tool first index v = ap (λ i. wrong MissingValue i ∷ []) (before index)
   where
     before : (i : ℕ) → (i + 1) - 1 ≡ i
     before i = omega arith
@@ -112,43 +121,40 @@ front_cluster : (front : List ℕ) (letter : ℕ) → is_cluster (DASH ∷ (fron
 front_cluster [] letter = refl
 front_cluster (b ∷ front) letter = refl
 
-dash_is_no_option : (tool : Tool) → letter_of tool DASH ≡ Unknown
-unfolding letter_of
-dash_is_no_option Setfiles = refl
-dash_is_no_option Restorecon = refl
-dash_is_no_option Matchpathcon = refl
-dash_is_no_option Sample = refl
-
-never_empty : (front : List ℕ) (letter : ℕ) → front ++ letter ∷ [] ≢ []
-never_empty [] letter e = cc
-never_empty (b ∷ front) letter e = cc
-
-value_not_end : (tool : Tool) (front : List ℕ) (letter : ℕ) → letter_of tool letter ≡ WithValue → DASH ∷ (front ++ letter ∷ []) ≢ END.now
-value_not_end tool [] letter role e =
-    let same : DASH ∷ letter ∷ [] ≡ DASH ∷ DASH ∷ [] = e in
-    let dash : letter ≡ DASH = cc in
-    let unknown_role : letter_of tool letter ≡ Unknown = ap (letter_of tool) dash ∙ dash_is_no_option tool in
-    cc
-value_not_end tool (b ∷ front) letter role e =
-    let same : DASH ∷ b ∷ (front ++ letter ∷ []) ≡ DASH ∷ DASH ∷ [] = e in
-    let rest : front ++ letter ∷ [] ≡ [] = cc in
-    never_empty front letter rest
-
 -- a word whose last letter expects its value
-value_taken : (tool : Tool) (first : Bool) (index : ℕ) (front : List ℕ) (letter : ℕ) → AreAlone tool front → letter_of tool letter ≡ WithValue → any_taken tool first index (DASH ∷ (front ++ letter ∷ [])) ≡ (flags index front, ahead (ValueOf letter) first)
-value_taken tool first index front letter are role =
-    any_letters tool first index (DASH ∷ (front ++ letter ∷ [])) (value_not_end tool front letter role) (front_cluster front letter)
-    ∙ ap (letters_taken first) (awaiting tool index front letter are role)
+value_taken : (tool : Tool) (first : Bool) (index : ℕ) (front : List ℕ) (letter : ℕ) (form : Form)
+    → DASH ∷ (front ++ letter ∷ []) ≢ END.now → AreAlone tool front
+    → takes_of tool letter ≡ Some (Value form)
+    → any_taken tool first index (DASH ∷ (front ++ letter ∷ []))
+    ≡ (flags index front, ahead (ValueOf (valued letter form)) first)
+value_taken tool first index front letter form differs are role =
+    any_letters tool first index (DASH ∷ (front ++ letter ∷ [])) differs
+    (front_cluster front letter)
+    ∙ ap (letters_taken first) (awaiting tool index front letter form are role)
 
-value_words : (tool : Tool) (first : Bool) (index : ℕ) (front : List ℕ) (letter : ℕ) (text : List ℕ) (words : List (List ℕ)) → AreAlone tool front → letter_of tool letter ≡ WithValue → items_from tool (ahead Any first) index ((DASH ∷ (front ++ letter ∷ [])) ∷ text ∷ words) ≡ flags index front ++ item (Given letter) (index + 1) text ∷ items_from tool (ahead Any first) (index + 1 + 1) words
-value_words tool first index front letter text words are role =
-    any_from tool first index (DASH ∷ (front ++ letter ∷ [])) (text ∷ words) _ (value_taken tool first index front letter are role)
-    ∙ ap (λ xs. flags index front ++ xs) (value_from tool first (index + 1) letter text words)
+value_words : (tool : Tool) (first : Bool) (index : ℕ) (front : List ℕ) (letter : ℕ) (form : Form)
+    → (text : List ℕ) (words : List (List ℕ))
+    → DASH ∷ (front ++ letter ∷ []) ≢ END.now → AreAlone tool front
+    → takes_of tool letter ≡ Some (Value form)
+    → items_from tool (ahead Any first) index ((DASH ∷ (front ++ letter ∷ [])) ∷ text ∷ words)
+    ≡ flags index front ++ item (Given (valued letter form)) (index + 1) text
+    ∷ items_from tool (ahead Any first) (index + 1 + 1) words
+value_words tool first index front letter form text words differs are role =
+    any_from tool first index (DASH ∷ (front ++ letter ∷ [])) (text ∷ words) _
+    (value_taken tool first index front letter form differs are role)
+    ∙ ap (λ xs. flags index front ++ xs)
+    (value_from tool first (index + 1) (valued letter form) text words)
 
-missing_words : (tool : Tool) (first : Bool) (index : ℕ) (front : List ℕ) (letter : ℕ) → AreAlone tool front → letter_of tool letter ≡ WithValue → items_from tool (ahead Any first) index ((DASH ∷ (front ++ letter ∷ [])) ∷ []) ≡ flags index front ++ wrong MissingValue index ∷ []
-missing_words tool first index front letter are role =
-    any_from tool first index (DASH ∷ (front ++ letter ∷ [])) [] _ (value_taken tool first index front letter are role)
-    ∙ ap (λ xs. flags index front ++ xs) (missing_from tool first index letter)
+missing_words : (tool : Tool) (first : Bool) (index : ℕ) (front : List ℕ) (letter : ℕ)
+    → (form : Form)
+    → DASH ∷ (front ++ letter ∷ []) ≢ END.now → AreAlone tool front
+    → takes_of tool letter ≡ Some (Value form)
+    → items_from tool (ahead Any first) index ((DASH ∷ (front ++ letter ∷ [])) ∷ [])
+    ≡ flags index front ++ wrong MissingValue index ∷ []
+missing_words tool first index front letter form differs are role =
+    any_from tool first index (DASH ∷ (front ++ letter ∷ [])) [] _
+    (value_taken tool first index front letter form differs are role)
+    ∙ ap (λ xs. flags index front ++ xs) (missing_from tool first index (valued letter form))
 
 options_words : (tool : Tool) (first : Bool) (index letter : ℕ) (letters : List ℕ) (words : List (List ℕ)) (items : List Item) → DASH ∷ letter ∷ letters ≢ END.now → AreLetters tool index (letter ∷ letters) items → items_from tool (ahead Any first) index ((DASH ∷ letter ∷ letters) ∷ words) ≡ items ++ items_from tool (ahead Any first) (index + 1) words
 options_words tool first index letter letters words items differs are =
@@ -172,10 +178,12 @@ complete tool _ _ _ _ (none first index) = none_words tool first index
 complete tool _ _ _ _ (options first index letter letters words items more differs are rest) =
     options_words tool first index letter letters words items differs are
     ∙ ap (λ xs. items ++ xs) (complete tool first (index + 1) words more rest)
-complete tool _ _ _ _ (value first index front letter text words more are role rest) =
-    value_words tool first index front letter text words are role
-    ∙ ap (λ xs. flags index front ++ item (Given letter) (index + 1) text ∷ xs) (complete tool first (index + 1 + 1) words more rest)
-complete tool _ _ _ _ (missing first index front letter are role) = missing_words tool first index front letter are role
+complete tool _ _ _ _ (value first index front letter form text words more differs are role rest) =
+    value_words tool first index front letter form text words differs are role
+    ∙ ap (λ xs. flags index front ++ item (Given (valued letter form)) (index + 1) text ∷ xs)
+    (complete tool first (index + 1 + 1) words more rest)
+complete tool _ _ _ _ (missing first index front letter form differs are role) =
+    missing_words tool first index front letter form differs are role
 complete tool _ _ _ _ (operand first index word words more f rest) =
     operand_words tool first index word words f
     ∙ ap (λ xs. item (operand_says tool first) index word ∷ xs) (complete tool false (index + 1) words more rest)
@@ -190,23 +198,23 @@ record Split (tool : Tool) (letters : List ℕ) : Type 0 where
   pub rest : List ℕ
   pub is : letters ≡ front ++ letter ∷ rest
   pub are : AreAlone tool front
-  pub stops : letter_of tool letter ≢ Alone
+  pub stops : takes_of tool letter ≢ Some Alone
 
-stop_here : (tool : Tool) (b : ℕ) (bs : List ℕ) → letter_of tool b ≢ Alone → Split tool (b ∷ bs)
+stop_here : (tool : Tool) (b : ℕ) (bs : List ℕ) → takes_of tool b ≢ Some Alone → Split tool (b ∷ bs)
 stop_here tool b bs stops = record { front = []; letter = b; rest = bs; is = refl; are = tt; stops = stops }
 
-stop_later : (tool : Tool) (b : ℕ) (bs : List ℕ) → letter_of tool b ≡ Alone → Split tool bs → Split tool (b ∷ bs)
+stop_later : (tool : Tool) (b : ℕ) (bs : List ℕ) → takes_of tool b ≡ Some Alone → Split tool bs → Split tool (b ∷ bs)
 stop_later tool b bs alone s = record { front = b ∷ s.front; letter = s.letter; rest = s.rest; is = ap (λ xs. b ∷ xs) s.is; are = (alone, s.are); stops = s.stops }
 
-differs_from : (x : Letter) → (x ≡ Alone) ⊎ (x ≢ Alone)
-differs_from Alone = inl refl
-differs_from WithValue = inr (λ e. cc)
-differs_from Unknown = inr (λ e. cc)
+differs_from : (x : Option Takes) → (x ≡ Some Alone) ⊎ (x ≢ Some Alone)
+differs_from (Some Alone) = inl refl
+differs_from (Some (Value form)) = inr (λ e. cc)
+differs_from None = inr (λ e. cc)
 
 split : (tool : Tool) (letters : List ℕ) → AreAlone tool letters ⊎ Split tool letters
 split tool [] = inl tt
 split tool (b ∷ bs) =
-    elim (differs_from (letter_of tool b)) [
+    elim (differs_from (takes_of tool b)) [
       | inr stops ↦ inr (stop_here tool b bs stops)
       | inl alone ↦ elim (split tool bs) [
         | inl are ↦ inl (alone, are)
@@ -238,24 +246,42 @@ module _ (tool : Tool) (first : Bool) (index : ℕ) (words : List (List ℕ)) (m
       subst (λ w. Sound tool first index (w ∷ words)) (sym e)
       (subst (AreWords tool first index (END.now ∷ words)) (sym (end_words tool first index words)) (end first index words))
 
-value_sound : (tool : Tool) (first : Bool) (index : ℕ) (words : List (List ℕ)) (front : List ℕ) (letter : ℕ) → Behind tool first index words → AreAlone tool front → letter_of tool letter ≡ WithValue → Sound tool first index ((DASH ∷ (front ++ letter ∷ [])) ∷ words)
-value_sound tool first index [] front letter next are role =
-    subst (AreWords tool first index ((DASH ∷ (front ++ letter ∷ [])) ∷ [])) (sym (missing_words tool first index front letter are role))
-    (missing first index front letter are role)
-value_sound tool first index (text ∷ words) front letter next are role =
-    subst (AreWords tool first index ((DASH ∷ (front ++ letter ∷ [])) ∷ text ∷ words)) (sym (value_words tool first index front letter text words are role))
-    (value first index front letter text words (items_from tool (ahead Any first) (index + 1 + 1) words) are role next)
+value_sound : (tool : Tool) (first : Bool) (index : ℕ) (words : List (List ℕ))
+    → (front : List ℕ) (letter : ℕ) (form : Form) → Behind tool first index words
+    → DASH ∷ (front ++ letter ∷ []) ≢ END.now → AreAlone tool front
+    → takes_of tool letter ≡ Some (Value form)
+    → Sound tool first index ((DASH ∷ (front ++ letter ∷ [])) ∷ words)
+value_sound tool first index [] front letter form next differs are role =
+    subst (AreWords tool first index ((DASH ∷ (front ++ letter ∷ [])) ∷ []))
+    (sym (missing_words tool first index front letter form differs are role))
+    (missing first index front letter form differs are role)
+value_sound tool first index (text ∷ words) front letter form next differs are role =
+    subst (AreWords tool first index ((DASH ∷ (front ++ letter ∷ [])) ∷ text ∷ words))
+    (sym (value_words tool first index front letter form text words differs are role))
+    (value first index front letter form text words
+    (items_from tool (ahead Any first) (index + 1 + 1) words) differs are role next)
 
-rest_sound : (tool : Tool) (first : Bool) (index : ℕ) (words : List (List ℕ)) (b : ℕ) (bs front : List ℕ) (letter : ℕ) (rest : List ℕ) (role : Letter) → ((c : Bool) → Sound tool c (index + 1) words) → Behind tool first index words → DASH ∷ b ∷ bs ≢ END.now → b ∷ bs ≡ front ++ letter ∷ rest → AreAlone tool front → letter_of tool letter ≡ role → role ≢ Alone → Sound tool first index ((DASH ∷ b ∷ bs) ∷ words)
-rest_sound tool first index words b bs front letter rest Alone more next differs is are e stops = absurd (stops refl)
-rest_sound tool first index words b bs front letter [] WithValue more next differs is are e stops =
-    subst (λ w. Sound tool first index ((DASH ∷ w) ∷ words)) (sym is) (value_sound tool first index words front letter next are e)
-rest_sound tool first index words b bs front letter (c ∷ cs) WithValue more next differs is are e stops =
+rest_sound : (tool : Tool) (first : Bool) (index : ℕ) (words : List (List ℕ)) (b : ℕ)
+    → (bs front : List ℕ) (letter : ℕ) (rest : List ℕ) (role : Option Takes)
+    → ((c : Bool) → Sound tool c (index + 1) words) → Behind tool first index words
+    → DASH ∷ b ∷ bs ≢ END.now → b ∷ bs ≡ front ++ letter ∷ rest → AreAlone tool front
+    → takes_of tool letter ≡ role → role ≢ Some Alone
+    → Sound tool first index ((DASH ∷ b ∷ bs) ∷ words)
+rest_sound tool first index words b bs front letter rest (Some Alone) more next differs is are e stops =
+    absurd (stops refl)
+rest_sound tool first index words b bs front letter [] (Some (Value form)) more next differs is are e stops =
+    subst (λ w. Sound tool first index ((DASH ∷ w) ∷ words)) (sym is)
+    (value_sound tool first index words front letter form next
+    (subst (λ w. DASH ∷ w ≢ END.now) is differs) are e)
+rest_sound tool first index words b bs front letter (c ∷ cs) (Some (Value form)) more next differs is are e stops =
     options_sound tool first index words more next b bs _ differs
-    (subst (λ w. AreLetters tool index w (flags index front ++ item (Given letter) index (c ∷ cs) ∷ [])) (sym is) (valued front letter (c ∷ cs) are e (omega arith)))
-rest_sound tool first index words b bs front letter rest Unknown more next differs is are e stops =
+    (subst (λ w. AreLetters tool index w
+    (flags index front ++ item (Given (valued letter form)) index (c ∷ cs) ∷ [])) (sym is)
+    (with_text front letter form (c ∷ cs) are e (omega arith)))
+rest_sound tool first index words b bs front letter rest None more next differs is are e stops =
     options_sound tool first index words more next b bs _ differs
-    (subst (λ w. AreLetters tool index w (flags index front ++ wrong UnknownOption index ∷ [])) (sym is) (unknown front letter rest are e))
+    (subst (λ w. AreLetters tool index w (flags index front ++ wrong UnknownOption index ∷ []))
+    (sym is) (unknown front letter rest are e))
 
 cluster_sound : (tool : Tool) (first : Bool) (index : ℕ) (words : List (List ℕ)) (word : List ℕ) → ((c : Bool) → Sound tool c (index + 1) words) → Behind tool first index words → word ≢ END.now → is_cluster word ≡ true → Sound tool first index (word ∷ words)
 cluster_sound tool first index words [] more next differs h = absurd (cc)
@@ -265,7 +291,7 @@ cluster_sound tool first index words (a ∷ b ∷ bs) more next differs h =
     let differs_too : DASH ∷ b ∷ bs ≢ END.now = λ e. differs (ap (λ x. x ∷ b ∷ bs) dash ∙ e) in
     subst (λ x. Sound tool first index ((x ∷ b ∷ bs) ∷ words)) (sym dash) (elim (split tool (b ∷ bs)) [
       | inl are ↦ options_sound tool first index words more next b bs (flags index (b ∷ bs)) differs_too (all_alone (b ∷ bs) are)
-      | inr s ↦ rest_sound tool first index words b bs s.front s.letter s.rest (letter_of tool s.letter) more next differs_too s.is s.are refl s.stops
+      | inr s ↦ rest_sound tool first index words b bs s.front s.letter s.rest (takes_of tool s.letter) more next differs_too s.is s.are refl s.stops
     ])
 
 word_sound : (tool : Tool) (first : Bool) (index : ℕ) (words : List (List ℕ)) (word : List ℕ) → ((c : Bool) → Sound tool c (index + 1) words) → Behind tool first index words → Sound tool first index (word ∷ words)
@@ -289,6 +315,9 @@ sound tool first index (word ∷ []) = word_sound tool first index [] word (λ c
 sound tool first index (word ∷ text ∷ words) =
     word_sound tool first index (text ∷ words) word (λ c. sound tool c (index + 1) (text ∷ words)) (sound tool first (index + 1 + 1) words)
 
-pub words_mean : (tool : Tool) (words : List (List ℕ)) (items : List Item) → (items_of tool words ≡ items) ↔ AreWords tool true 1 words items
-words_mean tool words items =
-    (λ read. subst (AreWords tool true 1 words) read (sound tool true 1 words), complete tool true 1 words items)
+pub words_mean : (tool : Tool) (index : ℕ) (words : List (List ℕ)) (items : List Item)
+    → (items_of tool index words ≡ items) ↔ AreWords tool true index words items
+words_mean tool index words items = (
+  λ read. subst (AreWords tool true index words) read (sound tool true index words),
+  complete tool true index words items,
+)

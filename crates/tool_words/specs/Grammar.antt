@@ -1,18 +1,18 @@
 -- The grammar of the words behind a tool's name, and what they say: the Utility Syntax Guidelines 3
 -- to 10 (POSIX, Base Definitions, 12.2), but that options and operands may be mixed.
-use Rattle.std.specs.Prelude.{◌≡◌, ◌≢◌, ℕ, ◌+◌, ◌<◌, Bool, false, List, [], ◌∷◌, ◌++◌, length, map}
+use Rattle.std.specs.Prelude.{◌≡◌, ◌≢◌, ℕ, ◌+◌, ◌<◌, Bool, false, List, [], ◌∷◌, ◌++◌, length, map, Some, None}
 use Rattle.std.specs.List.{AllByRecursion}
-use Rattle.tool_words.specs.Items.{Item, flag, is_cluster, item, operand_says, wrong}
-use Rattle.tool_words.specs.Tools.{letter_of}
+use Rattle.tool_words.specs.Items.{Item, flag, is_cluster, item, operand_says, valued, wrong}
+use Rattle.tool_words.specs.Tool.{Tool, takes_of}
 use Rattle.tool_words.specs.declared.cutting.TheConstants.{DASH, END}
 use Rattle.tool_words.specs.declared.item.Says.TheVariants.{Given}
-use Rattle.tool_words.specs.declared.tool.Letter.TheVariants.{Alone, WithValue, Unknown}
-use Rattle.tool_words.specs.declared.tool.Tool.{Tool}
+use Rattle.tool_words.specs.declared.letters.Form.{Form}
+use Rattle.tool_words.specs.declared.letters.Takes.TheVariants.{Flag as Alone, Value}
 use Rattle.tool_words.specs.declared.usage.UsageWhy.TheVariants.{MissingValue, UnknownOption}
 
 -- letters that stand alone, and what they say
 abbrev pub AreAlone : Tool → List ℕ → Type 0
-AreAlone tool letters = AllByRecursion (λ letter. letter_of tool letter ≡ Alone) letters
+AreAlone tool letters = AllByRecursion (λ letter. takes_of tool letter ≡ Some Alone) letters
 
 abbrev pub flags : ℕ → List ℕ → List Item
 flags index letters = map (λ letter. flag letter index) letters
@@ -23,15 +23,15 @@ pub data AreLetters (tool : Tool) (index : ℕ) : List ℕ → List Item → Typ
   all_alone : (front : List ℕ)
       → AreAlone tool front
       → AreLetters tool index front (flags index front)
-  valued : (front : List ℕ) (letter : ℕ) (text : List ℕ)
+  with_text : (front : List ℕ) (letter : ℕ) (form : Form) (text : List ℕ)
       → AreAlone tool front
-      → letter_of tool letter ≡ WithValue
+      → takes_of tool letter ≡ Some (Value form)
       → 0 < length text
       → AreLetters tool index (front ++ letter ∷ text)
-      (flags index front ++ item (Given letter) index text ∷ [])
+      (flags index front ++ item (Given (valued letter form)) index text ∷ [])
   unknown : (front : List ℕ) (letter : ℕ) (rest : List ℕ)
       → AreAlone tool front
-      → letter_of tool letter ≡ Unknown
+      → takes_of tool letter ≡ None
       → AreLetters tool index (front ++ letter ∷ rest)
       (flags index front ++ wrong UnknownOption index ∷ [])
 
@@ -51,16 +51,18 @@ pub data AreWords (tool : Tool) : Bool → ℕ → List (List ℕ) → List Item
       → AreLetters tool index (letter ∷ letters) items
       → AreWords tool first (index + 1) words more
       → AreWords tool first index ((DASH ∷ letter ∷ letters) ∷ words) (items ++ more)
-  value : (first : Bool) (index : ℕ) (front : List ℕ) (letter : ℕ) (text : List ℕ)
-      → (words : List (List ℕ)) (more : List Item)
+  value : (first : Bool) (index : ℕ) (front : List ℕ) (letter : ℕ) (form : Form)
+      → (text : List ℕ) (words : List (List ℕ)) (more : List Item)
+      → DASH ∷ (front ++ letter ∷ []) ≢ END.now
       → AreAlone tool front
-      → letter_of tool letter ≡ WithValue
+      → takes_of tool letter ≡ Some (Value form)
       → AreWords tool first (index + 1 + 1) words more
       → AreWords tool first index ((DASH ∷ (front ++ letter ∷ [])) ∷ text ∷ words)
-      (flags index front ++ item (Given letter) (index + 1) text ∷ more)
-  missing : (first : Bool) (index : ℕ) (front : List ℕ) (letter : ℕ)
+      (flags index front ++ item (Given (valued letter form)) (index + 1) text ∷ more)
+  missing : (first : Bool) (index : ℕ) (front : List ℕ) (letter : ℕ) (form : Form)
+      → DASH ∷ (front ++ letter ∷ []) ≢ END.now
       → AreAlone tool front
-      → letter_of tool letter ≡ WithValue
+      → takes_of tool letter ≡ Some (Value form)
       → AreWords tool first index ((DASH ∷ (front ++ letter ∷ [])) ∷ [])
       (flags index front ++ wrong MissingValue index ∷ [])
   operand : (first : Bool) (index : ℕ) (word : List ℕ) (words : List (List ℕ)) (more : List Item)

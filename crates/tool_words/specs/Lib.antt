@@ -1,6 +1,6 @@
 pub mod Grammar
 pub mod Items
 pub mod Refusals
-pub mod Tools
+pub mod Tool
 pub mod Values
 pub mod Words

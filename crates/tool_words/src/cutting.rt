@@ -1,12 +1,11 @@
-ghost use Rattle.std.specs.Prelude.{◌≡◌, ◌∷◌, ◌++◌, ◌<◌, ◌^◌, [], drop, get_or, length, IfOk, OnOk};
-ghost use Rattle.tool_words.specs.Items.{any_taken, ahead, is_cluster, item, items_of, letters_say, operand_says, operand_taken, taken, unended, valued_says, wrong};
+ghost use Rattle.std.specs.Prelude.{◌≡◌, ◌∷◌, ◌++◌, ◌+◌, ◌<◌, ◌^◌, [], drop, get_or, length, IfOk, OnOk};
+ghost use Rattle.tool_words.specs.Items.{any_taken, ahead, is_cluster, item, items_of, letters_say, operand_says, operand_taken, other_says, taken, unended, valued_says, wrong};
 ghost use Rattle.tool_words.specs.declared.cutting.Expects.TheVariants.{Any};
 ghost use Rattle.tool_words.specs.declared.item.Says.TheVariants.{Given};
 ghost use Rattle.tool_words.specs.Words.{word_texts};
 
 use crate::item::{Item, Says};
-use crate::letters::{BASE, COUNT};
-use crate::tool::{Letter, Tool, letter_of};
+use crate::letters::{Others, Takes, ToolLetters, Valued, takes_of};
 use crate::usage::UsageWhy;
 use label_base::{OutOfMemory, Row};
 use std::alloc::Global;
@@ -23,7 +22,7 @@ pub enum Expects {
     /// Options, the end of the options, or an operand.
     Any,
     /// The value of this letter, whatever the word begins with.
-    ValueOf(u8),
+    ValueOf(Valued),
     /// An operand, since the options have ended.
     Operands,
 }
@@ -72,39 +71,41 @@ fn behind_first(text: &str) -> &str
 
 // Adds the value of a letter where it stands behind the letter, or expects it of the next word.
 fn add_valued<'a>(
-    letter: u8,
+    valued: Valued,
     index: u32,
     rest: &'a str,
     items: &mut Row<Item<'a>>,
 ) -> Result<Expects, OutOfMemory>
-    ensures expects { IfOk result (λ expects. expects ≡ (valued_says index letter rest.now).1) }
-    ensures items { OnOk result (items.new ≡ items.old ++ (valued_says index letter rest.now).0) }
+    ensures expects { IfOk result (λ expects. expects ≡ (valued_says index valued rest.now).1) }
+    ensures items { OnOk result (items.new ≡ items.old ++ (valued_says index valued rest.now).0) }
 {
     if rest.len() == 0 {
-        return Ok(Expects::ValueOf(letter));
+        return Ok(Expects::ValueOf(valued));
     }
-    add(Says::Given(letter), index, rest, items)?;
+    add(Says::Given(valued), index, rest, items)?;
     Ok(Expects::Any)
 }
 
 // Adds what the letters of a word say, and tells what they expect of the next word.
 fn add_letters<'a>(
-    tool: Tool,
+    tool: &ToolLetters<'_>,
     index: u32,
     letters: &'a str,
     items: &mut Row<Item<'a>>,
 ) -> Result<Expects, OutOfMemory>
-    ensures expects { IfOk result (λ expects. expects ≡ (letters_say tool index letters.now).1) }
+    ensures expects { IfOk result (λ expects. expects ≡ (letters_say tool.now index letters.now).1) }
     ensures items { OnOk result
-        (items.new ≡ items.old ++ (letters_say tool index letters.now).0) }
+        (items.new ≡ items.old ++ (letters_say tool.now index letters.now).0) }
 {
     let mut left = letters;
     'letters: while left.len() > 0 {
         let letter = first_byte(left);
-        match letter_of(tool, letter) {
-            Letter::Alone => add(Says::Flag(letter), index, "", items)?,
-            Letter::WithValue => return add_valued(letter, index, behind_first(left), items),
-            Letter::Unknown => return add_refused(UsageWhy::UnknownOption, index, items),
+        match takes_of(tool, letter) {
+            Some(Takes::Flag) => add(Says::Flag(letter), index, "", items)?,
+            Some(Takes::Value(form)) => {
+                return add_valued(Valued { letter, form }, index, behind_first(left), items);
+            }
+            None => return add_refused(UsageWhy::UnknownOption, index, items),
         }
         left = behind_first(left);
     }
@@ -133,30 +134,40 @@ fn is_cluster(word: &str) -> bool
     }
 }
 
-// What an operand says: the first of setfiles names the file of specifications, and sample has one
-// alone, a number.
-fn operand_says(tool: Tool, first: bool) -> Says
-    ensures { result ≡ operand_says tool first }
+// What an operand behind the first says.
+fn other_says(others: Others) -> Says
+    ensures { result ≡ other_says others }
 {
-    match tool {
-        Tool::Setfiles if first => Says::Given(BASE),
-        Tool::Sample if first => Says::Given(COUNT),
-        Tool::Sample => Says::Wrong(UsageWhy::BadNumber),
-        Tool::Setfiles | Tool::Restorecon | Tool::Matchpathcon => Says::Operand,
+    match others {
+        Others::Paths => Says::Operand,
+        Others::Refused(why) => Says::Wrong(why),
+    }
+}
+
+// What an operand says, the first one or a later.
+fn operand_says(tool: &ToolLetters<'_>, first: bool) -> Says
+    ensures { result ≡ operand_says tool.now first }
+{
+    if !first {
+        return other_says(tool.others);
+    }
+    match tool.first {
+        Some(valued) => Says::Given(valued),
+        None => other_says(tool.others),
     }
 }
 
 fn add_operand<'a>(
-    tool: Tool,
+    tool: &ToolLetters<'_>,
     ahead: Ahead,
     index: u32,
     word: &'a str,
     items: &mut Row<Item<'a>>,
 ) -> Result<Ahead, OutOfMemory>
     ensures ahead { IfOk result (λ next.
-        next ≡ (operand_taken tool ahead.expects ahead.first index word.now).1) }
+        next ≡ (operand_taken tool.now ahead.expects ahead.first index word.now).1) }
     ensures items { OnOk result
-        (items.new ≡ items.old ++ (operand_taken tool ahead.expects ahead.first index word.now).0) }
+        (items.new ≡ items.old ++ (operand_taken tool.now ahead.expects ahead.first index word.now).0) }
 {
     add(operand_says(tool, ahead.first), index, word, items)?;
     Ok(Ahead {
@@ -168,15 +179,15 @@ fn add_operand<'a>(
 // Adds what a word says that may be one of options.
 #[tactic(auto, unfolding(crate::specs::Items::any_taken))]
 fn add_any<'a>(
-    tool: Tool,
+    tool: &ToolLetters<'_>,
     first: bool,
     index: u32,
     word: &'a str,
     items: &mut Row<Item<'a>>,
 ) -> Result<Ahead, OutOfMemory>
-    ensures ahead { IfOk result (λ next. next ≡ (any_taken tool first index word.now).1) }
+    ensures ahead { IfOk result (λ next. next ≡ (any_taken tool.now first index word.now).1) }
     ensures items { OnOk result
-        (items.new ≡ items.old ++ (any_taken tool first index word.now).0) }
+        (items.new ≡ items.old ++ (any_taken tool.now first index word.now).0) }
 {
     if word == END {
         return Ok(Ahead {
@@ -197,33 +208,33 @@ fn add_any<'a>(
 
 // Adds what a word says, and tells what is ahead of the next one.
 fn add_word<'a>(
-    tool: Tool,
+    tool: &ToolLetters<'_>,
     ahead: Ahead,
     index: u32,
     word: &'a str,
     items: &mut Row<Item<'a>>,
 ) -> Result<Ahead, OutOfMemory>
-    ensures ahead { IfOk result (λ next. next ≡ (taken tool ahead index word.now).1) }
-    ensures items { OnOk result (items.new ≡ items.old ++ (taken tool ahead index word.now).0) }
+    ensures ahead { IfOk result (λ next. next ≡ (taken tool.now ahead index word.now).1) }
+    ensures items { OnOk result (items.new ≡ items.old ++ (taken tool.now ahead index word.now).0) }
 {
     match ahead.expects {
         Expects::Any => add_any(tool, ahead.first, index, word, items),
-        Expects::ValueOf(letter) => add_value(letter, ahead.first, index, word, items),
+        Expects::ValueOf(valued) => add_value(valued, ahead.first, index, word, items),
         Expects::Operands => add_operand(tool, ahead, index, word, items),
     }
 }
 
 fn add_value<'a>(
-    letter: u8,
+    valued: Valued,
     first: bool,
     index: u32,
     word: &'a str,
     items: &mut Row<Item<'a>>,
 ) -> Result<Ahead, OutOfMemory>
     ensures ahead { IfOk result (λ next. next ≡ ahead Any first) }
-    ensures items { OnOk result (items.new ≡ items.old ++ item (Given letter) index word.now ∷ []) }
+    ensures items { OnOk result (items.new ≡ items.old ++ item (Given valued) index word.now ∷ []) }
 {
-    add(Says::Given(letter), index, word, items)?;
+    add(Says::Given(valued), index, word, items)?;
     Ok(Ahead {
         expects: Expects::Any,
         first,
@@ -244,22 +255,23 @@ fn add_unended<'a>(
     }
 }
 
-/// What the words behind the tool's name say, one thing at a time.
+/// What the words behind a tool's name say, one thing at a time; the first has this index.
 #[tactic(auto, unfolding(crate::specs::Items::items_from))]
 pub fn items_of<'a>(
     alloc: Global,
-    tool: Tool,
+    tool: &ToolLetters<'_>,
     words: &'a [String],
+    first: u32,
 ) -> Result<Row<Item<'a>>, OutOfMemory>
-    requires { length words.now < 2 ^ 31 }
-    ensures { IfOk result (λ items. items ≡ items_of tool (word_texts words.now)) }
+    requires { length words.now + first < 2 ^ 31 }
+    ensures { IfOk result (λ items. items ≡ items_of tool.now first (word_texts words.now)) }
 {
     let mut items = Row::new(alloc);
     let mut ahead = Ahead {
         expects: Expects::Any,
         first: true,
     };
-    let mut index = 1;
+    let mut index = first;
     'words: for word in words {
         ahead = add_word(tool, ahead, index, word.as_str(), &mut items)?;
         index += 1;

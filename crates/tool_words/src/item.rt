@@ -1,13 +1,14 @@
+use crate::letters::Valued;
 use crate::usage::UsageWhy;
 use std::marker::Model;
 
 /// What a letter, or a word that isn't among the options, says.
-#[derive(Clone, Copy)]
+#[derive(Clone, Copy, Debug)]
 pub enum Says {
     /// This letter stands there, and takes no value.
     Flag(u8),
     /// The text is the value of this letter.
-    Given(u8),
+    Given(Valued),
     /// The text is an operand.
     Operand,
     /// Something is wrong, whatever stands elsewhere.
@@ -15,7 +16,7 @@ pub enum Says {
 }
 
 /// What the words say, one thing at a time.
-#[derive(Drop)]
+#[derive(Debug, Drop)]
 pub struct Item<'a> {
     pub says: Says,
     /// The index of the word in which it stands.

@@ -1,69 +1,92 @@
-// The letters of setfiles(8) and restorecon(8).
+ghost use Rattle.std.specs.Prelude.{◌≡◌};
+ghost use Rattle.tool_words.specs.Tool.{row_takes, takes_of};
 
-/// Errors of the walk end the run with status 1.
-pub const SOFT_ERRORS: u8 = b'C';
+use crate::usage::UsageWhy;
+use std::marker::Model;
 
-/// Stored digests are used, and digests are made anew.
-pub const DIGESTS: u8 = b'D';
+/// What the value of a letter is.
+#[derive(Clone, Copy, Debug, PartialEq, Eq)]
+pub enum Form {
+    /// A decimal number up to this one.
+    Number { most: u32 },
+    /// An absolute path.
+    Path,
+    /// The name of a file, which isn't empty.
+    Name,
+    /// A type of files, as matchpathcon(8) names it.
+    Kind,
+}
 
-/// Stored digests are not used, and digests are made anew.
-pub const IGNORE_DIGESTS: u8 = b'I';
+/// What a letter takes.
+#[derive(Clone, Copy, Debug, PartialEq, Eq)]
+pub enum Takes {
+    /// Nothing: it stands alone.
+    Flag,
+    /// A value of this form.
+    Value(Form),
+}
 
-/// Conflicting hard links are errors.
-pub const STRICT_LINKS: u8 = b'E';
+/// A row of a tool's table: an option.
+#[derive(Clone, Copy, Debug, PartialEq, Eq)]
+pub struct Letter {
+    /// A byte of ASCII; another is never found.
+    pub letter: u8,
+    pub takes: Takes,
+}
 
-/// The whole context is given, and customizable types give way.
-pub const FORCE: u8 = b'F';
+/// A letter with a value.
+#[derive(Clone, Copy, Debug, PartialEq, Eq)]
+pub struct Valued {
+    pub letter: u8,
+    pub form: Form,
+}
 
-/// What lies below the operands is meant too.
-pub const RECURSE: u8 = b'R';
+/// What the operands of a tool are.
+#[derive(Clone, Copy, Debug, PartialEq, Eq)]
+pub enum Others {
+    /// Absolute paths.
+    Paths,
+    /// Nothing that the tool takes: refused for this reason.
+    Refused(UsageWhy),
+}
 
-/// The same.
-pub const RECURSE_TOO: u8 = b'r';
+/// The letters of a tool, and its operands.
+#[derive(Debug, Drop)]
+pub struct ToolLetters<'t> {
+    /// The options. A letter without a row is refused; of several rows the first counts.
+    pub letters: &'t [Letter],
+    /// The letter whose value the first operand is, where it is none of the others.
+    pub first: Option<Valued>,
+    pub others: Others,
+}
 
-/// Specifications that decide nothing are told.
-pub const WARN_UNMATCHED: u8 = b'W';
+impl<'t> Model for ToolLetters<'t> {
+    ghost use Rattle.tool_words.specs.Tool.{Tool};
 
-/// Operands without an entry are passed over.
-pub const IGNORE_ABSENT: u8 = b'i';
+    ghost Value = { Tool };
 
-/// Nothing is changed.
-pub const DRY: u8 = b'n';
+    ghost view = { λ t. record { letters = t.letters.now; first = t.first; others = t.others } };
+}
 
-/// What changes is told.
-pub const VERBOSE: u8 = b'v';
+fn row_takes(rows: &[Letter], letter: u8) -> Option<Takes>
+    ensures { result ≡ row_takes rows.now letter }
+{
+    'rows: for row in rows {
+        if row.letter == letter {
+            return Some(row.takes);
+        }
+    }
+    None
+}
 
-/// An operand's device isn't left.
-pub const ONE_DEVICE: u8 = b'x';
-
-/// A path that is left out, with all below it.
-pub const EXCLUDED: u8 = b'e';
-
-/// The number of workers.
-pub const WORKERS: u8 = b'T';
-
-/// The file of stored digests.
-pub const KEPT: u8 = b'K';
-
-/// The file that gets the dump.
-pub const OUTPUT: u8 = b'o';
-
-/// The file of specifications.
-pub const BASE: u8 = b'S';
-
-// The letters of matchpathcon(8); one more, `N`, does nothing.
-
-/// The file of specifications.
-pub const LOOKUP_BASE: u8 = b'f';
-
-/// The type of files.
-pub const ASKED: u8 = b'm';
-
-/// The paths are told without themselves.
-pub const BARE: u8 = b'n';
-
-/// What the paths have is compared to what they should have.
-pub const VERIFY: u8 = b'V';
-
-/// The number of files of sample. It is no option: sample's one operand counts as its value.
-pub const COUNT: u8 = b'N';
+/// What a letter takes, and nothing where it is no option of the tool.
+#[tactic(auto, unfolding(crate::specs::Tool::takes_of))]
+pub fn takes_of(tool: &ToolLetters<'_>, letter: u8) -> Option<Takes>
+    ensures value { result ≡ takes_of tool.now letter }
+{
+    if letter < 128 {
+        row_takes(tool.letters, letter)
+    } else {
+        None
+    }
+}

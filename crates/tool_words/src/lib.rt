@@ -1,24 +1,25 @@
-//! The words of the tools setfiles, restorecon and matchpathcon, as their manual pages have them,
-//! and of sample: which letters and operands a tool takes, and what they ask for.
+//! The words of a tool, by the table of its letters and operands: what they say, and what is wrong
+//! with them. No tool is known here.
 #![tactic(auto)]
 
-mod asked;
-mod command;
+mod checks;
 mod cutting;
-mod faults;
 mod item;
 mod laws;
 mod letters;
+mod lists;
 mod reading;
-mod tool;
+mod said;
 mod usage;
 mod values;
 
-pub use command::{Command, LookupWords, RelabelWords};
+pub use item::Item;
 pub use laws::{refused_where_wrong, words_follow_grammar};
-pub use reading::read_words;
+pub use letters::{Form, Letter, Others, Takes, ToolLetters, Valued};
+pub use lists::{names_of, operands, paths_given};
+pub use reading::read_items;
+pub use said::{has_flag, has_operand, has_value, kind_of, name_of, number_of, value_of};
 pub use usage::{Usage, UsageWhy};
-pub use values::{MOST_FILES, MOST_WORKERS};
 
 #[cfg(test)]
 mod tests;

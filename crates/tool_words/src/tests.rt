@@ -1,11 +1,73 @@
-use crate::command::{Command, LookupWords, RelabelWords};
+use crate::item::Item;
 use crate::laws::{refused_where_wrong, words_follow_grammar};
-use crate::reading::read_words;
+use crate::letters::{Form, Letter, Others, Takes, ToolLetters, Valued};
+use crate::lists::{names_of, operands, paths_given};
+use crate::reading::read_items;
+use crate::said::{has_flag, has_operand, has_value, kind_of, name_of, number_of, value_of};
 use crate::usage::{Usage, UsageWhy};
 use file_paths::NormPath;
 use label_base::{EntryKind, Fault, Name, OutOfMemory, Row};
 use std::alloc::Global;
-use std::test::Fail;
+
+const LETTERS: &[Letter] = &[
+    Letter {
+        letter: b'n',
+        takes: Takes::Flag,
+    },
+    Letter {
+        letter: b'v',
+        takes: Takes::Flag,
+    },
+    Letter {
+        letter: b'T',
+        takes: Takes::Value(Form::Number { most: 64 }),
+    },
+    Letter {
+        letter: b'e',
+        takes: Takes::Value(Form::Path),
+    },
+    Letter {
+        letter: b'o',
+        takes: Takes::Value(Form::Name),
+    },
+    Letter {
+        letter: b'm',
+        takes: Takes::Value(Form::Kind),
+    },
+];
+
+// The words of a tool whose first operand is the name of a file, and whose others are paths.
+fn with_file() -> ToolLetters<'static> {
+    ToolLetters {
+        letters: LETTERS,
+        first: Some(Valued {
+            letter: b'S',
+            form: Form::Name,
+        }),
+        others: Others::Paths,
+    }
+}
+
+// Those of a tool with paths alone.
+fn with_paths() -> ToolLetters<'static> {
+    ToolLetters {
+        letters: LETTERS,
+        first: None,
+        others: Others::Paths,
+    }
+}
+
+// Those of a tool with one operand, a number.
+fn with_number() -> ToolLetters<'static> {
+    ToolLetters {
+        letters: &[],
+        first: Some(Valued {
+            letter: b'N',
+            form: Form::Number { most: 1_000_000 },
+        }),
+        others: Others::Refused(UsageWhy::BadNumber),
+    }
+}
 
 fn words_of(alloc: Global, words: &[&str]) -> Result<Vec<String>, OutOfMemory> {
     let mut made = Vec::new(alloc);
@@ -15,115 +77,46 @@ fn words_of(alloc: Global, words: &[&str]) -> Result<Vec<String>, OutOfMemory> {
     Ok(made)
 }
 
-fn read(alloc: Global, words: &[&str]) -> Result<Command, Fault<Usage>> {
-    let words = words_of(alloc, words)?;
-    if words.len() >= 1 << 31 {
+fn read<'a>(
+    alloc: Global,
+    tool: &ToolLetters<'_>,
+    words: &'a [String],
+) -> Result<Row<Item<'a>>, Fault<Usage>> {
+    if words.len() >= 1 << 30 {
         return Err(Fault::OutOfMemory);
     }
-    refused_where_wrong(words.as_slice());
-    words_follow_grammar(words.as_slice());
-    read_words(alloc, words.as_slice())
+    refused_where_wrong(words);
+    words_follow_grammar(words);
+    read_items(alloc, tool, words, 1)
 }
 
-fn relabel(alloc: Global, words: &[&str]) -> Result<RelabelWords, OutOfMemory> {
-    match read(alloc, words) {
-        Ok(Command::Relabel(asked)) => Ok(asked),
-        _ => Err(OutOfMemory),
-    }
-}
-
-fn lookup(alloc: Global, words: &[&str]) -> Result<LookupWords, OutOfMemory> {
-    match read(alloc, words) {
-        Ok(Command::Lookup(asked)) => Ok(asked),
-        _ => Err(OutOfMemory),
-    }
-}
-
-fn refused(alloc: Global, words: &[&str]) -> Option<(u32, UsageWhy)> {
-    match read(alloc, words) {
+// The index and the reason of the first wrong word.
+fn refused(alloc: Global, tool: &ToolLetters<'_>, words: &[&str]) -> Option<(u32, UsageWhy)> {
+    let words = words_of(alloc, words).ok()?;
+    match read(alloc, tool, words.as_slice()) {
         Err(Fault::Why(wrong)) => Some((wrong.index, wrong.why)),
         _ => None,
     }
 }
 
-// Whether words are refused for this reason at this word.
-fn is_refused(alloc: Global, words: &[&str], index: u32, why: UsageWhy) -> bool {
-    refused(alloc, words) == Some((index, why))
-}
-
 #[test]
-fn no_tool(rt: HostRuntime) {
-    for words in [
-        [].as_slice(),
-        &["samples", "7"],
-        &["setfile", "-n", "fc", "/"],
-        &["-n", "setfiles"],
-        &[""],
-    ] {
-        assert_eq!(rt;
-            refused(rt.alloc(), words),
-            Some((0, UsageWhy::UnknownTool))
-        );
-    }
-}
-
-// The number of files that a sample is asked for.
-fn sample(alloc: Global, words: &[&str]) -> Option<u32> {
-    match read(alloc, words) {
-        Ok(Command::Sample(count)) => Some(count),
-        _ => None,
-    }
-}
-
-#[test]
-fn samples(rt: HostRuntime) {
-    for (words, count) in [
-        (["sample", "7"].as_slice(), 7),
-        (&["sample", "--", "007"], 7),
-        (&["sample", "0", "--"], 0),
-        (&["sample", "1000000"], 1_000_000),
-    ] {
-        assert_eq!(rt; sample(rt.alloc(), words), Some(count));
-    }
-}
-
-#[test]
-fn wrong_samples(rt: HostRuntime) {
-    for (words, index, why) in [
-        (["sample"].as_slice(), 1, UsageWhy::MissingOperand),
-        (&["sample", "--"], 2, UsageWhy::MissingOperand),
-        (&["sample", "1000001"], 1, UsageWhy::BadNumber),
-        (&["sample", "--", "-7"], 2, UsageWhy::BadNumber),
-        (&["sample", "7", "8"], 2, UsageWhy::BadNumber),
-        (&["sample", "x", "-n"], 1, UsageWhy::BadNumber),
-        (&["sample", "-n", "7"], 1, UsageWhy::UnknownOption),
-    ] {
-        assert!(rt; is_refused(rt.alloc(), words, index, why), "at {index}");
-    }
-}
-
-#[test]
-fn wrong_options(rt: HostRuntime) {
+fn wrong_letters(rt: HostRuntime) {
     for (words, index, why) in [
         (
-            ["setfiles", "-n", "-q", "fc", "/"].as_slice(),
+            ["-n", "-q", "fc", "/"].as_slice(),
             2,
             UsageWhy::UnknownOption,
         ),
-        (&["setfiles", "-R", "fc", "/"], 1, UsageWhy::UnknownOption),
-        (&["restorecon", "-nf", "/"], 1, UsageWhy::UnknownOption),
-        (&["matchpathcon", "-v", "/"], 1, UsageWhy::UnknownOption),
-        (&["matchpathcon", "/", "-D"], 2, UsageWhy::UnknownOption),
-        (
-            &["setfiles", "--dry", "fc", "/"],
-            1,
-            UsageWhy::UnknownOption,
-        ),
-        (&["restorecon", "-R\u{e9}", "/"], 1, UsageWhy::UnknownOption),
-        (&["restorecon", "-n", "-T"], 2, UsageWhy::MissingValue),
-        (&["matchpathcon", "/", "-nm"], 2, UsageWhy::MissingValue),
+        (&["-nf", "/"], 1, UsageWhy::UnknownOption),
+        (&["--dry", "fc", "/"], 1, UsageWhy::UnknownOption),
+        (&["-n\u{e9}", "/"], 1, UsageWhy::UnknownOption),
+        (&["-n", "-T"], 2, UsageWhy::MissingValue),
+        (&["fc", "-nm"], 2, UsageWhy::MissingValue),
     ] {
-        assert!(rt; is_refused(rt.alloc(), words, index, why), "at {index}");
+        assert_eq!(rt;
+            refused(rt.alloc(), &with_file(), words),
+            Some((index, why))
+        );
     }
 }
 
@@ -131,182 +124,152 @@ fn wrong_options(rt: HostRuntime) {
 fn wrong_values(rt: HostRuntime) {
     for (words, index, why) in [
         (
-            ["setfiles", "-n", "-T", "65", "fc", "/"].as_slice(),
+            ["-n", "-T", "65", "fc", "/"].as_slice(),
             3,
             UsageWhy::BadNumber,
         ),
-        (&["setfiles", "-nT65", "fc", "/"], 1, UsageWhy::BadNumber),
-        (
-            &["setfiles", "-T", "2x", "-T", "2", "fc", "/"],
-            2,
-            UsageWhy::BadNumber,
-        ),
-        (
-            &["setfiles", "-n", "-T", "", "fc", "/"],
-            3,
-            UsageWhy::BadNumber,
-        ),
-        (
-            &["restorecon", "-e", "srv", "-T", "65", "/"],
-            2,
-            UsageWhy::BadPath,
-        ),
-        (&["restorecon", "-o", "", "/"], 2, UsageWhy::BadPath),
-        (&["restorecon", "-K", "--", "-nS", ""], 4, UsageWhy::BadPath),
-        (&["setfiles", "", "/"], 1, UsageWhy::BadPath),
-        (
-            &["setfiles", "-n", "fc", "/a", "b", "/.."],
-            4,
-            UsageWhy::BadPath,
-        ),
-        (&["restorecon", "-n", "--", "-v"], 3, UsageWhy::BadPath),
-        (
-            &["restorecon", "-n", "--", "--", "-q"],
-            3,
-            UsageWhy::BadPath,
-        ),
-        (&["restorecon", "-n", "-"], 2, UsageWhy::BadPath),
-        (
-            &["matchpathcon", "-m", "fifo_file", "/"],
-            2,
-            UsageWhy::BadKind,
-        ),
-        (&["matchpathcon", "-f", "", "-q", "/"], 2, UsageWhy::BadPath),
-    ] {
-        assert!(rt; is_refused(rt.alloc(), words, index, why), "at {index}");
-    }
-}
-
-#[test]
-fn wrong_ends(rt: HostRuntime) {
-    for (words, index, why) in [
-        (
-            ["setfiles", "-n", "fc"].as_slice(),
-            3,
-            UsageWhy::MissingOperand,
-        ),
-        (&["setfiles"], 1, UsageWhy::MissingOperand),
-        (&["setfiles", "fc", "/"], 3, UsageWhy::NoOutput),
-        (&["restorecon", "-R", "/"], 3, UsageWhy::NoOutput),
-        (&["restorecon", "-R", "--"], 3, UsageWhy::MissingOperand),
-        (&["matchpathcon", "-nV"], 2, UsageWhy::MissingOperand),
-    ] {
-        assert!(rt; is_refused(rt.alloc(), words, index, why), "at {index}");
-    }
-}
-
-fn bit(set: bool, value: u32) -> u32 {
-    if set { value } else { 0 }
-}
-
-// The flags D, I, C, E, F, R, W, i, n, v and x, as digits in this order.
-fn flags(asked: &RelabelWords) -> u32 {
-    let options = &asked.options;
-    bit(options.digests, 0b100_0000_0000)
-        | bit(options.ignore_digests, 0b10_0000_0000)
-        | bit(asked.soft_errors, 0b1_0000_0000)
-        | bit(options.strict_links, 0b1000_0000)
-        | bit(options.force, 0b100_0000)
-        | bit(asked.choice.recurse, 0b10_0000)
-        | bit(options.warn_unmatched, 0b1_0000)
-        | bit(options.ignore_absent, 0b1000)
-        | bit(options.dry, 0b100)
-        | bit(options.verbose, 0b10)
-        | bit(asked.choice.one_device, 0b1)
-}
-
-fn flags_by(alloc: Global, words: &[&str]) -> Result<u32, OutOfMemory> {
-    Ok(flags(&relabel(alloc, words)?))
-}
-
-#[test]
-fn flags_of_restorecon(rt: HostRuntime) -> Result<(), Fail> {
-    for (word, told) in [
-        ("-D", 0b100_0000_0000),
-        ("-I", 0b10_0000_0000),
-        ("-C", 0b1_0000_0000),
-        ("-E", 0b1000_0000),
-        ("-F", 0b100_0000),
-        ("-R", 0b10_0000),
-        ("-r", 0b10_0000),
-        ("-W", 0b1_0000),
-        ("-i", 0b1000),
-        ("-n", 0b100),
-        ("-v", 0b10),
-        ("-x", 0b1),
+        (&["-nT65", "fc", "/"], 1, UsageWhy::BadNumber),
+        (&["-T", "2x", "-T", "2", "fc", "/"], 2, UsageWhy::BadNumber),
+        (&["-n", "-T", "", "fc", "/"], 3, UsageWhy::BadNumber),
+        (&["-e", "srv", "-T", "65", "/"], 2, UsageWhy::BadPath),
+        (&["-o", "", "fc", "/"], 2, UsageWhy::BadPath),
+        (&["", "/"], 1, UsageWhy::BadPath),
+        (&["-n", "fc", "/a", "b", "/.."], 4, UsageWhy::BadPath),
+        (&["-n", "fc", "--", "-v"], 4, UsageWhy::BadPath),
+        (&["fc", "--", "--", "-q"], 3, UsageWhy::BadPath),
+        (&["fc", "-"], 2, UsageWhy::BadPath),
+        (&["-m", "fifo_file", "fc", "/"], 2, UsageWhy::BadKind),
     ] {
         assert_eq!(rt;
-            flags_by(rt.alloc(), &["restorecon", "-o", "out", word, "/"])?,
-            told
+            refused(rt.alloc(), &with_file(), words),
+            Some((index, why))
         );
     }
-    Ok(())
-}
-
-fn is_name(name: &Option<Name>, text: &str) -> bool {
-    match name {
-        Some(name) => name.as_str() == text,
-        None => text.is_empty(),
-    }
-}
-
-fn are_names(asked: &RelabelWords, base: &str, kept: &str, output: &str) -> bool {
-    asked.base.as_str() == base && is_name(&asked.kept, kept) && is_name(&asked.output, output)
 }
 
 #[test]
-fn names_of_files(rt: HostRuntime) -> Result<(), Fail> {
-    for (words, base, kept, output) in [
-        (["setfiles", "-n", "fc", "/"].as_slice(), "fc", "", ""),
-        (&["setfiles", "-n", "--", "--", "/"], "--", "", ""),
-        (
-            &["restorecon", "-n", "/"],
-            "/etc/selinux/targeted/contexts/files/file_contexts",
-            "",
-            "",
-        ),
-        (
-            &["restorecon", "-Sfc", "-K", "k", "-o", "out", "/srv/b"],
-            "fc",
-            "k",
-            "out",
-        ),
-        (
-            &[
-                "restorecon",
-                "-S",
-                "a",
-                "-o1",
-                "-K--",
-                "-S",
-                "-b",
-                "-o",
-                "2",
-                "/",
-            ],
-            "-b",
-            "--",
-            "2",
-        ),
-        (&["setfiles", "-no", "out", "/x", "/"], "/x", "", "out"),
+fn wrong_operands(rt: HostRuntime) {
+    for (words, index, why) in [
+        (["1000001"].as_slice(), 1, UsageWhy::BadNumber),
+        (&["--", "-7"], 2, UsageWhy::BadNumber),
+        (&["7", "8"], 2, UsageWhy::BadNumber),
+        (&["x", "-n"], 1, UsageWhy::BadNumber),
+        (&["-n", "7"], 1, UsageWhy::UnknownOption),
     ] {
-        let asked = relabel(rt.alloc(), words)?;
-        assert!(rt; are_names(&asked, base, kept, output));
+        assert_eq!(rt;
+            refused(rt.alloc(), &with_number(), words),
+            Some((index, why))
+        );
     }
-    Ok(())
+}
+
+// The flags n and v, the value of T, the number of operands, as digits.
+fn digits(alloc: Global, words: &[&str]) -> Option<(bool, bool, Option<u32>)> {
+    let words = words_of(alloc, words).ok()?;
+    let items = read(alloc, &with_paths(), words.as_slice()).ok()?;
+    let items = items.as_slice();
+    Some((
+        has_flag(b'n', items),
+        has_flag(b'v', items),
+        number_of(b'T', 64, items),
+    ))
 }
 
 #[test]
-fn numbers_of_workers(rt: HostRuntime) -> Result<(), Fail> {
-    for (words, workers) in [
-        (["restorecon", "-n", "/"].as_slice(), 1),
-        (&["restorecon", "-n", "-T0", "/"], 0),
-        (&["restorecon", "-nT", "064", "/"], 64),
-        (&["restorecon", "-T", "2", "-T", "4", "-n", "/"], 4),
+fn flags_and_numbers(rt: HostRuntime) {
+    for (words, told) in [
+        (["/"].as_slice(), (false, false, None)),
+        (&["-n", "/"], (true, false, None)),
+        (&["/", "-vT0"], (false, true, Some(0))),
+        (&["-nT", "064"], (true, false, Some(64))),
+        (&["-T", "2", "-T4", "--", "/"], (false, false, Some(4))),
     ] {
-        assert_eq!(rt; relabel(rt.alloc(), words)?.workers, workers);
+        assert_eq!(rt; digits(rt.alloc(), words), Some(told));
     }
-    Ok(())
+}
+
+// The type of files, whether there is a value of o, and whether there is an operand.
+fn presence(alloc: Global, words: &[&str]) -> Option<(Option<EntryKind>, bool, bool)> {
+    let words = words_of(alloc, words).ok()?;
+    let items = read(alloc, &with_paths(), words.as_slice()).ok()?;
+    let items = items.as_slice();
+    Some((
+        kind_of(b'm', items),
+        has_value(b'o', items),
+        has_operand(items),
+    ))
+}
+
+#[test]
+fn types_of_files(rt: HostRuntime) {
+    for (name, kind) in [
+        ("file", EntryKind::Regular),
+        ("dir", EntryKind::Directory),
+        ("lnk_file", EntryKind::Link),
+        ("pipe", EntryKind::Pipe),
+        ("sock_file", EntryKind::Socket),
+        ("blk_file", EntryKind::Block),
+        ("chr_file", EntryKind::Char),
+    ] {
+        assert_eq!(rt;
+            presence(rt.alloc(), &["-m", "dir", "-nm", name, "-oa", "/"]),
+            Some((Some(kind), true, true))
+        );
+    }
+    assert_eq!(rt;
+        presence(rt.alloc(), &["-m", "dir", "--"]),
+        Some((Some(EntryKind::Directory), false, false))
+    );
+}
+
+// Whether the names are those texts.
+fn are_names(names: &Row<Name>, texts: &[&str]) -> bool {
+    if names.len() != texts.len() {
+        return false;
+    }
+    for i in 0..texts.len() {
+        if i < names.len() && names.get(i).as_str() != texts[i] {
+            return false;
+        }
+    }
+    true
+}
+
+fn has_names(alloc: Global, words: &[&str], letter: u8, texts: &[&str]) -> Option<bool> {
+    let words = words_of(alloc, words).ok()?;
+    let items = read(alloc, &with_file(), words.as_slice()).ok()?;
+    let names = names_of(alloc, letter, items.as_slice()).ok()?;
+    Some(are_names(&names, texts))
+}
+
+#[test]
+fn names_of_files(rt: HostRuntime) {
+    for (letter, texts) in [
+        (b'S', ["fc"].as_slice()),
+        (b'o', &["1", "--", "-b"]),
+        (b'K', &[]),
+    ] {
+        let words = ["-o1", "fc", "-o", "--", "/a", "-no", "-b"];
+        assert_eq!(rt;
+            has_names(rt.alloc(), words.as_slice(), letter, texts),
+            Some(true)
+        );
+    }
+}
+
+fn is_named(alloc: Global, words: &[&str], letter: u8, text: &str) -> Option<bool> {
+    let words = words_of(alloc, words).ok()?;
+    let items = read(alloc, &with_file(), words.as_slice()).ok()?;
+    let name = name_of(alloc, letter, items.as_slice()).ok()??;
+    Some(name.as_str() == text && value_of(letter, items.as_slice()) == Some(text))
+}
+
+#[test]
+fn last_name_counts(rt: HostRuntime) {
+    for (letter, told) in [(b'S', Some(true)), (b'o', Some(false)), (b'K', None)] {
+        let words = ["-o1", "-o", "2", "--", "--", "/x"];
+        assert_eq!(rt; is_named(rt.alloc(), words.as_slice(), letter, "--"), told);
+    }
 }
 
 // Whether the paths are those that the texts spell.
@@ -322,164 +285,26 @@ fn are_paths(paths: &Row<NormPath>, texts: &[&str]) -> bool {
     true
 }
 
-#[test]
-fn words_of_runs(rt: HostRuntime) -> Result<(), Fail> {
-    for (words, told, operands) in [
-        (
-            ["setfiles", "-n", "-i", "fc", "/etc"].as_slice(),
-            0b10_1100,
-            ["/etc"].as_slice(),
-        ),
-        (
-            &["setfiles", "-n", "-v", "-F", "fc", "/a", "/b"],
-            0b110_0110,
-            &["/a", "/b"],
-        ),
-        (&["setfiles", "-nvFT2", "fc", "/"], 0b110_0110, &["/"]),
-        (
-            &["setfiles", "-n", "-v", "-F", "-T", "4", "-E", "fc", "/a"],
-            0b1110_0110,
-            &["/a"],
-        ),
-        (
-            &["setfiles", "-n", "-v", "-F", "-E", "-C", "fc", "/a"],
-            0b1_1110_0110,
-            &["/a"],
-        ),
-        (
-            &["restorecon", "-n", "-v", "-S", "fc", "/srv/a"],
-            0b110,
-            &["/srv/a"],
-        ),
-        (
-            &["restorecon", "-v", "-S", "fc", "-o", "out", "/srv/b"],
-            0b10,
-            &["/srv/b"],
-        ),
-        (
-            &[
-                "restorecon",
-                "-R",
-                "-v",
-                "-S",
-                "fc",
-                "-e",
-                "/a/p",
-                "-o",
-                "d",
-                "/a",
-            ],
-            0b10_0010,
-            &["/a"],
-        ),
-        (
-            &["setfiles", "fc", "/", "-CEWix", "-oout"],
-            0b1_1011_1001,
-            &["/"],
-        ),
-        (
-            &["setfiles", "-n", "-W", "fc", "/etc"],
-            0b11_0100,
-            &["/etc"],
-        ),
-    ] {
-        let asked = relabel(rt.alloc(), words)?;
-        assert_eq!(rt; flags(&asked), told);
-        assert!(rt; are_paths(&asked.choice.operands, operands));
-    }
-    Ok(())
+const PATHS: &[&str] = &[
+    "-e", "/b//c", "fc", "/b", "-n", "-e/b/d", "//", "--", "/-x/",
+];
+
+fn has_operands(alloc: Global, texts: &[&str]) -> Option<bool> {
+    let words = words_of(alloc, PATHS).ok()?;
+    let items = read(alloc, &with_file(), words.as_slice()).ok()?;
+    let paths = operands(alloc, items.as_slice()).ok()?;
+    Some(are_paths(&paths, texts))
 }
 
-fn is_asked(asked: &LookupWords, kind: Option<EntryKind>, bare: bool, verify: bool) -> bool {
-    asked.asked == kind && asked.bare == bare && asked.verify == verify
+fn has_given(alloc: Global, texts: &[&str]) -> Option<bool> {
+    let words = words_of(alloc, PATHS).ok()?;
+    let items = read(alloc, &with_file(), words.as_slice()).ok()?;
+    let paths = paths_given(alloc, b'e', items.as_slice()).ok()?;
+    Some(are_paths(&paths, texts))
 }
 
 #[test]
-fn words_of_looks(rt: HostRuntime) -> Result<(), Fail> {
-    for (words, kind, bare, verify) in [
-        (
-            [
-                "matchpathcon",
-                "-f",
-                "fc",
-                "-m",
-                "file",
-                "/usr/bin/ls",
-                "/usr/lib",
-            ]
-            .as_slice(),
-            Some(EntryKind::Regular),
-            false,
-            false,
-        ),
-        (
-            &["matchpathcon", "-n", "-f", "fc", "/run/x", "/run"],
-            None,
-            true,
-            false,
-        ),
-        (
-            &["matchpathcon", "-f", "fc", "-m", "lnk_file", "/x/a"],
-            Some(EntryKind::Link),
-            false,
-            false,
-        ),
-        (
-            &["matchpathcon", "-V", "-f", "fc", "/srv/a", "/srv/b"],
-            None,
-            false,
-            true,
-        ),
-    ] {
-        let asked = lookup(rt.alloc(), words)?;
-        assert!(rt; is_asked(&asked, kind, bare, verify));
-    }
-    Ok(())
-}
-
-#[test]
-fn paths_of_setfiles(rt: HostRuntime) -> Result<(), Fail> {
-    let words = [
-        "setfiles", "-e", "/b//c", "fc", "/b", "-n", "-e/b/d", "//", "--", "/-x/",
-    ];
-    let asked = relabel(rt.alloc(), words.as_slice())?;
-    assert!(rt; are_paths(&asked.choice.operands, &["/b", "/", "/-x"]));
-    assert!(rt; are_paths(&asked.choice.excluded, &["/b/c", "/b/d"]));
-    Ok(())
-}
-
-#[test]
-fn paths_of_matchpathcon(rt: HostRuntime) -> Result<(), Fail> {
-    let words = [
-        "matchpathcon",
-        "-f",
-        "fc",
-        "-mfile",
-        "/usr/bin/ls",
-        "/usr",
-        "-nN",
-    ];
-    let asked = lookup(rt.alloc(), words.as_slice())?;
-    assert_eq!(rt; asked.base.as_str(), "fc");
-    assert!(rt; are_paths(&asked.paths, &["/usr/bin/ls", "/usr"]));
-    assert!(rt; asked.bare && !asked.verify);
-    Ok(())
-}
-
-#[test]
-fn types_of_files(rt: HostRuntime) -> Result<(), Fail> {
-    for (name, kind) in [
-        ("file", EntryKind::Regular),
-        ("dir", EntryKind::Directory),
-        ("lnk_file", EntryKind::Link),
-        ("pipe", EntryKind::Pipe),
-        ("sock_file", EntryKind::Socket),
-        ("blk_file", EntryKind::Block),
-        ("chr_file", EntryKind::Char),
-    ] {
-        let asked = lookup(rt.alloc(), &["matchpathcon", "-m", "dir", "-Vm", name, "/"])?;
-        assert_eq!(rt; asked.asked, Some(kind));
-    }
-    assert_eq!(rt; lookup(rt.alloc(), &["matchpathcon", "/"])?.asked, None);
-    Ok(())
+fn paths_of_words(rt: HostRuntime) {
+    assert_eq!(rt; has_operands(rt.alloc(), &["/b", "/", "/-x"]), Some(true));
+    assert_eq!(rt; has_given(rt.alloc(), &["/b/c", "/b/d"]), Some(true));
 }

@@ -11,7 +11,7 @@ use Rattle.tree_model.specs.LiveLists.{stays_in}
 use Rattle.tree_model.specs.RunLists.{AreEnds, closed_run, in_run}
 use Rattle.tree_model.specs.Selection.{admits, stays_on}
 use Rattle.tree_model.specs.Tree.{ByPath}
-use Rattle.file_paths.specs.declared.choice.Choice.{Choice}
+use Rattle.tree_model.specs.declared.choice.Choice.{Choice}
 use Rattle.tree_model.proofs.ClosedLemmas.{implied}
 use Rattle.tree_model.proofs.ExtentLemmas.{extent_has, extent_law, extent_told, has_extent, in_chain, in_itself}
 use Rattle.tree_model.proofs.GroupLemmas.{groups_of, group_at, count_groups}

@@ -23,7 +23,7 @@ use Rattle.tree_model.proofs.GroupLemmas.{group_at, group_inside}
 use Rattle.tree_model.proofs.ParentLemmas.{parent_before}
 
 -- one number more
-filter_snoc : (p : ℕ → Bool) (k : ℕ) → filter p (all_numbers (suc k)) ≡ filter p (all_numbers k) ++ cond (p k) (k ∷ []) []
+pub filter_snoc : (p : ℕ → Bool) (k : ℕ) → filter p (all_numbers (suc k)) ≡ filter p (all_numbers k) ++ cond (p k) (k ∷ []) []
 filter_snoc p k = filter-append p (all_numbers k) (k ∷ [])
 
 count_snoc : (p : ℕ → Bool) (k : ℕ) (b : Bool) → p k ≡ b → length (filter p (all_numbers (suc k))) ≡ length (filter p (all_numbers k)) + cond b 1 0
@@ -44,7 +44,7 @@ below_few entries (suc k) = by_case (is_directory entries k) refl (below_few ent
     by_case true e h = omega (arith, count_snoc (is_directory entries) k true e, h)
     by_case false e h = omega (arith, count_snoc (is_directory entries) k false e, h)
 
-below_rise : (entries : List Record) (j k : ℕ) → j ≤ k → directories_below entries j ≤ directories_below entries k
+pub below_rise : (entries : List Record) (j k : ℕ) → j ≤ k → directories_below entries j ≤ directories_below entries k
 below_rise entries j zero l = let e : j ≡ 0 = omega (arith, l) in ap_le e
   where
     ap_le : j ≡ 0 → directories_below entries j ≤ directories_below entries 0
@@ -72,7 +72,7 @@ jobs_next entries e count jobs r h = record {
 }
 
 -- the number at an index of those that pass
-record PassesAt (p : ℕ → Bool) (k i d : ℕ) : Type 0 where
+pub record PassesAt (p : ℕ → Bool) (k i d : ℕ) : Type 0 where
   pub within : d < k
   pub passes : p d ≡ true
   pub index : length (filter p (all_numbers d)) ≡ i
@@ -95,14 +95,14 @@ passes_case p k i false e l f =
     let r = f (subst (λ xs. i < length xs) same l) in
     subst (λ xs. PassesAt p (suc k) i (get_or xs i 0)) (sym same) (record { within = omega (arith, r.within); passes = r.passes; index = r.index })
 
-passes_at : (p : ℕ → Bool) (k i : ℕ) → i < length (filter p (all_numbers k)) → PassesAt p k i (get_or (filter p (all_numbers k)) i 0)
+pub passes_at : (p : ℕ → Bool) (k i : ℕ) → i < length (filter p (all_numbers k)) → PassesAt p k i (get_or (filter p (all_numbers k)) i 0)
 passes_at p zero i l = absurd (omega (arith, l))
 passes_at p (suc k) i l =
     subst (λ xs. PassesAt p (suc k) i (get_or xs i 0)) (sym (filter_snoc p k))
     (passes_case p k i (p k) refl (subst (λ xs. i < length xs) (filter_snoc p k) l) (λ m. passes_at p k i m))
 
 -- those that pass, up to one of them and behind it
-record Parted (p : ℕ → Bool) (d : ℕ) (all : List ℕ) : Type 0 where
+pub record Parted (p : ℕ → Bool) (d : ℕ) (all : List ℕ) : Type 0 where
   pub rest : List ℕ
   pub whole : all ≡ filter p (all_numbers d) ++ d ∷ rest
 
@@ -118,7 +118,7 @@ parted_case p d n h (inr ge) l f =
     subst (λ k. Parted p d (filter p (all_numbers (suc k)))) same
     (record { rest = []; whole = filter_snoc p d ∙ ap (λ b. filter p (all_numbers d) ++ cond b (d ∷ []) []) h })
 
-parted : (p : ℕ → Bool) (d n : ℕ) → p d ≡ true → d < n → Parted p d (filter p (all_numbers n))
+pub parted : (p : ℕ → Bool) (d n : ℕ) → p d ≡ true → d < n → Parted p d (filter p (all_numbers n))
 parted p d zero h l = absurd (omega (arith, l))
 parted p d (suc n) h l = parted_case p d n h (cases_lt d n) l (λ m. parted p d n h m)
 
@@ -175,7 +175,7 @@ parents_more f p e row new r n =
     let s : suc e ≡ e + 1 = omega arith in
     n ∙ ap (λ xs. cond (p e) (xs ++ f e ∷ []) xs) r ∙ map_cond f (p e) (filter p (all_numbers e)) e ∙ ap (map f) (sym (filter_snoc p e)) ∙ ap (λ k. map f (filter p (all_numbers k))) s
 
-mapped_at : (f : ℕ → ℕ) (n k : ℕ) → k < n → get_or (map f (all_numbers n)) k 0 ≡ f k
+pub mapped_at : (f : ℕ → ℕ) (n k : ℕ) → k < n → get_or (map f (all_numbers n)) k 0 ≡ f k
 mapped_at f n k l = get_or-map f (all_numbers n) k 0 0 (omega (arith, l, count_numbers n)) ∙ ap f (number_at n k l)
 
 mapped_count : (f : ℕ → ℕ) (n : ℕ) → length (map f (all_numbers n)) ≡ n

@@ -1,5 +1,5 @@
 -- A tree whose labels change, and nothing else.
-use Rattle.std.proofs.Common.{◌≡◌, ◌∙◌, ap, sym, refl, subst, ℕ, zero, suc, ◌+◌, ◌<◌, ◌==◌, inl, inr, Bool, false, cond, List, [], ◌∷◌, length, map, get_or, arith}
+use Rattle.std.proofs.Common.{◌≡◌, ◌∙◌, ap, sym, refl, subst, ℕ, zero, suc, ◌+◌, ◌<◌, ◌==◌, inl, inr, Bool, false, cond, List, [], ◌∷◌, length, map, filter, get_or, arith}
 use Rattle.std.specs.Prelude.{◌&&◌, ◌||◌, not, nat_lt, is_some, Option, Some, None}
 use Rattle.std.specs.List.{position, prefix_len}
 use Rattle.std.specs.declared.cmp.Ordering.TheVariants.{Less}
@@ -19,13 +19,14 @@ use Rattle.tree_model.specs.Entries.{same_path}
 use Rattle.tree_model.specs.Extents.{entry_at, extent_of, in_extent, is_above, is_directory, one_behind, parent_of}
 use Rattle.tree_model.specs.GroupLists.{AreStarts, groups_behind, names_below}
 use Rattle.tree_model.specs.Groups.{closed_at, group_of, groups_in, inodes_behind, inodes_of}
+use Rattle.tree_model.specs.Jobs.{directories_in}
 use Rattle.tree_model.specs.Kept.{IsKept}
 use Rattle.tree_model.specs.Labelled.{DifferInLabels, labelled, labelled_at}
 use Rattle.tree_model.specs.Links.{inode_of, same_inode}
 use Rattle.tree_model.specs.Selection.{absent_from, admits_found, is_admitted, is_excluded, is_live, selected_by, stays_on, whole_at}
 use Rattle.tree_model.specs.Tree.{ByPath, IsTree, find_in}
 use Rattle.tree_model.specs.declared.groups.Groups.{Groups}
-use Rattle.file_paths.specs.declared.choice.Choice.{Choice}
+use Rattle.tree_model.specs.declared.choice.Choice.{Choice}
 use Rattle.tree_model.proofs.DeadLemmas.{number_at}
 
 -- ---- numbers
@@ -116,6 +117,9 @@ module _ (old new : List Record) (count : length new ≡ length old) (paths : (e
   groups : (e : ℕ) → group_of new e ≡ group_of old e
   groups e i = prefix_len (λ x. not (same_inode (inodes e i) x)) (own_inodes i)
 
+  own_directories : directories_in new ≡ directories_in old
+  own_directories = let same : is_directory new ≡ is_directory old = fun_ext directories in λ i. filter (same i) (all_numbers (count i))
+
   closed : closed_at new ≡ closed_at old
   closed = fun_ext (λ d i. all_below (count i) (λ e. implies (insides i d e) (all_below (count i) (λ x. implies (groups x i == groups e i) (insides i d x)))))
 
@@ -169,9 +173,9 @@ module _ (old new : List Record) (count : length new ≡ length old) (paths : (e
     whole = wholes;
   }
 
-  pub kept_too : (ends ends' : List ℕ) (had has : Groups) → ends' ≡ ends → has.total ≡ had.total → has.group_of.items ≡ had.group_of.items → has.names.items ≡ had.names.items
-      → has.starts.items ≡ had.starts.items → has.closed.items ≡ had.closed.items → IsKept old ends had → IsKept new ends' has
-  kept_too ends ends' had has e t g n s c k = record {
+  pub kept_too : (ends ends' : List ℕ) (had has : Groups) (dirs dirs' : List ℕ) → ends' ≡ ends → dirs' ≡ dirs → has.total ≡ had.total → has.group_of.items ≡ had.group_of.items → has.names.items ≡ had.names.items
+      → has.starts.items ≡ had.starts.items → has.closed.items ≡ had.closed.items → IsKept old ends had dirs → IsKept new ends' has dirs'
+  kept_too ends ends' had has dirs dirs' e same t g n s c k = record {
     by_path = rises k.by_path;
     ends_are = record {
       count = ap length e ∙ k.ends_are.count ∙ sym count;
@@ -187,6 +191,7 @@ module _ (old new : List Record) (count : length new ≡ length old) (paths : (e
       count = ap length c ∙ k.groups_are.count ∙ sym count;
       closed_are = λ d l. ap (λ fs. get_or fs d false) c ∙ k.groups_are.closed_are d (omega (arith, l, count)) ∙ sym (ap (λ f. f d) closed);
     };
+    directories_are = same ∙ k.directories_are ∙ sym own_directories;
   }
 
 -- ---- labels by numbers
@@ -209,8 +214,8 @@ module _ (labels : List Label) (numbers : List ℕ) (entries : List Record) (cou
   pub with_differ : DifferInLabels entries new
   with_differ = differ entries new (with_count labels numbers entries counted) (with_part (λ r. r.path) (λ l r. refl)) (with_part (λ r. r.kind) (λ l r. refl)) (with_part inode_of (λ l r. refl))
 
-  pub with_kept : (ends ends' : List ℕ) (had has : Groups) → ends' ≡ ends → has.total ≡ had.total → has.group_of.items ≡ had.group_of.items → has.names.items ≡ had.names.items
-      → has.starts.items ≡ had.starts.items → has.closed.items ≡ had.closed.items → IsKept entries ends had → IsKept new ends' has
+  pub with_kept : (ends ends' : List ℕ) (had has : Groups) (dirs dirs' : List ℕ) → ends' ≡ ends → dirs' ≡ dirs → has.total ≡ had.total → has.group_of.items ≡ had.group_of.items → has.names.items ≡ had.names.items
+      → has.starts.items ≡ had.starts.items → has.closed.items ≡ had.closed.items → IsKept entries ends had dirs → IsKept new ends' has dirs'
   with_kept = kept_too entries new (with_count labels numbers entries counted) (with_part (λ r. r.path) (λ l r. refl)) (with_part (λ r. r.kind) (λ l r. refl)) (with_part inode_of (λ l r. refl))
 
 -- numbers below a bound are places

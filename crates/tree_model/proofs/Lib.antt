@@ -18,6 +18,8 @@ pub mod SelectLemmas
 pub mod DeadLemmas
 pub mod KeptGroups
 pub mod JobLemmas
+pub mod JobLaws
+pub mod HeldLemmas
 pub mod NameLemmas
 pub mod GroupLemmas
 pub mod StartLemmas

@@ -27,7 +27,7 @@ turned false true = refl
 turned false false = refl
 
 module _ (entries : List Record) (up : ByPath entries) where
-  strict_is : (d e : ℕ) → d < e → e < length entries → strictly_below (entry_at entries e).path (entry_at entries d).path ≡ in_extent entries d e
+  pub strict_is : (d e : ℕ) → d < e → e < length entries → strictly_below (entry_at entries e).path (entry_at entries d).path ≡ in_extent entries d e
   strict_is d e l m =
       and_same (in_extent entries d e) (nat_lt (length (entry_at entries d).path) (length (entry_at entries e).path))
       (λ h. lt-ltb (length (entry_at entries d).path) (length (entry_at entries e).path) (longer (entry_at entries e).path (entry_at entries d).path h (rise entries up d e l m)))
@@ -42,7 +42,7 @@ module _ (entries : List Record) (up : ByPath entries) where
       ∙ turned (nat_lt e (extent_of entries d)) (is_directory entries d)
       ∙ sym (ap (λ b. is_directory entries d && b) (strict_is d e l m ∙ in_law d e l m))
 
-  above_in : (d e : ℕ) → is_above entries e d ≡ true → in_extent entries d e ≡ true
+  pub above_in : (d e : ℕ) → is_above entries e d ≡ true → in_extent entries d e ≡ true
   above_in d e h =
       first_so (in_extent entries d e) (nat_lt (length (entry_at entries d).path) (length (entry_at entries e).path))
       (second_so (is_directory entries d) (strictly_below (entry_at entries e).path (entry_at entries d).path) h)
@@ -64,7 +64,7 @@ module _ (entries : List Record) (up : ByPath entries) where
       ]
 
   -- what is above an entry is above those between
-  above_between : (d a e : ℕ) → d < a → a < e → e < length entries → is_above entries e d ≡ true → is_above entries a d ≡ true
+  pub above_between : (d a e : ℕ) → d < a → a < e → e < length entries → is_above entries e d ≡ true → is_above entries a d ≡ true
   above_between d a e l m k h =
       let there = in_between entries up d a e (omega (arith, l)) (omega (arith, m)) k (above_in d e h) in
       let dir = first_so (is_directory entries d) (strictly_below (entry_at entries e).path (entry_at entries d).path) h in

@@ -11,7 +11,7 @@ use Rattle.tree_model.specs.Extents.{entry_at}
 use Rattle.tree_model.specs.LiveLists.{AreFlags, IsCleared, IsMarked}
 use Rattle.tree_model.specs.Selection.{absent_from, admits_found, is_admitted, is_excluded, SelectedValue}
 use Rattle.tree_model.specs.Tree.{find_in}
-use Rattle.file_paths.specs.declared.choice.Choice.{Choice}
+use Rattle.tree_model.specs.declared.choice.Choice.{Choice}
 use Rattle.tree_model.proofs.MarkLemmas.{or_false}
 
 pub flags_marked : (n : ℕ) (p q r : ℕ → Bool) (live new : List Bool) → AreFlags n p live → IsMarked q live new → ((e : ℕ) → r e ≡ (p e || q e)) → AreFlags n r new

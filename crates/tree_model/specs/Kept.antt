@@ -4,6 +4,7 @@ use Rattle.find_records.specs.Record.{Record}
 use Rattle.tree_model.specs.Extents.{EndsFrom}
 use Rattle.tree_model.specs.GroupLists.{AreStarts, groups_behind, names_below}
 use Rattle.tree_model.specs.Groups.{closed_at, groups_in}
+use Rattle.tree_model.specs.Jobs.{directories_in}
 use Rattle.tree_model.specs.Links.{inode_of}
 use Rattle.tree_model.specs.Tree.{ByPath}
 use Rattle.tree_model.specs.declared.groups.Groups.{Groups}
@@ -20,8 +21,10 @@ pub record KeepsGroups (entries : List Record) (total : ℕ) (groups names start
   pub closed_are : (d : ℕ) → d < length entries → get_or closed d false ≡ closed_at entries d
 
 -- what a tree keeps beside its entries, which are in the order of their paths
-pub record IsKept (entries : List Record) (ends : List ℕ) (groups : Groups) : Type 0 where
+pub record IsKept (entries : List Record) (ends : List ℕ) (groups : Groups) (directories : List ℕ)
+    : Type 0 where
   pub by_path : ByPath entries
   pub ends_are : EndsFrom 0 entries ends
   pub groups_are : KeepsGroups entries groups.total groups.group_of.items groups.names.items
       groups.starts.items groups.closed.items
+  pub directories_are : directories ≡ directories_in entries

@@ -10,7 +10,7 @@ use Rattle.tree_model.specs.Extents.{entry_at, extent_of, is_directory, parent_o
 use Rattle.tree_model.specs.Groups.{group_of, groups_in}
 use Rattle.tree_model.specs.Selection.{selected_by, whole_at}
 use Rattle.tree_model.specs.Tree.{find_in}
-use Rattle.file_paths.specs.declared.choice.Choice.{Choice}
+use Rattle.tree_model.specs.declared.choice.Choice.{Choice}
 
 -- the entry with the label of its group
 abbrev pub labelled_at : List Label → List Record → ℕ → Record

@@ -7,7 +7,7 @@ use Rattle.find_records.specs.Record.{Record}
 use Rattle.tree_model.specs.Extents.{entry_at, in_extent}
 use Rattle.tree_model.specs.Groups.{closed_at}
 use Rattle.tree_model.specs.Tree.{find_in}
-use Rattle.file_paths.specs.declared.choice.Choice.{Choice}
+use Rattle.tree_model.specs.declared.choice.Choice.{Choice}
 
 -- every entry from o down to e has the device of o
 abbrev pub stays_on : List Record → ℕ → ℕ → Bool

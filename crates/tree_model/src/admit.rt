@@ -5,9 +5,9 @@ ghost use Rattle.tree_model.specs.RunLists.{AreEnds, in_run};
 ghost use Rattle.tree_model.specs.Selection.{admits};
 ghost use Rattle.tree_model.specs.Tree.{ByPath};
 
+use crate::choice::Choice;
 use crate::marks::fill;
 use crate::sorted::Sorted;
-use file_paths::Choice;
 
 // Whether two entries lie on one device.
 #[tactic(auto, using(crate::proofs::KnownLemmas::entry_is))]

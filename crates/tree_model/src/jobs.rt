@@ -1,7 +1,7 @@
-ghost use Rattle.std.specs.Prelude.{◌≡◌, ◌+◌, ◌<◌, ◌^◌, ◌++◌, ◌∷◌, [], if◌then◌else◌, length, map, filter, IfOk, OnOk};
+ghost use Rattle.std.specs.Prelude.{◌≡◌, ◌+◌, ◌<◌, ◌^◌, ◌++◌, ◌∷◌, [], true, if◌then◌else◌, length, map, filter, IfOk, OnOk};
 ghost use Rattle.label_base.specs.Bounded.{all_numbers};
 ghost use Rattle.tree_model.specs.Extents.{ParentsTo, is_directory};
-ghost use Rattle.tree_model.specs.Jobs.{AreJobs, directories_below, home_of, shape_of};
+ghost use Rattle.tree_model.specs.Jobs.{AreJobs, directories_below, directories_in, home_of, job_directory, job_of, shape_of};
 ghost use Rattle.tree_model.specs.Kept.{KeepsGroups};
 ghost use Rattle.tree_model.specs.Tree.{ByPath};
 ghost use Rattle.walk_steps.specs.Shaped.{IsValid};
@@ -129,6 +129,56 @@ fn row_of(alloc: Global, words: &[u32]) -> Result<Row<u32>, OutOfMemory>
         row.push(*word)?;
     }
     Ok(row)
+}
+
+// Adds an entry that is a directory.
+fn push_directory(sorted: &Sorted, e: u32, to: &mut Vec<u32>) -> Result<(), OutOfMemory>
+    requires { e < length sorted.now }
+    ensures { OnOk result (to.new.items ≡ (if is_directory sorted.now e
+        then to.old.items ++ e ∷ [] else to.old.items)) }
+{
+    if !sorted.is_directory(e) {
+        return Ok(());
+    }
+    to.push(e)?;
+    Ok(())
+}
+
+/// The directories, in ascending order.
+#[tactic(auto, using(crate::proofs::JobLaws::directories_more))]
+pub fn all_directories(alloc: Global, sorted: &Sorted) -> Result<Vec<u32>, OutOfMemory>
+    ensures { IfOk result (λ directories. directories.items ≡ directories_in sorted.now) }
+{
+    let mut directories = Vec::new(alloc);
+    'entries: for e in 0..sorted.len() {
+        push_directory(sorted, e, &mut directories)?;
+    }
+    Ok(directories)
+}
+
+/// The directory of a job, by all directories.
+pub fn directory_at(sorted: &Sorted, directories: &[u32], job: u32) -> Option<u32>
+    requires { directories.now ≡ directories_in sorted.now }
+    ensures { result ≡ job_directory sorted.now job }
+{
+    if job == 0 {
+        return None;
+    }
+    directories.get(job as usize - 1).copied()
+}
+
+/// The job of a directory, by all directories.
+pub fn job_in(sorted: &Sorted, directories: &[u32], d: u32) -> u32
+    requires all { directories.now ≡ directories_in sorted.now }
+    requires known { d < length sorted.now }
+    requires directory { is_directory sorted.now d ≡ true }
+    ensures { result ≡ job_of sorted.now d }
+{
+    let _count = sorted.len();
+    match directories.binary_search(&d) {
+        Ok(index) => index as u32 + 1,
+        Err(_) => unreachable!(),
+    }
 }
 
 /// The tree as workers see it, by the parents and the groups of its entries.

@@ -1,6 +1,7 @@
 ghost use Rattle.std.specs.Prelude.{List};
 ghost use Rattle.file_paths.specs.Path.{Path};
 ghost use Rattle.find_records.specs.Record.{Record};
+ghost use Rattle.tree_model.specs.Jobs.{JobsAreDirectories};
 ghost use Rattle.tree_model.specs.Laws.{AreAbsent, GroupsAreInodes};
 ghost use Rattle.tree_model.specs.Selection.{absent_from};
 
@@ -17,4 +18,12 @@ pub fn groups_are_inodes()
 pub fn absent_have_no_entry()
     ensures { (entries : List Record) (operands : List Path)
         → AreAbsent entries operands (absent_from 0 entries operands) }
+{}
+
+/// A law on all entries: in the shape of a tree job j is the j-th directory, and job 0 the root of all
+/// that has no parent; an entry's home is its parent's job, and jobs and directories are one to one. It
+/// does nothing.
+#[tactic(auto, using(crate::proofs::JobLaws::jobs_are))]
+pub fn jobs_are_directories()
+    ensures { (entries : List Record) → JobsAreDirectories entries }
 {}

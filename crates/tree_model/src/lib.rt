@@ -4,12 +4,14 @@
 mod above;
 mod admit;
 mod building;
+mod choice;
 mod closed;
 mod exclude;
 mod extents;
 mod fault;
 mod groups;
 mod guess;
+mod job_entries;
 mod jobs;
 mod laws;
 mod marks;
@@ -20,8 +22,10 @@ mod selection;
 mod sorted;
 mod tree;
 
+pub use choice::Choice;
 pub use fault::TreeFault;
-pub use laws::{absent_have_no_entry, groups_are_inodes};
+pub use job_entries::JobEntries;
+pub use laws::{absent_have_no_entry, groups_are_inodes, jobs_are_directories};
 pub use selection::Selected;
 pub use tree::Tree;
 

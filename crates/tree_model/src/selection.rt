@@ -5,11 +5,11 @@ ghost use Rattle.tree_model.specs.Selection.{absent_from, is_admitted, is_exclud
 ghost use Rattle.tree_model.specs.Tree.{ByPath};
 
 use crate::admit::mark_operand;
+use crate::choice::Choice;
 use crate::exclude::clear_below;
 use crate::marks::all_dead;
 use crate::sorted::Sorted;
 use crate::tree::Tree;
-use file_paths::Choice;
 use label_base::{OutOfMemory, Row};
 use std::alloc::Global;
 use std::marker::Model;

@@ -1,6 +1,8 @@
-use crate::{Tree, TreeFault, absent_have_no_entry, groups_are_inodes};
+use crate::{
+    Choice, Tree, TreeFault, absent_have_no_entry, groups_are_inodes, jobs_are_directories,
+};
 use context_syntax::Label;
-use file_paths::{Choice, NormPath};
+use file_paths::NormPath;
 use find_records::{Records, Told};
 use label_base::{EntryKind, Row};
 use std::alloc::Global;
@@ -391,5 +393,45 @@ fn makes_a_shape(rt: HostRuntime) -> Result<(), Fail> {
     assert!(rt; shape.parents.as_slice() == [0, 1].as_slice());
     assert!(rt; shape.homes.as_slice() == [0, 1, 2, 2, 2, 1].as_slice());
     assert!(rt; shape.groups == 6);
+    Ok(())
+}
+
+// Whether these are the entries that a job holds.
+fn holds(tree: &Tree, job: u32, wanted: &[u32]) -> bool {
+    if job > tree.directories() {
+        return false;
+    }
+    let mut left = wanted;
+    for e in tree.entries_of_job(job) {
+        match left {
+            [first, rest @ ..] if *first == e => left = rest,
+            _ => return false,
+        }
+    }
+    left.is_empty()
+}
+
+#[test]
+fn lists_the_entries_of_jobs(rt: HostRuntime) -> Result<(), Fail> {
+    jobs_are_directories();
+    let tree = small_tree(rt.alloc())?;
+    assert!(rt; holds(&tree, 1, [1, 5].as_slice()));
+    assert!(rt; holds(&tree, 2, [2, 3, 4].as_slice()));
+    Ok(())
+}
+
+// The job of the entry with an index, if it is a directory.
+fn job_told(tree: &Tree, e: u32) -> Option<u32> {
+    if e >= tree.len() || !tree.is_directory(e) {
+        return None;
+    }
+    Some(tree.job_of(e))
+}
+
+#[test]
+fn tells_jobs_and_directories(rt: HostRuntime) -> Result<(), Fail> {
+    let tree = small_tree(rt.alloc())?;
+    assert!(rt; tree.directories() == 2 && tree.job_directory(2) == Some(1));
+    assert!(rt; job_told(&tree, 1) == Some(2));
     Ok(())
 }

@@ -1,13 +1,13 @@
-ghost use Rattle.std.specs.Prelude.{◌≡◌, ◌↔◌, ℕ, ◌<◌, ◌≤◌, ◌^◌, ◌&&◌, nat_le, nat_lt, IfOk, IfSome, Some, length, slice_get};
+ghost use Rattle.std.specs.Prelude.{◌≡◌, ◌↔◌, ℕ, ◌<◌, ◌≤◌, ◌^◌, ◌&&◌, ◌+◌, nat_le, nat_lt, true, if◌then◌else◌, IfOk, IfSome, Some, length, slice_get};
 ghost use Rattle.std.specs.List.{Contains};
 ghost use Rattle.label_base.specs.Answers.{Answers};
 ghost use Rattle.file_paths.specs.PathRef.{path_of};
 ghost use Rattle.find_records.specs.Entry.{entry_of};
 ghost use Rattle.find_records.specs.Record.{Record};
 ghost use Rattle.tree_model.specs.Entries.{tree_of};
-ghost use Rattle.tree_model.specs.Extents.{extent_of, in_extent, parent_of};
+ghost use Rattle.tree_model.specs.Extents.{extent_of, in_extent, is_directory, parent_of};
 ghost use Rattle.tree_model.specs.Groups.{closed_at, group_of, groups_in, label_in, names_in};
-ghost use Rattle.tree_model.specs.Jobs.{shape_of};
+ghost use Rattle.tree_model.specs.Jobs.{directories_in, entries_of_job, job_directory, job_of, shape_of};
 ghost use Rattle.tree_model.specs.Kept.{IsKept};
 ghost use Rattle.tree_model.specs.Labelled.{DifferInLabels, labelled};
 ghost use Rattle.tree_model.specs.Selection.{selected_by};
@@ -15,14 +15,16 @@ ghost use Rattle.tree_model.specs.Tree.{ByPath, tree_cause, find_in};
 ghost use Rattle.walk_steps.specs.Shaped.{IsValid};
 
 use crate::above::parent_by_path;
+use crate::choice::Choice;
 use crate::extents::{all_ends, all_parents, word_at};
 use crate::fault::TreeFault;
 use crate::groups::{Groups, flag_at, make_groups, number_groups, part_at};
-use crate::jobs::shape_in;
+use crate::job_entries::JobEntries;
+use crate::jobs::{all_directories, directory_at, job_in, shape_in};
 use crate::selection::{Selected, select_in};
 use crate::sorted::Sorted;
 use context_syntax::Label;
-use file_paths::{Choice, PathRef};
+use file_paths::PathRef;
 use find_records::{Entry, Records};
 use label_base::{OutOfMemory, Row};
 use std::alloc::Global;
@@ -35,6 +37,8 @@ pub struct Tree {
     // The extent of each entry.
     ends: Vec<u32>,
     groups: Groups,
+    // The directories, in ascending order.
+    directories: Vec<u32>,
 }
 
 // By hand: one call for an owner, where a derived drop is a step for each field.
@@ -44,6 +48,7 @@ impl Drop for Tree {
             sorted: _,
             ends: _,
             groups: _,
+            directories: _,
         } = self;
     }
 }
@@ -57,19 +62,33 @@ impl Model for Tree {
 
     ghost view = { λ t. t.sorted };
 
-    ghost invariant = { λ t. IsKept t.sorted t.ends.items t.groups };
+    ghost invariant = { λ t. IsKept t.sorted t.ends.items t.groups t.directories.items };
 }
 
-// Where the extent of each entry ends, and the groups of entries by their inodes.
-fn ends_and_groups(alloc: Global, sorted: &Sorted) -> Result<(Vec<u32>, Groups), OutOfMemory>
+// What a tree keeps beside its entries.
+#[derive(Drop)]
+struct Kept {
+    ends: Vec<u32>,
+    groups: Groups,
+    directories: Vec<u32>,
+}
+
+// Where the extent of each entry ends, the groups of entries by their inodes, and the directories.
+fn keep_beside(alloc: Global, sorted: &Sorted) -> Result<Kept, OutOfMemory>
     requires { ByPath sorted.now }
-    ensures { IfOk result (λ made. IsKept sorted.now made.0.items made.1) }
+    ensures { IfOk result (λ kept.
+        IsKept sorted.now kept.ends.items kept.groups kept.directories.items) }
 {
     // First of all that is made, since what numbers the inodes takes most room and is dropped then.
     let numbering = number_groups(alloc, sorted)?;
     let ends = all_ends(alloc, sorted)?;
     let groups = make_groups(alloc, sorted, numbering, ends.as_slice())?;
-    Ok((ends, groups))
+    let directories = all_directories(alloc, sorted)?;
+    Ok(Kept {
+        ends,
+        groups,
+        directories,
+    })
 }
 
 impl Tree {
@@ -85,11 +104,16 @@ impl Tree {
         ensures same { IfOk result (λ tree. (r : Record) → Contains tree r ↔ Contains records r) }
     {
         let sorted = Sorted::new(alloc, records)?;
-        let (ends, groups) = ends_and_groups(alloc, &sorted)?;
+        let Kept {
+            ends,
+            groups,
+            directories,
+        } = keep_beside(alloc, &sorted)?;
         Ok(Tree {
             sorted,
             ends,
             groups,
+            directories,
         })
     }
 
@@ -113,10 +137,12 @@ impl Tree {
         let numbers = self.groups.group_of.as_slice();
         let ends = Vec::from_slice(alloc, self.ends.as_slice())?;
         let groups = self.groups.copy(alloc)?;
+        let directories = Vec::from_slice(alloc, self.directories.as_slice())?;
         Ok(Tree {
             sorted: self.sorted.with_labels(alloc, numbers, labels)?,
             ends,
             groups,
+            directories,
         })
     }
 
@@ -229,5 +255,61 @@ impl Tree {
     {
         let parents = all_parents(alloc, &self.sorted, self.ends.as_slice())?;
         shape_in(alloc, &self.sorted, parents.as_slice(), &self.groups)
+    }
+
+    /// Whether an entry is a directory.
+    pub fn is_directory(&self, e: u32) -> bool
+        requires { e < length self.now }
+        ensures { result ≡ is_directory self.now e }
+    {
+        self.sorted.is_directory(e)
+    }
+
+    /// How many directories there are: as many jobs there are beside job 0.
+    pub fn directories(&self) -> u32
+        ensures { result ≡ length (directories_in self.now) }
+    {
+        let _count = self.sorted.len();
+        self.directories.len() as u32
+    }
+
+    /// The directory of a job, in the shape of the tree; job 0 has none.
+    pub fn job_directory(&self, job: u32) -> Option<u32>
+        ensures value { result ≡ job_directory self.now job }
+        ensures known { IfSome result (λ d. d < length self.now) }
+    {
+        directory_at(&self.sorted, self.directories.as_slice(), job)
+    }
+
+    /// The job of a directory, in the shape of the tree.
+    pub fn job_of(&self, d: u32) -> u32
+        requires known { d < length self.now }
+        requires directory { is_directory self.now d ≡ true }
+        ensures { result ≡ job_of self.now d }
+    {
+        job_in(&self.sorted, self.directories.as_slice(), d)
+    }
+
+    /// The entries that a job holds, in ascending order: those right below its directory, or for job 0
+    /// those without a parent.
+    pub fn entries_of_job(&self, job: u32) -> JobEntries<'_>
+        requires { job ≤ length (directories_in self.now) }
+        ensures { result ≡ entries_of_job self.now job }
+    {
+        JobEntries::new(self, job)
+    }
+
+    // The index behind an entry, and behind all below it if it is a directory.
+    pub(crate) fn behind(&self, e: u32) -> u32
+        requires { e < length self.now }
+        ensures { result
+            ≡ (if is_directory self.now e then extent_of self.now e else e + 1) }
+    {
+        let _count = self.sorted.len();
+        if self.sorted.is_directory(e) {
+            word_at(self.ends.as_slice(), e)
+        } else {
+            e + 1
+        }
     }
 }

@@ -10,7 +10,7 @@ rows-preserved c = record {
   few = c.in_ok-last.ensures.few;
   paired = λ texts labels places within.
       let next : c.rows.i < length c.args.rows.now = omega (arith, c.rows-test.true, c.rows.auto.i-end) in
-      paired_by texts c.args.marks.now c.args.rows.now c.args.numbers.now labels c.rows.i _ c.rows.paired.pairs.keys c.number_of.new.pairs.keys c.in_ok-last.last c.rows.paired.rows.items c.push.new.self.items
+      paired_by texts c.args.marks.now c.args.rows.now c.args.numbers.now labels c.rows.i _ c.rows.paired.pairs.items c.number_behind.new.pairs.items c.in_ok-last.last c.rows.paired.rows.items c.push.new.self.items
       c.requires.counted places within next (slice_get-get_or c.args.rows.now c.rows.i _ next)
       c.get-device.result.0 c.get-device.result.1.now c.get-device.ensures c.in_ok-last.ensures.number c.in_ok-last.ensures.with c.in_ok-last.ensures.few c.in_ok-push.ensures.items
       (c.rows.invariant.paired texts labels places within);
@@ -20,6 +20,6 @@ pub returns : goal.returns
 returns c = λ texts labels places within.
     let rows_end = take_all c.rows.i c.args.rows.now (omega (arith, c.rows-test.false, c.rows.auto.i-end)) in
     let numbers_end = take_all c.rows.i c.args.numbers.now (omega (arith, c.rows-test.false, c.rows.auto.i-end, c.requires.counted)) in
-    subst (λ rs. ArePaired texts c.args.marks.now rs c.args.numbers.now labels c.rows.paired.pairs.keys c.rows.paired.rows.items) rows_end
-    (subst (λ ns. ArePaired texts c.args.marks.now (take c.rows.i c.args.rows.now) ns labels c.rows.paired.pairs.keys c.rows.paired.rows.items) numbers_end
+    subst (λ rs. ArePaired texts c.args.marks.now rs c.args.numbers.now labels c.rows.paired.pairs.items c.rows.paired.rows.items) rows_end
+    (subst (λ ns. ArePaired texts c.args.marks.now (take c.rows.i c.args.rows.now) ns labels c.rows.paired.pairs.items c.rows.paired.rows.items) numbers_end
     (c.rows.invariant.paired texts labels places within))

@@ -8,7 +8,7 @@ use Rattle.find_records.proofs.labelled.pair_rows.Given as goal
 -- the new rows stand for the records of the rows so far
 abbrev pub invariant-rows : goal.invariant-rows
 invariant-rows l = record {
-  few : length l.paired.pairs.keys < 2 ^ 32;
+  few : length l.paired.pairs.items < 2 ^ 32;
   paired : (texts : List ℕ) → (labels : List Label) → ArePlaces (length labels) l.numbers → AreWithin texts l.marks l.rows
-      → ArePaired texts l.marks (take l.i l.rows) (take l.i l.numbers) labels l.paired.pairs.keys l.paired.rows.items;
+      → ArePaired texts l.marks (take l.i l.rows) (take l.i l.numbers) labels l.paired.pairs.items l.paired.rows.items;
 }

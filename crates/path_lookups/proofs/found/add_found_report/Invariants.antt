@@ -1,13 +1,4 @@
-use Rattle.std.proofs.Common.{◌≡◌, ◌++◌, drop}
-use Rattle.report_text.specs.Texts.{report_of}
-use Rattle.spec_match.specs.Scratches.{IsScratchOf}
-use Rattle.path_lookups.specs.Found.{found_messages}
 use Rattle.path_lookups.proofs.found.add_found_report.Given as goal
 
--- the lines so far, and those of the paths that are left
-abbrev pub invariant-paths : goal.invariant-paths
-invariant-paths l = record {
-  own : IsScratchOf l.rules.rules l.scratch;
-  text : l.to ++ report_of (found_messages l.rules l.kind l.bare (drop l.path-index l.paths))
-      ≡ l.initial.to ++ report_of (found_messages l.rules l.kind l.bare l.paths);
-}
+abbrev pub ghosts-add_all_found : goal.ghosts-add_all_found
+ghosts-add_all_found a = record { name = a.blank.name; parts = a.blank.parts }

@@ -6,7 +6,7 @@ use Rattle.relabel_core.proofs.directories.pass_all.Goals as goal
 pub entries-init : goal.entries-init
 entries-init c = record {
   own = c.requires.own;
-  passed = start (walk_of c.args.input.now) _ _ c.none_passed-passed.ensures.skips c.none_passed-passed.ensures.made;
+  passed = start (walk_of c.args.input.now) _ _ c.none-passed.ensures.skips c.none-passed.ensures.made;
 }
 
 pub returns-clause-passed : goal.returns-clause-passed

@@ -1,15 +1,11 @@
-use Rattle.std.proofs.Common.{◌≡◌, ◌∙◌, sym, ap, subst, ◌<◌, IfSome}
-use Rattle.relabel_core.specs.Numbers.{found_in}
+use Rattle.std.proofs.Common.{◌≡◌, ◌∙◌, sym, subst, ◌<◌, IfSome}
 use Rattle.relabel_core.specs.Answer.{walk_in}
 use Rattle.relabel_core.specs.Walk.{count, winner}
-use Rattle.relabel_core.proofs.NotedLemmas.{winner_noted, winner_within}
+use Rattle.relabel_core.proofs.NotedLemmas.{winner_within}
 use Rattle.relabel_core.proofs.walked.Walked.winner_in.Goals as goal
 
-is_winner : (c : goal.After-found_in) → c.found_in.result ≡ winner (walk_in c.args.self.now) c.args.g
-is_winner c =
-    let walked = c.args.self.now in
-    c.found_in.ensures ∙ ap (λ winners. found_in winners c.args.g) c.as_slice.ensures.value
-    ∙ winner_noted (walk_in walked) walked.decided.items walked.winners.items _ walked.noted c.requires
+is_winner : (c : goal.After-winner_at) → c.winner_at.result ≡ winner (walk_in c.args.self.now) c.args.g
+is_winner c = c.winner_at.ensures ∙ c.args.self.now.found.winners_are c.args.g c.requires
 
 pub returns-clause-value : goal.returns-clause-value
 returns-clause-value c = is_winner c

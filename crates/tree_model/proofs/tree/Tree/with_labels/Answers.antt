@@ -29,9 +29,9 @@ invariant_of-result c =
     let s = c.self.inside in
     let same = c.as_slice-numbers.ensures.value in
     let count = group_count s.sorted _ _ _ _ _ c.self.invariant.groups_are in
-    subst (λ es. IsKept es c.in_ok-ends.ends.items c.in_ok-groups.groups) (sym c.in_ok-with_labels.ensures)
-    (with_kept c.args.labels.now c.as_slice-numbers.result.now s.sorted (ap length same ∙ count) s.ends.items c.in_ok-ends.ends.items s.groups c.in_ok-groups.groups
-    (c.in_ok-ends.ensures.items ∙ c.as_slice.ensures.value)
+    subst (λ es. IsKept es c.in_ok-ends.ends.items c.in_ok-groups.groups c.in_ok-directories.directories.items) (sym c.in_ok-with_labels.ensures)
+    (with_kept c.args.labels.now c.as_slice-numbers.result.now s.sorted (ap length same ∙ count) s.ends.items c.in_ok-ends.ends.items s.groups c.in_ok-groups.groups s.directories.items c.in_ok-directories.directories.items
+    (c.in_ok-ends.ensures.items ∙ c.as_slice.ensures.value) (c.in_ok-directories.ensures.items ∙ c.as_slice-2.ensures.value)
     c.in_ok-groups.ensures.total c.in_ok-groups.ensures.group_of c.in_ok-groups.ensures.names c.in_ok-groups.ensures.starts c.in_ok-groups.ensures.closed c.self.invariant)
 
 pub returns-clause-value : goal.returns-clause-value

@@ -1,0 +1,60 @@
+-- The files of a run by their roles.
+use Rattle.std.specs.Prelude.{ℕ, ◌==◌, ◌&&◌, Bool, true, false, List, [], ◌∷◌, if◌then◌else◌}
+use Rattle.file_roles.specs.declared.role.Part.{Part}
+use Rattle.file_roles.specs.declared.role.Part.TheVariants.{Base, Homedirs, Local, Subs, SubsDist, Customizable, Kept, Template, Users}
+use Rattle.file_roles.specs.declared.role.FileRole.{FileRole}
+use Rattle.file_roles.specs.declared.role.TheConstants.{MOST_LIST_BYTES, MOST_SPEC_BYTES, MOST_STORED_BYTES}
+use Rattle.file_roles.specs.declared.list.NamedFile.{NamedFile}
+
+abbrev pub part_number : Part → ℕ
+part_number Base = 0
+part_number Homedirs = 1
+part_number Local = 2
+part_number Subs = 3
+part_number SubsDist = 4
+part_number Customizable = 5
+part_number Kept = 6
+part_number Template = 7
+part_number Users = 8
+
+abbrev pub same_part : Part → Part → Bool
+same_part a b = part_number a == part_number b
+
+abbrev pub role : Part → ℕ → FileRole
+role part version = record { part = part; version = version }
+
+abbrev pub same_role : FileRole → FileRole → Bool
+same_role a b = same_part a.part b.part && a.version == b.version
+
+-- the greatest number of bytes of a file
+abbrev pub most_bytes : Part → ℕ
+most_bytes Base = MOST_SPEC_BYTES
+most_bytes Homedirs = MOST_SPEC_BYTES
+most_bytes Local = MOST_SPEC_BYTES
+most_bytes Subs = MOST_LIST_BYTES
+most_bytes SubsDist = MOST_LIST_BYTES
+most_bytes Customizable = MOST_LIST_BYTES
+most_bytes Kept = MOST_STORED_BYTES
+most_bytes Template = MOST_SPEC_BYTES
+most_bytes Users = MOST_LIST_BYTES
+
+-- an absent file counts as an empty one
+abbrev pub may_be_absent : Part → Bool
+may_be_absent Base = false
+may_be_absent Homedirs = true
+may_be_absent Local = true
+may_be_absent Subs = true
+may_be_absent SubsDist = true
+may_be_absent Customizable = true
+may_be_absent Kept = false
+may_be_absent Template = false
+may_be_absent Users = false
+
+abbrev pub named : FileRole → List ℕ → NamedFile
+named role name = record { role = role; name = name }
+
+-- the name of the first file with a role
+abbrev pub first_name : List NamedFile → FileRole → List ℕ
+first_name [] role = []
+first_name (file ∷ files) role =
+    if same_role file.role role then file.name else first_name files role

@@ -1,0 +1,13 @@
+pub mod Chosen
+pub mod EscapedPaths
+pub mod GivenLines
+pub mod GivenParts
+pub mod Going
+pub mod Measured
+pub mod OneLine
+pub mod PieceLemmas
+pub mod TemplateLines
+pub mod ReadBack
+pub mod Refusals
+pub mod UsersMeant
+pub mod ValueLemmas

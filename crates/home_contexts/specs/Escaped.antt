@@ -1,0 +1,29 @@
+-- A path's text as a pattern of pcrepattern(3) that matches it alone.
+use Rattle.std.specs.Prelude.{◌≡◌, ◌↔◌, ℕ, Bool, ◌||◌, ◌==◌, not, List, [], ◌∷◌, Ok, if◌then◌else◌}
+use Rattle.std.specs.List.{flat_map}
+use Rattle.file_paths.specs.declared.path.TheConstants.{SLASH}
+use Rattle.pattern_syntax.specs.Classes.{is_word}
+use Rattle.pattern_syntax.specs.Language.{In}
+use Rattle.pattern_syntax.specs.Reading.{pattern_of}
+use Rattle.pattern_syntax.specs.Tree.{Tree}
+use Rattle.home_contexts.specs.declared.escape.TheConstants.{BACKSLASH, HYPHEN}
+
+-- ASCII letters and digits, _, - and /
+abbrev pub stands_bare : ℕ → Bool
+stands_bare b = is_word b || (b == HYPHEN) || (b == SLASH)
+
+abbrev pub is_marked : ℕ → Bool
+is_marked b = not (stands_bare b)
+
+-- a backslash before any other byte
+abbrev pub escaped_byte : ℕ → List ℕ
+escaped_byte b = if stands_bare b then b ∷ [] else BACKSLASH ∷ b ∷ []
+
+abbrev pub escaped : List ℕ → List ℕ
+escaped text = flat_map escaped_byte text
+
+-- the bytes are a pattern whose language is this text alone
+pub record Matches (pattern text : List ℕ) : Type 0 where
+  pub tree : Tree
+  pub read : pattern_of pattern ≡ Ok tree
+  pub alone : (other : List ℕ) → In tree other ↔ (other ≡ text)

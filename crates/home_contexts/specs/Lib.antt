@@ -1,0 +1,11 @@
+pub mod Letters
+pub mod Asked
+pub mod Escaped
+pub mod Words
+pub mod User
+pub mod UserLines
+pub mod UserGrammar
+pub mod Homes
+pub mod Making
+pub mod Found
+pub mod Plan

@@ -1,0 +1,125 @@
+ghost use Rattle.std.specs.Prelude.{◌≡◌, ◌∷◌, ◌<◌, ◌≤◌, ◌||◌, [], drop, length, IfSome, IfNone};
+ghost use Rattle.home_contexts.specs.Words.{holds, is_other, is_root, pieces_of};
+ghost use Rattle.home_contexts.specs.Words.{stands_for, word_at, word_text};
+
+/// Stands for the home without its last name.
+pub(crate) const HOME_ROOT: &[u8] = b"HOME_ROOT";
+
+/// Stands for the home.
+pub(crate) const HOME_DIR: &[u8] = b"HOME_DIR";
+
+/// Stands for the role.
+pub(crate) const ROLE: &[u8] = b"ROLE";
+
+/// Stands for the name.
+pub(crate) const USER: &[u8] = b"USER";
+
+/// A word of a template, for which a user gives a value.
+#[derive(Clone, Copy)]
+pub(crate) enum Word {
+    HomeRoot,
+    HomeDir,
+    Role,
+    User,
+}
+
+/// A piece of a field: a byte that stands for itself, or a word.
+#[derive(Clone, Copy)]
+pub(crate) enum Piece {
+    Byte(u8),
+    Stands(Word),
+}
+
+/// Which words a field or a line holds.
+#[derive(Clone, Copy)]
+pub(crate) struct Held {
+    /// `HOME_ROOT`.
+    pub root: bool,
+    /// Another one.
+    pub other: bool,
+}
+
+fn word_text(word: Word) -> &'static [u8]
+    ensures { result.now ≡ word_text word }
+{
+    match word {
+        Word::HomeRoot => HOME_ROOT,
+        Word::HomeDir => HOME_DIR,
+        Word::Role => ROLE,
+        Word::User => USER,
+    }
+}
+
+#[tactic(auto, unfolding(crate::specs::Words::word_at))]
+fn word_at(text: &[u8]) -> Option<Word>
+    ensures { result ≡ word_at text.now }
+{
+    if text.starts_with(HOME_ROOT) {
+        Some(Word::HomeRoot)
+    } else if text.starts_with(HOME_DIR) {
+        Some(Word::HomeDir)
+    } else if text.starts_with(ROLE) {
+        Some(Word::Role)
+    } else if text.starts_with(USER) {
+        Some(Word::User)
+    } else {
+        None
+    }
+}
+
+// What stands behind the word that a text begins with.
+fn behind_word<'a>(text: &'a [u8], word: &[u8]) -> &'a [u8]
+    requires { length word.now ≤ length text.now }
+    ensures { result.now ≡ drop (length word.now) text.now }
+{
+    &text[word.len()..]
+}
+
+/// The first piece of a field, and what is left behind it.
+pub(crate) fn next_piece(field: &[u8]) -> Option<(Piece, &[u8])>
+    ensures found { IfSome result
+        (λ found. pieces_of field.now ≡ found.0 ∷ pieces_of found.1.now) }
+    ensures shorter { IfSome result (λ found. length found.1.now < length field.now) }
+    ensures none { IfNone result (pieces_of field.now ≡ []) }
+{
+    let [first, rest @ ..] = field else {
+        return None;
+    };
+    match word_at(field) {
+        None => Some((Piece::Byte(*first), rest)),
+        Some(word) => Some((Piece::Stands(word), behind_word(field, word_text(word)))),
+    }
+}
+
+fn is_root(word: Word) -> bool
+    ensures { result ≡ is_root word }
+{
+    matches!(word, Word::HomeRoot)
+}
+
+fn with_piece(held: Held, piece: Piece) -> Held
+    ensures root { result.root ≡ (held.root || stands_for is_root piece) }
+    ensures other { result.other ≡ (held.other || stands_for is_other piece) }
+{
+    match piece {
+        Piece::Byte(_) => held,
+        Piece::Stands(word) => Held {
+            root: held.root || is_root(word),
+            other: held.other || !is_root(word),
+        },
+    }
+}
+
+/// The words held already, and those that the field holds.
+pub(crate) fn with_field(held: Held, field: &[u8]) -> Held
+    ensures root { result.root ≡ (held.root || holds is_root field.now) }
+    ensures other { result.other ≡ (held.other || holds is_other field.now) }
+{
+    let mut all = held;
+    let mut left = field;
+    'pieces: while let Some((piece, rest)) = next_piece(left) {
+        all = with_piece(all, piece);
+        left = rest;
+    }
+    all
+}

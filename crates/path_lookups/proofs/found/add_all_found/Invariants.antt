@@ -1,0 +1,13 @@
+use Rattle.std.proofs.Common.{◌≡◌, ◌++◌, drop}
+use Rattle.report_text.specs.Texts.{report_of}
+use Rattle.spec_match.specs.Scratches.{IsScratchOf}
+use Rattle.path_lookups.specs.Found.{found_messages}
+use Rattle.path_lookups.proofs.found.add_all_found.Given as goal
+
+-- the lines so far, and those of the paths that are left
+abbrev pub invariant-paths : goal.invariant-paths
+invariant-paths g l = record {
+  own : IsScratchOf l.rules.rules l.scratch;
+  text : l.to ++ report_of (found_messages l.rules l.kind l.bare (drop l.path-index l.paths))
+      ≡ l.initial.to ++ report_of (found_messages l.rules l.kind l.bare l.paths);
+}

@@ -1,0 +1,82 @@
+ghost use Rattle.std.specs.Prelude.{◌≡◌, ◌<◌, ◌^◌, IfOk, length};
+ghost use Rattle.path_lookups.specs.Answer.{answer_of, found_ending, lookup_end, verified_ending};
+
+use crate::found::add_found_report;
+use crate::verified::add_verified_report;
+use crate::words::LookupWords;
+use label_base::{Bytes, OutOfMemory};
+use label_rules::Rules;
+use run_endings::{End, Ending};
+use std::alloc::Global;
+use tree_model::Tree;
+
+fn lookup_end(count: u32) -> End
+    ensures { result ≡ lookup_end count }
+{
+    if count == 0 {
+        End::Done
+    } else {
+        End::Differs { count }
+    }
+}
+
+fn found_ending(alloc: Global, words: &LookupWords, rules: &Rules) -> Result<Ending, OutOfMemory>
+    ensures { IfOk result (λ ending. ending ≡ found_ending words.now rules.now) }
+{
+    let mut report = Bytes::new(alloc);
+    add_found_report(
+        alloc,
+        rules,
+        words.paths.as_slice(),
+        words.asked,
+        words.bare,
+        &mut report,
+    )?;
+    Ok(Ending {
+        report,
+        end: End::Done,
+        saved: None,
+    })
+}
+
+fn verified_ending(
+    alloc: Global,
+    words: &LookupWords,
+    rules: &Rules,
+    tree: &Tree,
+) -> Result<Ending, OutOfMemory>
+    requires { length words.now.paths < 2 ^ 31 }
+    ensures { IfOk result (λ ending. ending ≡ verified_ending words.now rules.now tree.now) }
+{
+    let mut report = Bytes::new(alloc);
+    let count = add_verified_report(
+        alloc,
+        rules,
+        tree,
+        words.paths.as_slice(),
+        words.asked,
+        &mut report,
+    )?;
+    Ok(Ending {
+        report,
+        end: lookup_end(count),
+        saved: None,
+    })
+}
+
+/// What matchpathcon writes. It fails for want of memory alone.
+#[tactic(auto, unfolding(crate::specs::Answer::answer_of))]
+pub fn answer_of(
+    alloc: Global,
+    words: &LookupWords,
+    rules: &Rules,
+    tree: &Tree,
+) -> Result<Ending, OutOfMemory>
+    requires { length words.now.paths < 2 ^ 31 }
+    ensures { IfOk result (λ ending. ending ≡ answer_of words.now rules.now tree.now) }
+{
+    if words.verify {
+        return verified_ending(alloc, words, rules, tree);
+    }
+    found_ending(alloc, words, rules)
+}

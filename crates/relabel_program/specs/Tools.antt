@@ -1,0 +1,46 @@
+-- Which tool the first word names, and what the others ask of it.
+use Rattle.std.specs.Prelude.{ℕ, List, [], ◌∷◌, Option, Some, None, Result, Err, if◌then◌else◌}
+use Rattle.label_base.specs.Text.{same_bytes}
+use Rattle.tool_words.specs.Words.{usage}
+use Rattle.tool_words.specs.declared.usage.Usage.{Usage}
+use Rattle.tool_words.specs.declared.usage.UsageWhy.TheVariants.{UnknownTool}
+use Rattle.tool_runs.specs.Plan.{Plan, planned}
+use Rattle.tree_relabelling.specs.Plan.{relabel_plan}
+use Rattle.tree_relabelling.specs.Words.{restorecon_words, setfiles_words}
+use Rattle.tree_relabelling.specs.declared.TheConstants.{RESTORECON, SETFILES}
+use Rattle.path_lookups.specs.Plan.{lookup_plan}
+use Rattle.path_lookups.specs.Words.{lookup_words}
+use Rattle.path_lookups.specs.declared.TheConstants.{MATCHPATHCON}
+use Rattle.home_contexts.specs.Asked.{homes_words}
+use Rattle.home_contexts.specs.Plan.{homes_plan}
+use Rattle.home_contexts.specs.declared.TheConstants.{GENHOMEDIRCON}
+use Rattle.sample_tree.specs.Plan.{sample_plan}
+use Rattle.sample_tree.specs.Words.{sample_words}
+use Rattle.sample_tree.specs.declared.TheConstants.{SAMPLE}
+use Rattle.relabel_program.specs.declared.runs.TheConstants.{FIRST}
+use Rattle.relabel_program.specs.declared.runs.ToolName.{ToolName}
+use Rattle.relabel_program.specs.declared.runs.ToolName.TheVariants.{Setfiles, Restorecon, Matchpathcon, Genhomedircon, Sample}
+
+-- the tool that a word names
+abbrev pub tool_named : List ℕ → Option ToolName
+tool_named word =
+    if same_bytes word SETFILES.now then Some Setfiles
+    else if same_bytes word RESTORECON.now then Some Restorecon
+    else if same_bytes word MATCHPATHCON.now then Some Matchpathcon
+    else if same_bytes word GENHOMEDIRCON.now then Some Genhomedircon
+    else if same_bytes word SAMPLE.now then Some Sample
+    else None
+
+-- what the words behind a tool's name ask for: how they are read, and the plan of what they mean
+abbrev pub asked_for : Option ToolName → List (List ℕ) → Result Plan Usage
+asked_for (Some Setfiles) words = planned relabel_plan (setfiles_words FIRST words)
+asked_for (Some Restorecon) words = planned relabel_plan (restorecon_words FIRST words)
+asked_for (Some Matchpathcon) words = planned lookup_plan (lookup_words FIRST words)
+asked_for (Some Genhomedircon) words = planned homes_plan (homes_words FIRST words)
+asked_for (Some Sample) words = planned sample_plan (sample_words FIRST words)
+asked_for None words = Err (usage 0 UnknownTool)
+
+-- what all words ask for, or the first that is wrong
+abbrev pub asked_of : List (List ℕ) → Result Plan Usage
+asked_of [] = Err (usage 0 UnknownTool)
+asked_of (tool ∷ words) = asked_for (tool_named tool) words

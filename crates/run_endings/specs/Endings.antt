@@ -1,0 +1,42 @@
+-- What a run leaves at its end: a text saved, and its report or a fault line written.
+use Rattle.std.specs.Prelude.{◌≡◌, ℕ, List, Option, Some, None, Result, Ok, Err, ◌⊎◌}
+use Rattle.std.specs.Io.KnownBytes.{Appends}
+use Rattle.input_output.specs.Sink.{AppendsFront}
+use Rattle.input_output.specs.Source.{Rose}
+use Rattle.input_output.specs.Store.{Files, SaveTold}
+use Rattle.input_output.specs.declared.store.SaveFault.{SaveFault}
+use Rattle.run_faults.specs.declared.cause.Cause.{Cause}
+use Rattle.run_faults.specs.declared.cause.Cause.TheVariants as causes
+use Rattle.run_faults.specs.declared.cause.Cause.TheVariants.{WriteFault}
+use Rattle.run_endings.specs.declared.ending.End.{End}
+use Rattle.run_endings.specs.declared.ending.End.TheVariants.{Done, WalkErrors, Differs}
+use Rattle.run_endings.specs.declared.ending.Saved.{Saved}
+use Rattle.run_endings.specs.declared.ending.Ending.{Ending}
+
+-- the cause of a run that ends so
+abbrev pub cause_of : End → Cause
+cause_of Done = causes.Done
+cause_of (WalkErrors count) = causes.WalkErrors count
+cause_of (Differs count) = causes.Differs count
+
+-- a line was written, or a front of it where the sink failed
+abbrev pub LineOrFront : {O : Type 0} → (O → Option (List ℕ)) → (O → ℕ) → O → O → List ℕ → Type 0
+LineOrFront written faults old new line =
+    Appends (written old) (written new) line
+    ⊎ (AppendsFront (written old) (written new) line × Rose (faults old) (faults new))
+
+-- the write of a file: it was saved, or the write failed, or found no memory; without a file nothing
+-- is written
+abbrev pub Saves : Option Files → Option Files → Option Saved → Result (Unit {0}) SaveFault → Type 0
+Saves old new None (Ok done) = new ≡ old
+Saves old new None (Err fault) = ⊥
+Saves old new (Some saved) result = SaveTold old new saved.name saved.text result
+
+-- a write of the report: it was written whole and the cause is its own, or a front of it was where the
+-- sink failed
+abbrev pub WritesReport : {O : Type 0}
+    → (O → Option (List ℕ)) → (O → ℕ) → O → O → Ending → Cause → Type 0
+WritesReport written faults old new ending cause =
+    (cause ≡ cause_of ending.end) × Appends (written old) (written new) ending.report
+    ⊎ (cause ≡ WriteFault) × AppendsFront (written old) (written new) ending.report
+    × Rose (faults old) (faults new)

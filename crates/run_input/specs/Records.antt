@@ -1,0 +1,48 @@
+-- The tree that the input gives.
+use Rattle.std.specs.Prelude.{ℕ, nat_lt, Bool, List, [], length, Option, Some, Result, Ok, Err, if◌then◌else◌}
+use Rattle.find_records.specs.Grammar.{records_of}
+use Rattle.find_records.specs.Record.{Record}
+use Rattle.find_records.specs.declared.fault.RecordsFault.{RecordsFault}
+use Rattle.find_records.specs.declared.fault.RecordsFault.TheVariants as records
+use Rattle.find_records.specs.declared.reading.RecordLimits.{RecordLimits}
+use Rattle.tree_model.specs.Entries.{tree_of}
+use Rattle.run_faults.specs.declared.cause.Cause.{Cause}
+use Rattle.run_faults.specs.declared.cause.Cause.TheVariants.{RecordRefused, Unended, Doubled, Limit, ReadFault, OutOfMemory}
+use Rattle.run_faults.specs.declared.cause.LimitKind.TheVariants.{Records, RecordBytes}
+use Rattle.run_input.specs.declared.records.TheConstants.{MOST_RECORD_BYTES, MOST_RECORDS}
+
+-- the greatest numbers of records and of their bytes
+abbrev pub record_limits : RecordLimits
+record_limits = record { records = MOST_RECORDS; bytes = MOST_RECORD_BYTES }
+
+-- how a run ends where the input gives no records
+abbrev pub records_refusal : RecordsFault → Cause
+records_refusal records.ReadFault = ReadFault
+records_refusal records.TooLong = Limit RecordBytes
+records_refusal records.TooMany = Limit Records
+records_refusal (records.Refused number why) = RecordRefused number why
+records_refusal (records.Unended number) = Unended number
+records_refusal records.OutOfMemory = OutOfMemory
+
+-- entries, or the numbers of two records of one path
+abbrev pub entries_from : Result (List Record) (ℕ × ℕ) → Result (List Record) Cause
+entries_from (Ok entries) = Ok entries
+entries_from (Err doubled) = Err (Doubled doubled.0 doubled.1)
+
+abbrev pub entries_read : Result (List Record) RecordsFault → Result (List Record) Cause
+entries_read (Ok records) = entries_from (tree_of records)
+entries_read (Err fault) = Err (records_refusal fault)
+
+-- the entries of the tree that the bytes of the input are
+unfoldable pub entries_of : List ℕ → Result (List Record) Cause
+entries_of bytes =
+    if nat_lt MOST_RECORD_BYTES (length bytes) then Err (Limit RecordBytes)
+    else entries_read (records_of record_limits bytes)
+
+-- the entries of a tool: those of the input where it takes records, and else none
+unfoldable pub entries_for : (takes : Bool) → List ℕ → Result (List Record) Cause
+entries_for takes input = if takes then entries_of input else Ok []
+
+-- the bytes of the input, of which none count where no records are taken
+abbrev pub input_for : (takes : Bool) → Option (List ℕ) → Option (List ℕ)
+input_for takes left = if takes then left else Some []

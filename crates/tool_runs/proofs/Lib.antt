@@ -1,0 +1,6 @@
+pub mod Completeness
+pub mod MemoryRuns
+pub mod PartLemmas
+pub mod RefusedRuns
+pub mod WordRuns
+pub mod WrittenRuns

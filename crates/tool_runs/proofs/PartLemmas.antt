@@ -1,0 +1,242 @@
+-- What the parts of a run say, as far as its end follows from that.
+use Rattle.std.proofs.Common.{◌≡◌, ◌∙◌, ap, sym, subst, refl, cond, ℕ, ◌≤◌, arith, inl, inr, List}
+use Rattle.std.specs.Prelude.{Bool, true, false, Option, Some, None, Result, Ok, Err, is_some, IfSome, option_map}
+use Rattle.std.specs.FinMap as map
+use Rattle.std.specs.FinMap.{get-insert, get-remove, same_map, nat_cmp-IsAntisymmetric, slice_cmp-IsAntisymmetric}
+use Rattle.std.specs.Ordering.{eq_by_cmp, nat_cmp}
+use Rattle.std.specs.Cmp.Lexicographic.{slice_cmp, nat_list_cmp_total}
+use Rattle.input_output.specs.Store.{Files}
+use Rattle.input_output.specs.declared.store.SaveFault.{SaveFault}
+use Rattle.input_output.specs.declared.store.SaveFault.TheVariants as save
+use Rattle.find_records.specs.Record.{Record}
+use Rattle.run_faults.specs.Causes.{and_then, CauseCounts, Explained, IsFileCause, IsInputCause, IsReadingCause, IsWritten}
+use Rattle.run_faults.specs.declared.cause.Cause.{Cause}
+use Rattle.run_faults.specs.declared.cause.Cause.TheVariants.{Done, RecordRefused, Unended, Doubled, Limit, WalkErrors, Differs, ReadFault, WriteFault, OutOfMemory}
+use Rattle.run_faults.specs.declared.cause.LimitKind.TheVariants.{File, Specs, Records, RecordBytes}
+use Rattle.run_input.specs.Records.{entries_for}
+use Rattle.run_input.proofs.ReadsLemmas.{explained_next}
+use Rattle.run_endings.specs.Endings.{Saves, cause_of}
+use Rattle.run_endings.specs.declared.ending.End.{End}
+use Rattle.run_endings.specs.declared.ending.End.TheVariants as ends
+use Rattle.run_endings.specs.declared.ending.Ending.{Ending}
+use Rattle.run_endings.specs.declared.ending.Saved.{Saved}
+use Rattle.tool_runs.specs.Plan.{answer_by, refusal_in}
+use Rattle.tool_runs.specs.Run.{Ends, FilesDecide, OthersStay, Reports, files_with}
+use Rattle.tool_runs.specs.Stages.{saved_name}
+
+-- ---- options
+
+pub if_some : {A : Type 0} {P Q : A → Type 0} (found : Option A) → ((x : A) → P x → Q x)
+    → IfSome found P → IfSome found Q
+if_some None next held = held
+if_some (Some x) next held = next x held
+
+pub if_both : {A : Type 0} {P Q R : A → Type 0} (found : Option A)
+    → ((x : A) → P x → Q x → R x) → IfSome found P → IfSome found Q → IfSome found R
+if_both None next first second = first
+if_both (Some x) next first second = next x first second
+
+-- ---- what the files decide
+
+module _ {R : Type 0} (untouched : Type 0) where
+  pub files_refused : (meant : Result R Cause) (cause : Cause) → Explained meant cause
+      → IsFileCause cause → untouched → FilesDecide (refusal_in meant) cause untouched
+  files_refused (Err refusal) ReadFault is kind still =
+      record { cause_is = inr tt; of_files = tt; no_input_read = still }
+  files_refused (Err refusal) OutOfMemory is kind still =
+      record { cause_is = inr tt; of_files = tt; no_input_read = still }
+  files_refused (Err refusal) cause is kind still =
+      record { cause_is = inl (cc); of_files = kind; no_input_read = still }
+  files_refused (Ok value) ReadFault is kind still = λ _. tt
+  files_refused (Ok value) OutOfMemory is kind still = λ _. tt
+  files_refused (Ok value) cause is kind still = absurd (cc)
+
+  pub files_memory : (meant : Result R Cause) → untouched
+      → FilesDecide (refusal_in meant) OutOfMemory untouched
+  files_memory (Err refusal) still =
+      record { cause_is = inr tt; of_files = tt; no_input_read = still }
+  files_memory (Ok value) still = λ _. tt
+
+  pub files_accepted : (meant : Result R Cause) (found : R) (cause : Cause) → meant ≡ Ok found
+      → (IsFileCause cause → IsReadingCause cause)
+      → FilesDecide (refusal_in meant) cause untouched
+  files_accepted (Err refusal) found cause accepted later = absurd (cc)
+  files_accepted (Ok value) found cause accepted later = later
+
+pub input_later : (cause : Cause) → IsInputCause cause → IsFileCause cause → IsReadingCause cause
+input_later (RecordRefused number why) kind file = file
+input_later (Unended number) kind file = file
+input_later (Doubled first second) kind file = file
+input_later (Limit (File role)) kind file = absurd kind
+input_later (Limit Specs) kind file = absurd kind
+input_later (Limit Records) kind file = file
+input_later (Limit RecordBytes) kind file = file
+input_later cause kind file = kind
+
+pub written_later : (cause : Cause) → IsWritten cause → IsFileCause cause → IsReadingCause cause
+written_later Done kind file = file
+written_later (WalkErrors count) kind file = file
+written_later (Differs count) kind file = file
+written_later WriteFault kind file = file
+written_later cause kind file = absurd kind
+
+pub unwritten_file : (cause : Cause) → IsFileCause cause → IsWritten cause → ⊥
+unwritten_file Done kind written = kind
+unwritten_file (WalkErrors count) kind written = kind
+unwritten_file (Differs count) kind written = kind
+unwritten_file WriteFault kind written = kind
+unwritten_file cause kind written = written
+
+pub unwritten_input : (cause : Cause) → IsInputCause cause → IsWritten cause → ⊥
+unwritten_input Done kind written = kind
+unwritten_input (WalkErrors count) kind written = kind
+unwritten_input (Differs count) kind written = kind
+unwritten_input WriteFault kind written = kind
+unwritten_input cause kind written = written
+
+-- ---- what is meant
+
+pub ends_explained : {S O : Type 0} (files : S → Option Files) (written : O → Option (List ℕ))
+    (store : S) (out out_now : O) (known : Files) (meant : Result Ending Cause) (cause : Cause)
+    → (IsWritten cause → ⊥) → Explained meant cause
+    → Ends files written store out out_now known meant cause
+ends_explained files written store out out_now known meant Done unwritten is =
+    absurd (unwritten tt)
+ends_explained files written store out out_now known meant (WalkErrors count) unwritten is =
+    absurd (unwritten tt)
+ends_explained files written store out out_now known meant (Differs count) unwritten is =
+    absurd (unwritten tt)
+ends_explained files written store out out_now known meant WriteFault unwritten is =
+    absurd (unwritten tt)
+ends_explained files written store out out_now known meant cause unwritten is = is
+
+module _ {R : Type 0} (takes : Bool) (read : Files → Result R Cause)
+    (answered : R → List Record → Result Ending Cause) (known : Files) (bytes : List ℕ) where
+  pub file_explains : (cause : Cause) → Explained (read known) cause
+      → Explained (answer_by takes read answered known bytes) cause
+  unfolding answer_by
+  file_explains cause is =
+      explained_next (read known)
+      (λ found. and_then (entries_for takes bytes) (answered found)) cause is
+
+  answer_next : (found : R) → read known ≡ Ok found
+      → answer_by takes read answered known bytes
+      ≡ and_then (entries_for takes bytes) (answered found)
+  unfolding answer_by
+  answer_next found is =
+      ap (λ r. and_then r (λ found. and_then (entries_for takes bytes) (answered found))) is
+
+  pub input_explains : (found : R) (cause : Cause) → read known ≡ Ok found
+      → Explained (entries_for takes bytes) cause
+      → Explained (answer_by takes read answered known bytes) cause
+  input_explains found cause is explained =
+      subst (λ meant. Explained meant cause) (sym (answer_next found is))
+      (explained_next (entries_for takes bytes) (answered found) cause explained)
+
+  -- the answer is the tool's, where files and input are accepted
+  pub answer_is : (found : R) (entries : List Record) (meant : Result Ending Cause)
+      → read known ≡ Ok found → entries_for takes bytes ≡ Ok entries
+      → answered found entries ≡ meant
+      → answer_by takes read answered known bytes ≡ meant
+  answer_is found entries meant is entered so =
+      answer_next found is ∙ ap (λ r. and_then r (answered found)) entered ∙ so
+
+-- ---- counts
+
+pub counts_calm : (before now : ℕ) (cause : Cause) → CauseCounts before now cause
+    → (IsReadingCause cause → ⊥) → now ≡ before
+counts_calm before now ReadFault counts calm = absurd (calm tt)
+counts_calm before now cause counts calm = counts
+
+pub counts_later : (before now : ℕ) (cause : Cause) → CauseCounts before now cause → before ≤ now
+counts_later before now ReadFault counts = counts.0
+counts_later before now cause counts = omega (arith, counts)
+
+-- a call that raises no count had no failed read
+pub never_read : (cause : Cause) → CauseCounts 0 0 cause → cause ≡ ReadFault → ⊥
+never_read ReadFault counts is = absurd (omega (arith, counts.1))
+never_read cause counts is = absurd (cc)
+
+-- ---- what is saved
+
+pub stay_same : (old new : Option Files) (output : Option (List ℕ)) → new ≡ old
+    → OthersStay old new output
+stay_same old new None is = is
+stay_same None new (Some name) is = tt
+stay_same (Some old) None (Some name) is = absurd (cc)
+stay_same (Some old) (Some new) (Some name) is =
+    let same : new ≡ old = cc in ap (λ files. map.remove files name) same
+
+dropped_twice : (b : Bool) (x y : Option (List ℕ)) → cond b None (cond b x y) ≡ cond b None y
+dropped_twice true x y = refl
+dropped_twice false x y = refl
+
+removed_saved : (files : Files) (name text : List ℕ)
+    → map.remove (map.insert files name text) name ≡ map.remove files name
+removed_saved files name text =
+    same_map nat_list_cmp_total (slice_cmp-IsAntisymmetric nat_cmp-IsAntisymmetric) _ _ (λ q.
+    get-remove nat_list_cmp_total (map.insert files name text) name q
+    ∙ ap (cond (eq_by_cmp (slice_cmp nat_cmp) q name) None)
+    (get-insert nat_list_cmp_total files name text q)
+    ∙ dropped_twice (eq_by_cmp (slice_cmp nat_cmp) q name) (Some text) (map.get files q)
+    ∙ sym (get-remove nat_list_cmp_total files name q))
+
+-- whatever the write of the file answers, all other files stay
+pub others_stay : (old new : Option Files) (saved : Option Saved)
+    (result : Result (Unit {0}) SaveFault) → Saves old new saved result
+    → OthersStay old new (option_map saved_name saved)
+others_stay old new None (Ok done) saves = saves
+others_stay old new None (Err fault) saves = absurd saves
+others_stay None new (Some saved) result saves = tt
+others_stay (Some old) None (Some saved) result saves = saves
+others_stay (Some old) (Some new) (Some saved) (Ok done) saves =
+    ap (λ files. map.remove files saved.name) saves ∙ removed_saved old saved.name saved.text
+others_stay (Some old) (Some new) (Some saved) (Err save.Failed) saves = saves
+others_stay (Some old) (Some new) (Some saved) (Err save.OutOfMemory) saves =
+    ap (λ files. map.remove files saved.name) saves
+
+-- a text that was saved is among the files
+pub all_saved : (old new : Option Files) (saved : Option Saved) → Saves old new saved (Ok tt)
+    → IfSome old (λ known. new ≡ Some (files_with known saved))
+all_saved None new saved saves = tt
+all_saved (Some old) new None saves = saves
+all_saved (Some old) None (Some saved) saves = absurd saves
+all_saved (Some old) (Some new) (Some saved) saves = ap Some saves
+
+-- a text for which there was no memory leaves all files
+pub none_saved : (old new : Option Files) (saved : Option Saved)
+    → Saves old new saved (Err save.OutOfMemory) → IfSome old (λ known. new ≡ Some known)
+none_saved None new saved saves = tt
+none_saved (Some old) new None saves = absurd saves
+none_saved (Some old) None (Some saved) saves = absurd saves
+none_saved (Some old) (Some new) (Some saved) saves = ap Some saves
+
+-- only where a file is asked for can its write fail
+pub failing_named : (old new : Option Files) (saved : Option Saved)
+    → Saves old new saved (Err save.Failed) → is_some (option_map saved_name saved) ≡ true
+failing_named old new None saves = absurd saves
+failing_named old new (Some saved) saves = refl
+
+-- ---- causes of a report
+
+pub end_written : (end : End) → IsWritten (cause_of end)
+end_written ends.Done = tt
+end_written (ends.WalkErrors count) = tt
+end_written (ends.Differs count) = tt
+
+pub end_kept : (end : End) → cause_of end ≡ WriteFault → ⊥
+end_kept ends.Done is = absurd (cc)
+end_kept (ends.WalkErrors count) is = absurd (cc)
+end_kept (ends.Differs count) is = absurd (cc)
+
+pub ends_reported : {S O : Type 0} (files : S → Option Files) (written : O → Option (List ℕ))
+    (store : S) (out out_now : O) (known : Files) (meant : Result Ending Cause) (end : End)
+    → Reports files written store out out_now known meant (cause_of end)
+    → Ends files written store out out_now known meant (cause_of end)
+ends_reported files written store out out_now known meant ends.Done reports = reports
+ends_reported files written store out out_now known meant (ends.WalkErrors count) reports = reports
+ends_reported files written store out out_now known meant (ends.Differs count) reports = reports
+
+pub same_known : (old new : Option Files) → new ≡ old → IfSome old (λ known. new ≡ Some known)
+same_known None new is = tt
+same_known (Some old) new is = is

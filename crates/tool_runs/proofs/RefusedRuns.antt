@@ -1,0 +1,155 @@
+-- A run whose files or input are refused.
+use Rattle.std.proofs.Common.{◌≡◌, ap, sym, subst, ℕ, arith, ◌⊎◌, inl, inr, List}
+use Rattle.std.specs.Prelude.{Bool, Option, Result, Ok, Err}
+use Rattle.input_output.specs.Store.{Files}
+use Rattle.file_roles.specs.declared.list.NamedFile.{NamedFile}
+use Rattle.find_records.specs.Record.{Record}
+use Rattle.run_faults.specs.Causes.{CauseCounts, IsFileCause, IsInputCause}
+use Rattle.run_faults.specs.Faults.{fault_line}
+use Rattle.run_faults.specs.declared.cause.Cause.{Cause}
+use Rattle.run_faults.specs.declared.cause.Cause.TheVariants.{OutOfMemory}
+use Rattle.run_input.specs.Files.{Reads}
+use Rattle.run_input.specs.Records.{input_for}
+use Rattle.run_input.proofs.ReadsLemmas.{all_some}
+use Rattle.run_endings.specs.Endings.{LineOrFront}
+use Rattle.run_endings.specs.declared.ending.Ending.{Ending}
+use Rattle.tool_runs.specs.Plan.{answer_by, plan_by, refusal_in}
+use Rattle.tool_runs.specs.Run.{Run}
+use Rattle.tool_runs.specs.Stages.{InputRead}
+use Rattle.tool_runs.proofs.PartLemmas.{counts_calm, counts_later, ends_explained, file_explains, files_accepted, files_memory, files_refused, if_some, input_explains, input_later, same_known, stay_same, unwritten_file, unwritten_input}
+use Rattle.tool_runs.proofs.MemoryRuns.{accepted_memory, gave_up}
+
+module _ {S I O R : Type 0} (files : S → Option Files) (read_faults write_faults : S → ℕ)
+    (left : I → Option (List ℕ)) (input_faults : I → ℕ) (written : O → Option (List ℕ))
+    (out_faults : O → ℕ) (reads : List NamedFile) (takes soft : Bool) (output : Option (List ℕ))
+    (read : Files → Result R Cause) (answered : R → List Record → Result Ending Cause)
+    (store store_now : S) (input input_now : I) (out out_now : O) where
+  abbrev Ran : Cause → Type 0
+  Ran = Run files read_faults write_faults left input_faults written out_faults
+      (Ok (plan_by reads takes soft output read answered)) store store_now input input_now
+      out out_now
+
+  abbrev Fault_line : Cause → Type 0
+  Fault_line cause = LineOrFront written out_faults out out_now (fault_line reads cause)
+
+  -- a refused file
+  refused_file : (cause : Cause)
+      → Reads files read_faults write_faults read store store_now (Err cause)
+      → input_now ≡ input → Fault_line cause → Ran cause
+  refused_file cause ended still line =
+      record {
+        wrong_words = tt;
+        only_wrong_words = λ wrong is. absurd (subst IsFileCause is ended.kinds);
+        no_records = λ _. still;
+        files_decide = if_some (files store) (λ known explained.
+            files_refused (input_now ≡ input) (read known) cause explained ended.kinds still)
+            ended.gives;
+        is_meant = if_some (files store) (λ known explained.
+            all_some (input_for takes (left input)) (λ bytes.
+            ends_explained files written store_now out out_now known
+            (answer_by takes read answered known bytes) cause
+            (unwritten_file cause ended.kinds)
+            (file_explains takes read answered known bytes cause explained))) ended.gives;
+        others_stay = stay_same (files store) (files store_now) output ended.same;
+        same_files = λ _. same_known (files store) (files store_now) ended.same;
+        fault_line_written = λ _. line;
+        all_read = λ written. absurd (unwritten_file cause ended.kinds written);
+        read_failed = λ is. inl (
+          (subst (CauseCounts (read_faults store) (read_faults store_now)) is ended.counts).1,
+          still,
+        );
+        write_failed = λ is. absurd (subst IsFileCause is ended.kinds);
+        read_counts = counts_later (read_faults store) (read_faults store_now) cause ended.counts;
+        input_counts = omega (arith, ap input_faults still);
+        write_counts = omega (arith, ended.unwritten);
+        no_read_failed = λ calm. (
+          counts_calm (read_faults store) (read_faults store_now) cause ended.counts calm,
+          ap input_faults still,
+        );
+        no_write_failed = λ _. ended.unwritten;
+      }
+
+  -- a refusal of the input
+  refused_input : (cause : Cause) (found : R)
+      → Reads files read_faults write_faults read store store_now (Ok found)
+      → InputRead left input_faults takes input input_now (Err cause) → IsInputCause cause
+      → Fault_line cause → Ran cause
+  refused_input cause found accepted entries kind line =
+      record {
+        wrong_words = tt;
+        only_wrong_words = λ wrong is. absurd (subst IsInputCause is kind);
+        no_records = entries.untouched;
+        files_decide = if_some (files store) (λ known is.
+            files_accepted (input_now ≡ input) (read known) found cause is
+            (input_later cause kind)) accepted.gives;
+        is_meant = if_some (files store) (λ known is.
+            if_some (input_for takes (left input)) (λ bytes explained.
+            ends_explained files written store_now out out_now known
+            (answer_by takes read answered known bytes) cause (unwritten_input cause kind)
+            (input_explains takes read answered known bytes found cause is explained))
+            entries.gives) accepted.gives;
+        others_stay = stay_same (files store) (files store_now) output accepted.same;
+        same_files = λ _. same_known (files store) (files store_now) accepted.same;
+        fault_line_written = λ _. line;
+        all_read = λ written. absurd (unwritten_input cause kind written);
+        read_failed = λ is. inr (record {
+          rose = (subst (CauseCounts (input_faults input) (input_faults input_now)) is
+              entries.counts).1;
+          no_file_failed = accepted.counts;
+          accepted = if_some (files store) (λ known is. ap refusal_in is) accepted.gives;
+        });
+        write_failed = λ is. absurd (subst IsInputCause is kind);
+        read_counts = omega (arith, accepted.counts);
+        input_counts =
+            counts_later (input_faults input) (input_faults input_now) cause entries.counts;
+        write_counts = omega (arith, accepted.unwritten);
+        no_read_failed = λ calm. (
+          accepted.counts,
+          counts_calm (input_faults input) (input_faults input_now) cause entries.counts calm,
+        );
+        no_write_failed = λ _. accepted.unwritten;
+      }
+
+  line_for : (list : List NamedFile) (a b : Cause) → list ≡ reads → a ≡ b
+      → LineOrFront written out_faults out out_now (fault_line list a) → Fault_line b
+  line_for list a b own same line =
+      subst Fault_line same (subst (λ (l : List NamedFile).
+      LineOrFront written out_faults out out_now (fault_line l a)) own line)
+
+  -- a refusal of a file, or want of memory in its place
+  pub ended_by_file : (refusal cause : Cause) (list : List NamedFile)
+      → (cause ≡ refusal) ⊎ (cause ≡ OutOfMemory) → list ≡ reads
+      → Reads files read_faults write_faults read store store_now (Err refusal)
+      → input_now ≡ input
+      → LineOrFront written out_faults out out_now (fault_line list cause) → Ran cause
+  ended_by_file refusal cause list (inl is) own ended still line =
+      subst Ran (sym is) (refused_file refusal ended still (line_for list cause refusal own is line))
+  ended_by_file refusal cause list (inr is) own ended still line =
+      subst Ran (sym is) (gave_up _ _ _ _ _ _ _ _ _ _ _ _ _ _ _ _ _ _ _
+      (all_some (files store) (λ known. files_memory (input_now ≡ input) (read known) still))
+      (λ _. still)
+      (stay_same (files store) (files store_now) output ended.same)
+      (same_known (files store) (files store_now) ended.same)
+      (line_for list cause OutOfMemory own is line)
+      (counts_later _ _ refusal ended.counts) (omega (arith, ap input_faults still))
+      ended.unwritten)
+
+  -- a refusal of the input, or want of memory in its place
+  pub ended_by_input : (refusal cause : Cause) (list : List NamedFile) (found : R)
+      → (cause ≡ refusal) ⊎ (cause ≡ OutOfMemory) → list ≡ reads
+      → Reads files read_faults write_faults read store store_now (Ok found)
+      → InputRead left input_faults takes input input_now (Err refusal) → IsInputCause refusal
+      → LineOrFront written out_faults out out_now (fault_line list cause) → Ran cause
+  ended_by_input refusal cause list found (inl is) own accepted entries kind line =
+      subst Ran (sym is)
+      (refused_input refusal found accepted entries kind (line_for list cause refusal own is line))
+  ended_by_input refusal cause list found (inr is) own accepted entries kind line =
+      subst Ran (sym is) (gave_up _ _ _ _ _ _ _ _ _ _ _ _ _ _ _ _ _ _ _
+      (accepted_memory files read_faults write_faults left input_faults written out_faults reads
+      takes soft output read answered store store_now input input_now out out_now store_now found
+      accepted) entries.untouched
+      (stay_same (files store) (files store_now) output accepted.same)
+      (same_known (files store) (files store_now) accepted.same)
+      (line_for list cause OutOfMemory own is line)
+      (omega (arith, accepted.counts)) (counts_later _ _ refusal entries.counts)
+      accepted.unwritten)

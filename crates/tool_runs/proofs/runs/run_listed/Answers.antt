@@ -1,0 +1,12 @@
+use Rattle.std.proofs.Common.{refl}
+use Rattle.tool_runs.proofs.RefusedRuns.{ended_by_file}
+use Rattle.tool_runs.proofs.runs.run_listed.Goals as goal
+
+pub returns-in-Err : goal.returns-in-Err
+returns-in-Err g c =
+    ended_by_file _ _ _ _ _ _ _ _ _ _ _ _ _ _ _ _ _ _ _ c.in-Err.refusal c.refuse.result
+    c.args.list.now c.refuse.ensures.cause c.requires.list c.in-Err.ensures refl
+    c.refuse.ensures.line
+
+pub returns : goal.returns
+returns g c = c.run_found.ensures _ c.in-Ok.ensures

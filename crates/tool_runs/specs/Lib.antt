@@ -1,0 +1,4 @@
+pub mod Plan
+pub mod Run
+pub mod Complete
+pub mod Stages

@@ -1,0 +1,149 @@
+ghost use Rattle.std.specs.Prelude.{◌≡◌, ◌<◌, ◌^◌, IfOk, Ok, Result, length};
+ghost use Rattle.label_base.specs.Answers.{Answers, cause_of};
+ghost use Rattle.tool_words.specs.declared.usage.Usage.{Usage};
+ghost use Rattle.run_faults.specs.Faults.{status_of};
+ghost use Rattle.run_input.specs.Files.{Reads};
+ghost use Rattle.tool_runs.specs.Plan.{is_soft_in, plan_by, planned};
+ghost use Rattle.tool_runs.specs.Run.{Run};
+ghost use Rattle.tool_runs.specs.Stages.{Ended};
+
+use crate::tool::Tool;
+use file_roles::FileList;
+use input_output::{SaveFault, Sink, Source, Store};
+use label_base::Fault;
+use run_endings::{Ending, finish, give_up, lose_dump, outcome, refuse, refuse_words, save};
+use run_faults::{Cause, Outcome};
+use run_input::read_entries;
+use std::alloc::Global;
+use tool_words::Usage;
+use tree_model::Tree;
+
+// Asks a tool, and writes its answer: all texts are made before the first byte is written, and the
+// file is written before the report.
+fn end_run<T: Tool, S: Store, O: Sink>(
+    alloc: Global,
+    tool: &T,
+    list: &FileList,
+    found: &T::Found,
+    tree: &Tree,
+    store: &mut S,
+    out: &mut O,
+) -> Cause
+    requires fit { T.IsFit tool.now }
+    requires tree { length tree.now < 2 ^ 31 }
+    requires list { list.now ≡ T.reads tool.now }
+    ensures { Ended S.files S.read_faults S.write_faults O.written O.faults (T.reads tool.now)
+        (T.output tool.now) (T.answered tool.now found.now tree.now) store.old store.new
+        out.old out.new result }
+{
+    let ending = match tool.answer(alloc, found, tree) {
+        Ok(ending) => ending,
+        Err(refusal) => return refuse(alloc, list, refusal, out),
+    };
+    match save(alloc, &ending, store) {
+        Ok(()) => finish(&ending, out),
+        Err(SaveFault::Failed) => lose_dump(out),
+        Err(SaveFault::OutOfMemory) => give_up(out),
+    }
+}
+
+// Runs a tool whose files were read and say this: reads the input, then asks the tool.
+fn run_found<T: Tool, S: Store, I: Source, O: Sink>(
+    alloc: Global,
+    tool: &T,
+    list: &FileList,
+    found: &T::Found,
+    store: &mut S,
+    input: &mut I,
+    out: &mut O,
+) -> Cause
+    requires fit { T.IsFit tool.now }
+    requires list { list.now ≡ T.reads tool.now }
+    ensures { (before : S)
+        → Reads S.files S.read_faults S.write_faults (T.files_say tool.now) before store.old
+        (Ok found.now)
+        → Run S.files S.read_faults S.write_faults I.left I.faults O.written O.faults
+        (Ok (plan_by (T.reads tool.now) (T.takes_records tool.now) (T.is_soft tool.now)
+        (T.output tool.now) (T.files_say tool.now) (T.answered tool.now)))
+        before store.new input.old input.new out.old out.new result }
+{
+    let tree = match read_entries(alloc, tool.does_take_records(), input) {
+        Ok(tree) => tree,
+        Err(refusal) => return refuse(alloc, list, refusal, out),
+    };
+    end_run(alloc, tool, list, found, &tree, store, out)
+}
+
+// Runs a tool that reads these files: reads them before the input.
+fn run_listed<T: Tool, S: Store, I: Source, O: Sink>(
+    alloc: Global,
+    tool: &T,
+    list: &FileList,
+    store: &mut S,
+    input: &mut I,
+    out: &mut O,
+) -> Cause
+    requires fit { T.IsFit tool.now }
+    requires list { list.now ≡ T.reads tool.now }
+    ensures { Run S.files S.read_faults S.write_faults I.left I.faults O.written O.faults
+        (Ok (plan_by (T.reads tool.now) (T.takes_records tool.now) (T.is_soft tool.now)
+        (T.output tool.now) (T.files_say tool.now) (T.answered tool.now)))
+        store.old store.new input.old input.new out.old out.new result }
+{
+    let found = match tool.read_files(alloc, list, store) {
+        Ok(found) => found,
+        Err(refusal) => return refuse(alloc, list, refusal, out),
+    };
+    run_found(alloc, tool, list, &found, store, input, out)
+}
+
+// Runs a tool. Each function from here inwards owns one value.
+fn run_tool<T: Tool, S: Store, I: Source, O: Sink>(
+    alloc: Global,
+    tool: &T,
+    store: &mut S,
+    input: &mut I,
+    out: &mut O,
+) -> Cause
+    requires fit { T.IsFit tool.now }
+    ensures { Run S.files S.read_faults S.write_faults I.left I.faults O.written O.faults
+        (Ok (plan_by (T.reads tool.now) (T.takes_records tool.now) (T.is_soft tool.now)
+        (T.output tool.now) (T.files_say tool.now) (T.answered tool.now)))
+        store.old store.new input.old input.new out.old out.new result }
+{
+    let list = match tool.file_list(alloc) {
+        Ok(list) => list,
+        Err(_) => return give_up(out),
+    };
+    run_listed(alloc, tool, &list, store, input, out)
+}
+
+/// Runs a tool by what its words were read as: what they ask for, or the first that is wrong.
+///
+/// The status and all that is read and written are those of the tool's plan, whatever fails when.
+pub fn run_words<T: Tool + Drop, S: Store, I: Source, O: Sink>(
+    alloc: Global,
+    words: Result<T, Fault<Usage>>,
+    store: &mut S,
+    input: &mut I,
+    out: &mut O,
+) -> Outcome
+    requires fit { IfOk words (λ tool. T.IsFit tool) }
+    ensures status { (meant : Result T Usage) → Answers (λ tool. tool) cause_of words meant
+        → result.status ≡ status_of (is_soft_in (planned (λ tool. plan_by (T.reads tool)
+        (T.takes_records tool) (T.is_soft tool) (T.output tool) (T.files_say tool) (T.answered tool))
+        meant)) result.cause }
+    ensures run { (meant : Result T Usage) → Answers (λ tool. tool) cause_of words meant
+        → Run S.files S.read_faults S.write_faults I.left I.faults O.written O.faults
+        (planned (λ tool. plan_by (T.reads tool) (T.takes_records tool) (T.is_soft tool)
+        (T.output tool) (T.files_say tool) (T.answered tool)) meant)
+        store.old store.new input.old input.new out.old out.new result.cause }
+{
+    match words {
+        Ok(tool) => outcome(
+            run_tool(alloc, &tool, store, input, out),
+            tool.has_soft_errors(),
+        ),
+        Err(fault) => outcome(refuse_words(alloc, fault, out), false),
+    }
+}

@@ -1,0 +1,5 @@
+pub mod Letters
+pub mod Words
+pub mod Found
+pub mod Answer
+pub mod Plan
