@@ -28,10 +28,11 @@ subprocess._USE_VFORK = False
 
 
 def build():
-    """The wrapper builds the program where it is stale; without words the program answers that its words are wrong."""
-    status = subprocess.run([HERE.parent / "relabel"], stdout=subprocess.DEVNULL, stdin=subprocess.DEVNULL).returncode
-    if status != USAGE:
-        sys.exit(f"the program could not be built (status {status})")
+    """Without words the program answers that its words are wrong; where it isn't built, or is stale,
+    the script before it says so."""
+    quiet = {"stdin": subprocess.DEVNULL, "stdout": subprocess.DEVNULL, "stderr": subprocess.DEVNULL}
+    if subprocess.run([HERE.parent / "relabel"], **quiet).returncode != USAGE:
+        subprocess.run([HERE.parent / "tools" / "build"], check=True)
 
 
 def timed(words, records, room, **more):
