@@ -4,6 +4,7 @@
 mod all_labels;
 mod entry;
 mod fault;
+mod format;
 mod labelled;
 mod labels;
 mod lay;
@@ -17,6 +18,7 @@ mod so_far;
 pub use entry::{Entry, Told};
 pub use fault::{RecordWhy, RecordsFault};
 pub use file_paths::PathWhy;
+pub use format::Format;
 pub use reading::{RecordLimits, read_records, records_follow_grammar};
 pub use records::Records;
 
