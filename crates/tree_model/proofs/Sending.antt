@@ -1,9 +1,9 @@
 -- A tree, and what was selected of it, may be shared by threads.
-use denote.Param.Send.{IsSync, recorded_sync, sendable, struct_sync}
-use denote.Struct.Owning.{shape}
+use denote.Param.Send.{IsSync, sendable}
 use Rattle.std.proofs.Crossing.{crosses}
 use Rattle.std.proofs.MapsCrossing.{BTreeMap-sync}
 use Rattle.label_base.proofs.Sending.{bytes_sync, row_sync}
+use Rattle.label_base.specs.contracts.kind.EntryKind as EntryKind
 use Rattle.context_syntax.specs.contracts.context.Context as Context
 use Rattle.context_syntax.specs.contracts.label.Label as Label
 use Rattle.find_records.specs.contracts.labels.Spelled as Spelled
@@ -20,15 +20,12 @@ use Rattle.tree_model.specs.contracts.selection.Selected as Selected
 context_sync : IsSync Context.the_row
 context_sync = search (sendable, crosses, bytes_sync) depth 40
 
-label_sync : IsSync Label.the_row
+-- an enum's row is that of its field
+label_sync : IsSync (Label.the_field).row
 label_sync = search (sendable, crosses, bytes_sync, context_sync) depth 40
 
 spelled_sync : IsSync Spelled.the_row
-spelled_sync = first_of (
-  search (sendable, crosses, bytes_sync, context_sync, label_sync) depth 60 fits 20000,
-  search (sendable, crosses, bytes_sync, context_sync) depth 60 fits 20000,
-  recorded_sync (struct_sync (shape Spelled.the_type) (search (sendable, crosses) depth 40, (label_sync, tt))),
-)
+spelled_sync = search (sendable, crosses, label_sync) depth 40
 
 labels_sync : IsSync Labels.the_row
 labels_sync = search (sendable, crosses, spelled_sync, BTreeMap-sync) depth 60
@@ -42,8 +39,11 @@ mark_row_sync = search (sendable, crosses) depth 40
 marks_sync : IsSync Marks.the_row
 marks_sync = search (sendable, crosses, all_labels_sync, mark_row_sync, BTreeMap-sync) depth 60
 
+kind_sync : IsSync (EntryKind.the_field).row
+kind_sync = search (sendable, crosses) depth 40
+
 record_row_sync : IsSync RecordRow.the_row
-record_row_sync = search (sendable, crosses) depth 40
+record_row_sync = search (sendable, crosses, kind_sync) depth 40
 
 pub records_sync : IsSync Records.the_row
 records_sync = search (sendable, crosses, marks_sync, record_row_sync) depth 40
