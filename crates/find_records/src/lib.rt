@@ -1,13 +1,16 @@
-//! The records of a tree, as `find -printf '%y %D %i %Z %p\0'` writes them.
+//! The records of a tree, as `find -printf '%y %D %i %Z %p\0'` writes them, or with link counts
+//! `find -printf '%y %D %i %n %Z %p\0'`.
 #![tactic(auto)]
 
 mod all_labels;
 mod entry;
 mod fault;
 mod format;
+mod guesses;
 mod labelled;
 mod labels;
 mod lay;
+mod mark_row;
 mod marks;
 mod reading;
 mod record;
