@@ -15,7 +15,7 @@ use Rattle.context_syntax.specs.Context.{ContextValue, IsContext, context_of, co
 use Rattle.context_syntax.proofs.Spelling.{read_back}
 use Rattle.path_subs.specs.Subs.{SubValue}
 use Rattle.spec_reader.specs.SpecValue.{is_spec_kind}
-use Rattle.spec_reader.specs.TypeField.{kind_of}
+use Rattle.label_base.specs.Kind.{field_kind}
 use Rattle.spec_reader.specs.declared.spec.Decision.TheVariants.{Leave, Give}
 use Rattle.spec_reader.specs.declared.spec.Decision.{Decision}
 use Rattle.dir_digest.specs.Listing.{Line, Listing}
@@ -229,7 +229,7 @@ sub_tells x y r s m n e =
 name_tells : Tells IsWord name_field
 name_tells x y r s m n e = (head_is x y r s e, tail_is x y r s e)
 
-kind_back : (kind : Option EntryKind) → is_spec_kind kind ≡ true → kind_of (kind_field kind) ≡ kind
+kind_back : (kind : Option EntryKind) → is_spec_kind kind ≡ true → field_kind (kind_field kind) ≡ kind
 kind_back None h = refl
 kind_back (Some Regular) h = refl
 kind_back (Some Directory) h = refl
@@ -241,7 +241,7 @@ kind_back (Some Char) h = refl
 kind_back (Some Other) h = cc
 
 kind_same : (a b : Option EntryKind) → is_spec_kind a ≡ true → is_spec_kind b ≡ true → kind_field a ≡ kind_field b → a ≡ b
-kind_same a b ha hb e = sym (kind_back a ha) ∙ ap kind_of e ∙ kind_back b hb
+kind_same a b ha hb e = sym (kind_back a ha) ∙ ap field_kind e ∙ kind_back b hb
 
 -- the decision that a field says
 said_by : Option ContextValue → Decision

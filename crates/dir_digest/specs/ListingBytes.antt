@@ -2,11 +2,11 @@
 use Rattle.std.specs.Prelude.{◌≡◌, ℕ, ◌<◌, ◌^◌, ◌==◌, Bool, true, false, List, [], ◌∷◌, ◌++◌, length, Option, Some, None, decimal}
 use Rattle.std.specs.List.{AllByRecursion, flat_map, list_all, list_any}
 use Rattle.file_paths.specs.Path.{are_names, path_text}
+use Rattle.label_base.specs.Kind.{names_of}
 use Rattle.label_base.specs.declared.kind.EntryKind.{EntryKind}
 use Rattle.context_syntax.specs.Context.{IsContext, context_text, is_word}
 use Rattle.path_subs.specs.Subs.{SubValue}
 use Rattle.spec_reader.specs.SpecValue.{is_spec_kind}
-use Rattle.spec_reader.specs.TypeField.{type_field}
 use Rattle.spec_reader.specs.declared.line.TheConstants.{NO_CONTEXT}
 use Rattle.spec_reader.specs.declared.spec.Decision.{Decision}
 use Rattle.spec_reader.specs.declared.spec.Decision.TheVariants.{Give, Leave}
@@ -34,7 +34,7 @@ sub_fields sub = path_text sub.source ∷ path_text sub.target ∷ []
 -- the type field, empty where there is none
 abbrev pub kind_field : Option EntryKind → List ℕ
 kind_field None = []
-kind_field (Some kind) = type_field kind
+kind_field (Some kind) = (names_of kind).type_field
 
 abbrev pub decision_field : Decision → List ℕ
 decision_field Leave = NO_CONTEXT.now

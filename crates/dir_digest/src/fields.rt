@@ -9,7 +9,7 @@ use crate::mode::Mode;
 use context_syntax::{Context, ContextRef, TypeNames};
 use label_base::{Bytes, EntryKind, OutOfMemory};
 use path_subs::{Sub, Subs};
-use spec_reader::{Decision, NO_CONTEXT, Spec, type_field};
+use spec_reader::{Decision, NO_CONTEXT, Spec};
 use std::alloc::Global;
 
 // The first field of every listing.
@@ -103,7 +103,7 @@ fn kind_field(kind: Option<EntryKind>) -> &'static [u8]
 {
     match kind {
         None => b"",
-        Some(kind) => type_field(kind),
+        Some(kind) => kind.type_field(),
     }
 }
 
