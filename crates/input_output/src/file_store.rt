@@ -12,7 +12,7 @@ use std::fs::Files;
 use std::io::ErrorKind;
 use std::marker::Model;
 
-/// The files of the system. It tells no content, and counts each call that fails.
+/// The files of the system. It tells no content and no number of calls, and counts each call that fails.
 ///
 /// A name is a path as open(2) takes it. `NotThere` is the system's "no such file or directory" (ENOENT)
 /// and "file name too long" (ENAMETOOLONG), since no such file can exist. A read takes at most one byte
@@ -120,6 +120,8 @@ impl<'r, R: Files> Store for FileStore<'r, R> {
     ghost read_faults = { λ s. s.read_faults };
 
     ghost write_faults = { λ s. s.write_faults };
+
+    ghost calls = { λ _. None };
 
     fn read_file(&mut self, alloc: Global, name: &str, limit: usize) -> Result<Bytes, FileFault> {
         let file = name_led(self.from, self.to, name);

@@ -1,11 +1,10 @@
 -- What matchpathcon reads, and what it answers.
-use Rattle.std.specs.Prelude.{List, [], Result, Ok, None, false}
+use Rattle.std.specs.Prelude.{List, [], Ok, None, false}
 use Rattle.input_output.specs.Store.{Files}
 use Rattle.file_roles.specs.declared.list.NamedFile.{NamedFile}
 use Rattle.context_syntax.specs.TypeNames.{set_of}
 use Rattle.label_rules.specs.declared.rules.Rules.{Rules}
-use Rattle.run_faults.specs.Causes.{and_then}
-use Rattle.run_faults.specs.declared.cause.Cause.{Cause}
+use Rattle.run_input.specs.Files.{FilesSay, just, read_on}
 use Rattle.policy_files.specs.Files.{list_of, subs_for}
 use Rattle.policy_files.specs.Names.{policy_names}
 use Rattle.policy_files.specs.Rules.{rules_with}
@@ -14,10 +13,11 @@ use Rattle.path_lookups.specs.Answer.{answer_of}
 use Rattle.path_lookups.specs.declared.words.LookupWords.{LookupWords}
 
 -- the rules, for which no type is customizable
-unfoldable pub rules_found : List NamedFile → Files → Result Rules Cause
+unfoldable pub rules_found : List NamedFile → Files → FilesSay Rules
 rules_found list files =
-    and_then (list_of list 0 files) (λ specs.
-    and_then (subs_for list 0 files) (λ subs. Ok (rules_with specs subs (set_of []))))
+    read_on (list_of list 0 files) (λ specs.
+    read_on (subs_for list 0 files) (λ subs.
+    just (Ok (rules_with specs subs (set_of [])))))
 
 abbrev pub lookup_names : LookupWords → List NamedFile
 lookup_names words = policy_names 0 words.base

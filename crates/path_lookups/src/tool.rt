@@ -18,7 +18,7 @@ use tree_model::Tree;
 
 // Reads the specifications, then the substitutions; no look-up asks for customizable types.
 fn read_found<S: Store>(alloc: Global, list: &FileList, store: &mut S) -> Result<Rules, Cause>
-    ensures { Reads S.files S.read_faults S.write_faults (rules_found list.now)
+    ensures { Reads S.files S.calls S.read_faults S.write_faults (rules_found list.now)
         store.old store.new result }
 {
     let rules = read_specifications(alloc, list, 0, store)?;

@@ -1,9 +1,8 @@
 ghost use Rattle.std.specs.Prelude.{◌≡◌, ℕ, ◌<◌, ◌≤◌, ◌^◌, IfErr, IfOk, None, length, option_map};
-ghost use Rattle.policy_files.specs.Rules.{rules_for};
 ghost use Rattle.run_faults.specs.Causes.{Counts, Gives, IsFileCause, IsInputCause};
 ghost use Rattle.run_input.specs.Records.{entries_of};
 ghost use Rattle.run_input.specs.declared.records.TheConstants.{MOST_RECORDS};
-ghost use Rattle.sample_tree.specs.Plan.{answered_for, own_files, own_names};
+ghost use Rattle.sample_tree.specs.Plan.{answered_for, own_files, own_names, own_rules};
 ghost use Rattle.sample_tree.specs.Sample.{sample_records};
 ghost use Rattle.tool_runs.specs.Stages.{saved_name};
 
@@ -50,7 +49,7 @@ fn own_list(alloc: Global) -> Result<FileList, OutOfMemory>
 #[tactic(auto, using(run_input::proofs::CountLemmas::calm_counts))]
 fn read_listed(alloc: Global, list: &FileList) -> Result<Rules, Cause>
     requires { list.now ≡ own_names }
-    ensures answer { Gives (rules_for own_names own_files) result }
+    ensures answer { Gives own_rules.says result }
     ensures counts { (count : ℕ) → Counts count count result }
     ensures kinds { IfErr result IsFileCause }
 {
@@ -60,7 +59,7 @@ fn read_listed(alloc: Global, list: &FileList) -> Result<Rules, Cause>
 
 // Reads the files of a sample, by the readers of any others.
 fn read_own_files(alloc: Global) -> Result<Rules, Cause>
-    ensures answer { Gives (rules_for own_names own_files) result }
+    ensures answer { Gives own_rules.says result }
     ensures counts { (count : ℕ) → Counts count count result }
     ensures kinds { IfErr result IsFileCause }
 {
@@ -95,7 +94,7 @@ fn answer_for(alloc: Global, rules: &Rules, count: u32) -> Result<Ending, Cause>
 
 impl Tool for SampleWords {
     ghost use Rattle.std.specs.Prelude.{[], None, false};
-    ghost use Rattle.sample_tree.specs.Plan.{answered_for, own_files, own_names};
+    ghost use Rattle.sample_tree.specs.Plan.{answered_for, own_rules};
 
     type Found = Rules;
 
@@ -107,7 +106,7 @@ impl Tool for SampleWords {
 
     ghost output = { λ words. None };
 
-    ghost files_say = { λ words files. rules_for own_names own_files };
+    ghost files_say = { λ words files. own_rules };
 
     ghost IsFit = { λ words. Unit {0} };
 

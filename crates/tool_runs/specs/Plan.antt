@@ -8,6 +8,7 @@ use Rattle.tool_words.specs.declared.usage.Usage.{Usage}
 use Rattle.run_faults.specs.Causes.{and_then}
 use Rattle.run_faults.specs.declared.cause.Cause.{Cause}
 use Rattle.run_faults.specs.declared.cause.Cause.TheVariants as causes
+use Rattle.run_input.specs.Files.{FilesSay}
 use Rattle.run_input.specs.Records.{entries_for, input_for}
 use Rattle.run_endings.specs.declared.ending.Ending.{Ending}
 
@@ -22,6 +23,8 @@ pub record Plan : Type 0 where
   pub output : Option (List ℕ)
   -- the first refusal of the files
   pub refused : Files → Option Cause
+  -- how many files are opened, up to the first that is refused
+  pub opened : Files → ℕ
   -- what is written at the end, by the files and the input, or the first refusal
   pub answer : Files → List ℕ → Result Ending Cause
 
@@ -41,14 +44,15 @@ answer_by takes read answered known input =
 -- a plan of a tool that reads these files, which give a value or are refused, and that answers by
 -- this value and the entries of the input
 abbrev pub plan_by : {R : Type 0} → List NamedFile → (takes soft : Bool) → Option (List ℕ)
-    → (Files → Result R Cause) → (R → List Record → Result Ending Cause) → Plan
+    → (Files → FilesSay R) → (R → List Record → Result Ending Cause) → Plan
 plan_by reads takes soft output read answered = record {
   reads = reads;
   takes_records = takes;
   is_soft = soft;
   output = output;
-  refused = λ known. refusal_in (read known);
-  answer = answer_by takes read answered;
+  refused = λ known. refusal_in (read known).says;
+  opened = λ known. (read known).opened;
+  answer = answer_by takes (λ known. (read known).says) answered;
 }
 
 -- what words ask for by their meaning to a tool

@@ -1,4 +1,4 @@
-ghost use Rattle.std.specs.Prelude.{◌≡◌, ◌<◌, ◌^◌, IfOk, Ok, Result, length};
+ghost use Rattle.std.specs.Prelude.{◌≡◌, ◌<◌, ◌^◌, [], IfOk, Ok, Result, length};
 ghost use Rattle.label_base.specs.Answers.{Answers, cause_of};
 ghost use Rattle.tool_words.specs.declared.usage.Usage.{Usage};
 ghost use Rattle.run_faults.specs.Faults.{status_of};
@@ -32,7 +32,7 @@ fn end_run<T: Tool, S: Store, O: Sink>(
     requires fit { T.IsFit tool.now }
     requires tree { length tree.now < 2 ^ 31 }
     requires list { list.now ≡ T.reads tool.now }
-    ensures { Ended S.files S.read_faults S.write_faults O.written O.faults (T.reads tool.now)
+    ensures { Ended S.files S.calls S.read_faults S.write_faults O.written O.faults (T.reads tool.now)
         (T.output tool.now) (T.answered tool.now found.now tree.now) store.old store.new
         out.old out.new result }
 {
@@ -60,9 +60,10 @@ fn run_found<T: Tool, S: Store, I: Source, O: Sink>(
     requires fit { T.IsFit tool.now }
     requires list { list.now ≡ T.reads tool.now }
     ensures { (before : S)
-        → Reads S.files S.read_faults S.write_faults (T.files_say tool.now) before store.old
+        → Reads S.files S.calls S.read_faults S.write_faults (T.files_say tool.now) before store.old
         (Ok found.now)
-        → Run S.files S.read_faults S.write_faults I.left I.faults O.written O.faults
+        → (T.reads tool.now ≡ [] → store.old ≡ before)
+        → Run S.files S.calls S.read_faults S.write_faults I.left I.faults O.written O.faults
         (Ok (plan_by (T.reads tool.now) (T.takes_records tool.now) (T.is_soft tool.now)
         (T.output tool.now) (T.files_say tool.now) (T.answered tool.now)))
         before store.new input.old input.new out.old out.new result }
@@ -85,7 +86,7 @@ fn run_listed<T: Tool, S: Store, I: Source, O: Sink>(
 ) -> Cause
     requires fit { T.IsFit tool.now }
     requires list { list.now ≡ T.reads tool.now }
-    ensures { Run S.files S.read_faults S.write_faults I.left I.faults O.written O.faults
+    ensures { Run S.files S.calls S.read_faults S.write_faults I.left I.faults O.written O.faults
         (Ok (plan_by (T.reads tool.now) (T.takes_records tool.now) (T.is_soft tool.now)
         (T.output tool.now) (T.files_say tool.now) (T.answered tool.now)))
         store.old store.new input.old input.new out.old out.new result }
@@ -106,7 +107,7 @@ fn run_tool<T: Tool, S: Store, I: Source, O: Sink>(
     out: &mut O,
 ) -> Cause
     requires fit { T.IsFit tool.now }
-    ensures { Run S.files S.read_faults S.write_faults I.left I.faults O.written O.faults
+    ensures { Run S.files S.calls S.read_faults S.write_faults I.left I.faults O.written O.faults
         (Ok (plan_by (T.reads tool.now) (T.takes_records tool.now) (T.is_soft tool.now)
         (T.output tool.now) (T.files_say tool.now) (T.answered tool.now)))
         store.old store.new input.old input.new out.old out.new result }
@@ -134,7 +135,7 @@ pub fn run_words<T: Tool + Drop, S: Store, I: Source, O: Sink>(
         (T.takes_records tool) (T.is_soft tool) (T.output tool) (T.files_say tool) (T.answered tool))
         meant)) result.cause }
     ensures run { (meant : Result T Usage) → Answers (λ tool. tool) cause_of words meant
-        → Run S.files S.read_faults S.write_faults I.left I.faults O.written O.faults
+        → Run S.files S.calls S.read_faults S.write_faults I.left I.faults O.written O.faults
         (planned (λ tool. plan_by (T.reads tool) (T.takes_records tool) (T.is_soft tool)
         (T.output tool) (T.files_say tool) (T.answered tool)) meant)
         store.old store.new input.old input.new out.old out.new result.cause }

@@ -1,10 +1,10 @@
-ghost use Rattle.std.specs.Prelude.{◌≡◌, ℕ, ◌<◌, ◌^◌, Bool, List, Option, Result, IfErr, IfOk, length, option_map};
+ghost use Rattle.std.specs.Prelude.{◌≡◌, [], ℕ, ◌<◌, ◌^◌, Bool, List, Option, Result, IfErr, IfOk, length, option_map};
 ghost use Rattle.input_output.specs.Store.{Files};
 ghost use Rattle.find_records.specs.Record.{Record};
 ghost use Rattle.file_roles.specs.declared.list.NamedFile.{NamedFile};
 ghost use Rattle.run_faults.specs.Causes.{Counts, Gives, IsInputCause};
 ghost use Rattle.run_faults.specs.declared.cause.Cause.{Cause};
-ghost use Rattle.run_input.specs.Files.{Reads};
+ghost use Rattle.run_input.specs.Files.{FilesSay, Reads};
 ghost use Rattle.run_endings.specs.declared.ending.Ending.{Ending};
 ghost use Rattle.tool_runs.specs.Stages.{saved_name};
 
@@ -34,8 +34,8 @@ pub trait Tool {
     /// The name of the file that is written.
     ghost output: { Self → Option (List ℕ) };
 
-    /// What the files say, or the first refusal among them.
-    ghost files_say: { Self → Files → Result Self.Found Cause };
+    /// What the files say, or the first refusal among them, and how many are opened up to there.
+    ghost files_say: { Self → Files → FilesSay Self.Found };
 
     /// The words are few enough for what the tool counts.
     ghost IsFit: { Self → Type 0 };
@@ -55,8 +55,8 @@ pub trait Tool {
     fn has_soft_errors(&self) -> bool
         ensures { result ≡ is_soft self.now };
 
-    /// Reads the files, each whole before the next, and what they say. The error is a failed read,
-    /// or the first refusal among the files.
+    /// Reads the files, each whole before the next, and what they say; where there are none, the store
+    /// stays as it is. The error is a failed read, or the first refusal among the files.
     fn read_files<S: Store>(
         &self,
         alloc: Global,
@@ -64,8 +64,9 @@ pub trait Tool {
         store: &mut S,
     ) -> Result<Self::Found, Cause>
         requires { list.now ≡ reads self.now }
-        ensures { Reads S.files S.read_faults S.write_faults (files_say self.now)
-            store.old store.new result };
+        ensures reads { Reads S.files S.calls S.read_faults S.write_faults (files_say self.now)
+            store.old store.new result }
+        ensures unread { reads self.now ≡ [] → store.new ≡ store.old };
 
     /// Makes all that is written at the end. The error is a refusal of what the tool reads itself,
     /// or want of memory.
