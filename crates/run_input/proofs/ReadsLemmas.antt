@@ -31,7 +31,7 @@ after_both : (count first second : ℕ) → calls_after (calls_after count first
 after_both count zero second = ap (calls_after count) (begun second)
 after_both count (suc first) second = after_both (next_count count) first second ∙ ap (calls_after count) (one_more first second)
 
-calls_on : (old mid now : Option ℕ) (first second : ℕ) → Calls old mid first → Calls mid now second → Calls old now (first + second)
+pub calls_on : (old mid now : Option ℕ) (first second : ℕ) → Calls old mid first → Calls mid now second → Calls old now (first + second)
 calls_on None mid now first second one two = tt
 calls_on (Some count) None now first second one two = absurd (cc)
 calls_on (Some count) (Some between) now first second one two =
@@ -45,7 +45,7 @@ no_calls (Some count) = refl
 up_to_on : (old mid now : Option ℕ) (first second : ℕ) → Calls old mid first → CallsUpTo mid now second → CallsUpTo old now (first + second)
 up_to_on old mid now first second one two = (first + two.0, omega (arith, two.1), calls_on old mid now first two.0 one two.2)
 
-up_to_more : (old now : Option ℕ) (most more : ℕ) → most ≤ more → CallsUpTo old now most → CallsUpTo old now more
+pub up_to_more : (old now : Option ℕ) (most more : ℕ) → most ≤ more → CallsUpTo old now most → CallsUpTo old now more
 up_to_more old now most more later made = (made.0, omega (arith, later, made.1), made.2)
 
 cause_on : (old mid now : Option ℕ) (first second : ℕ) (cause : Cause) → Calls old mid first → CauseOpens mid now second cause → CauseOpens old now (first + second) cause
