@@ -9,10 +9,11 @@ use Rattle.context_syntax.specs.declared.label.Label.{Label}
 use Rattle.context_syntax.specs.declared.label.Label.TheVariants.{Absent}
 use Rattle.find_records.specs.Labelled.{ArePaired, with_label, with_labels}
 use Rattle.find_records.specs.Labels.{Extends}
-use Rattle.find_records.specs.Marks.{AreMarks, IsWithPair, Mark, mark_of, marks_in, no_mark}
+use Rattle.find_records.specs.Marks.{AreMarks, IsWithRow, Mark, mark_of, marks_in, no_mark}
 use Rattle.find_records.specs.Places.{ArePlaces}
 use Rattle.find_records.specs.Record.{Record}
 use Rattle.find_records.specs.Rows.{AreRows, AreWithin, IsWithin, record_in, records_in, text_in}
+use Rattle.find_records.specs.declared.mark_row.MarkRow.{MarkRow}
 use Rattle.find_records.specs.declared.row.RecordRow.{RecordRow}
 use Rattle.find_records.proofs.LabelLemmas.{extends_by, extends_self, longer}
 use Rattle.find_records.proofs.LayLemmas.{place_at}
@@ -47,10 +48,14 @@ labelled_more labels (m ∷ ns) n (x ∷ rs) r e = ap (λ xs. with_label (get_or
 abbrev pub marked : ℕ → RecordRow → RecordRow
 marked mark row = record row { mark = mark }
 
-module _ (t : List ℕ) (marks : List Mark) (rows : List RecordRow) (numbers : List ℕ) (labels : List Label) (i : ℕ) (row : RecordRow) (old new : List (ℕ × ℕ)) (mark : ℕ) (before after : List RecordRow)
+module _ (t : List ℕ) (marks : List Mark) (rows : List RecordRow) (numbers : List ℕ) (labels : List Label) (i : ℕ) (row : RecordRow) (old new : List MarkRow) (mark : ℕ) (before after : List RecordRow)
     (counted : length numbers ≡ length rows) (places : ArePlaces (length labels) numbers) (within : AreWithin t marks rows) (l : i < length rows) (is : slice_get rows i ≡ Some row) where
-  abbrev pair : ℕ × ℕ
-  pair = ((get_or marks row.mark no_mark).device, get_or numbers i 0)
+  -- the row of a mark that gets the label of this place
+  abbrev made_of : Mark → MarkRow
+  made_of given = record { device = given.device; links = given.links; label = get_or numbers i 0 }
+
+  abbrev made : MarkRow
+  made = made_of (get_or marks row.mark no_mark)
 
   known_here : get_or numbers i 0 < length labels
   known_here = place_at (length labels) numbers i places (omega (arith, l, counted))
@@ -58,27 +63,27 @@ module _ (t : List ℕ) (marks : List Mark) (rows : List RecordRow) (numbers : L
   own : IsWithin t marks row
   own = within_at t marks rows i row within is
 
-  -- the mark that was found is that of the pair
-  found : slice_get new mark ≡ Some pair → slice_get (marks_in labels new) mark ≡ Some (mark_of (get_or marks row.mark no_mark).device (get_or labels (get_or numbers i 0) Absent))
-  found at = mark_at labels new mark (get_or marks row.mark no_mark).device (get_or numbers i 0) (get_or labels (get_or numbers i 0) Absent) at (there labels (get_or numbers i 0) known_here)
+  -- the mark that was found is that of the row
+  found : slice_get new mark ≡ Some made → slice_get (marks_in labels new) mark ≡ Some (mark_of (get_or marks row.mark no_mark).device (get_or marks row.mark no_mark).links (get_or labels (get_or numbers i 0) Absent))
+  found at = mark_at labels new mark made (get_or labels (get_or numbers i 0) Absent) at (there labels (get_or numbers i 0) known_here)
     where
       there : (xs : List Label) (n : ℕ) → n < length xs → slice_get xs n ≡ Some (get_or xs n Absent)
       there [] n h = absurd (omega (arith, h))
       there (x ∷ xs) zero h = refl
       there (x ∷ xs) (suc n) h = there xs n (omega (arith, h))
 
-  one_record : slice_get new mark ≡ Some pair → record_in t (marks_in labels new) (marked mark row) ≡ with_label (get_or labels (get_or numbers i 0) Absent) (record_in t marks row)
+  one_record : slice_get new mark ≡ Some made → record_in t (marks_in labels new) (marked mark row) ≡ with_label (get_or labels (get_or numbers i 0) Absent) (record_in t marks row)
   one_record at =
       let m = get_or_from_slice_get (marks_in labels new) mark _ no_mark (found at) in
-      λ j. record { kind = row.kind; device = (m j).device; inode = row.inode; label = (m j).label; path = path_names (text_in t row) }
+      λ j. record { kind = row.kind; device = (m j).device; inode = row.inode; links = (m j).links; label = (m j).label; path = path_names (text_in t row) }
 
   rows_so_far : take (i + 1) rows ≡ take i rows ++ row ∷ []
   rows_so_far = take_more rows i row l ∙ ap (λ r. take i rows ++ r ∷ []) (get_or_from_slice_get rows i row row is)
 
-  pub paired_more : slice_get new mark ≡ Some pair → IsWithPair old pair new → length new < 2 ^ 32 → after ≡ before ++ marked mark row ∷ []
+  pub paired_more : slice_get new mark ≡ Some made → IsWithRow old made new → length new < 2 ^ 32 → after ≡ before ++ marked mark row ∷ []
       → ArePaired t marks (take i rows) (take i numbers) labels old before → ArePaired t marks (take (i + 1) rows) (take (i + 1) numbers) labels new after
   paired_more at with few e p =
-      let grown : Extends (marks_in labels old) (marks_in labels new) = extends_with labels pair old new with in
+      let grown : Extends (marks_in labels old) (marks_in labels new) = extends_with labels made old new with in
       let kept : records_in t (marks_in labels new) before ≡ records_in t (marks_in labels old) before =
       records_kept t t (marks_in labels old) (marks_in labels new) before (extends_self t t refl) grown p.within in
       let all : AreWithin t (marks_in labels new) before = all_kept t t (marks_in labels old) (marks_in labels new) before (extends_self t t refl) grown p.within in
@@ -86,7 +91,7 @@ module _ (t : List ℕ) (marks : List Mark) (rows : List RecordRow) (numbers : L
       let sizes : length (take i numbers) ≡ length (records_in t marks (take i rows)) =
       length-take-le i numbers (omega (arith, l, counted)) ∙ sym (length-take-le i rows (omega (arith, l))) ∙ sym (length-map (take i rows) (record_in t marks)) in
       record {
-        known = known_by labels pair old new p.known known_here with;
+        known = known_by labels made old new p.known known_here with;
         few = few;
         counted = (
             ap length e ∙ length-append before (marked mark row ∷ []) ∙ ap (λ n. n + 1) p.counted
@@ -105,27 +110,27 @@ module _ (t : List ℕ) (marks : List Mark) (rows : List RecordRow) (numbers : L
       }
 
   -- by the mark that was read
-  pub paired_by : (device : ℕ) (label : Label) → slice_get marks row.mark ≡ Some (mark_of device label) → slice_get new mark ≡ Some (device, get_or numbers i 0)
-      → IsWithPair old (device, get_or numbers i 0) new → length new < 2 ^ 32 → after ≡ before ++ marked mark row ∷ []
+  pub paired_by : (given : Mark) → slice_get marks row.mark ≡ Some given → slice_get new mark ≡ Some (made_of given)
+      → IsWithRow old (made_of given) new → length new < 2 ^ 32 → after ≡ before ++ marked mark row ∷ []
       → ArePaired t marks (take i rows) (take i numbers) labels old before → ArePaired t marks (take (i + 1) rows) (take (i + 1) numbers) labels new after
-  paired_by device label got at with =
-      let same : device ≡ (get_or marks row.mark no_mark).device = sym (ap (λ m. m.device) (get_or_from_slice_get marks row.mark (mark_of device label) no_mark got)) in
-      paired_more (at ∙ ap (λ d. Some (d, get_or numbers i 0)) same) (subst (λ d. IsWithPair old (d, get_or numbers i 0) new) same with)
+  paired_by given got at with =
+      let same : given ≡ get_or marks row.mark no_mark = sym (get_or_from_slice_get marks row.mark given no_mark got) in
+      paired_more (subst (λ m. slice_get new mark ≡ Some (made_of m)) same at) (subst (λ m. IsWithRow old (made_of m) new) same with)
 
 -- ---- as they are kept
 
-module _ (t u : List ℕ) (marks m : List Mark) (rows : List RecordRow) (numbers : List ℕ) (labels copies : List Label) (pairs : List (ℕ × ℕ)) (new : List RecordRow)
-    (texts_are : u ≡ t) (labels_are : copies ≡ labels) (few : length labels < 2 ^ 32) (paired : ArePaired t marks rows numbers labels pairs new) where
-  pub pairs_are_marks : AreMarks copies pairs
-  pairs_are_marks = subst (λ ls. AreMarks ls pairs) (sym labels_are) (record { known = paired.known; few_labels = few; few = paired.few })
+module _ (t u : List ℕ) (marks m : List Mark) (rows : List RecordRow) (numbers : List ℕ) (labels copies : List Label) (own : List MarkRow) (new : List RecordRow)
+    (texts_are : u ≡ t) (labels_are : copies ≡ labels) (few : length labels < 2 ^ 32) (paired : ArePaired t marks rows numbers labels own new) where
+  pub own_are_marks : AreMarks copies own
+  own_are_marks = subst (λ ls. AreMarks ls own) (sym labels_are) (record { known = paired.known; few_labels = few; few = paired.few })
 
-  pub pairs_are_rows : m ≡ marks_in copies pairs → AreRows t marks rows → AreRows u m new
-  pairs_are_rows e a =
-      let same : m ≡ marks_in labels pairs = e ∙ ap (λ ls. marks_in ls pairs) labels_are in
+  pub own_are_rows : m ≡ marks_in copies own → AreRows t marks rows → AreRows u m new
+  own_are_rows e a =
+      let same : m ≡ marks_in labels own = e ∙ ap (λ ls. marks_in ls own) labels_are in
       subst (λ v. AreRows v m new) (sym texts_are)
       (subst (λ v. AreRows t v new) (sym same) (record { within = paired.within; numbered = omega (arith, paired.counted, a.numbered) }))
 
-  pub pairs_are_records : (seen : List Record) → m ≡ marks_in copies pairs → records_in t marks rows ≡ seen → records_in u m new ≡ with_labels labels numbers seen
-  pairs_are_records seen e v =
-      let same : m ≡ marks_in labels pairs = e ∙ ap (λ ls. marks_in ls pairs) labels_are in
+  pub own_are_records : (seen : List Record) → m ≡ marks_in copies own → records_in t marks rows ≡ seen → records_in u m new ≡ with_labels labels numbers seen
+  own_are_records seen e v =
+      let same : m ≡ marks_in labels own = e ∙ ap (λ ls. marks_in ls own) labels_are in
       (λ j. records_in (texts_are j) (same j) new) ∙ paired.same ∙ ap (with_labels labels numbers) v

@@ -48,7 +48,7 @@ laid_more t u v l rows new newer places i row m r w e f laid =
     let total : length v ≡ length u + row.size = omega (arith, ap length e, length-append u (text_in t row), size) in
     let text : text_in v (moved_to (length u) row) ≡ text_in t row = text_added u v (text_in t row) (length u) row.size e refl (omega (arith, total)) in
     let one : record_in v l (moved_to (length u) row) ≡ record_in t l row =
-    (λ j. record { kind = row.kind; device = (get_or l row.mark no_mark).device; inode = row.inode; label = (get_or l row.mark no_mark).label; path = path_names (text j) }) in
+    (λ j. record { kind = row.kind; device = (get_or l row.mark no_mark).device; inode = row.inode; links = (get_or l row.mark no_mark).links; label = (get_or l row.mark no_mark).label; path = path_names (text j) }) in
     let there : get_or (records_in t l rows) place no_record ≡ record_in t l row = get_or_from_slice_get (records_in t l rows) place (record_in t l row) no_record (record_at t l rows place row r) in
     let before : records_in v l new ≡ records_at (records_in t l rows) (take i places) = records_kept u v l l new longer (extends_self l l refl) laid.within ∙ laid.same in
     let all : AreWithin v l (new ++ moved_to (length u) row ∷ []) =

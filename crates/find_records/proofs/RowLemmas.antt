@@ -45,7 +45,7 @@ pub record_kept : (t u : List ℕ) (l m : List Mark) (row : RecordRow) → Exten
 record_kept t u l m row e f w =
     let same_text = text_kept t u row.at row.size e w.fits in
     let same_mark = mark_kept l m row.mark f w.known in
-    λ i. record { kind = row.kind; device = (same_mark i).device; inode = row.inode; label = (same_mark i).label; path = path_names (same_text i) }
+    λ i. record { kind = row.kind; device = (same_mark i).device; inode = row.inode; links = (same_mark i).links; label = (same_mark i).label; path = path_names (same_text i) }
 
 pub within_kept : (t u : List ℕ) (l m : List Mark) (row : RecordRow) → Extends t u → Extends l m → IsWithin t l row → IsWithin u m row
 within_kept t u l m row e f w = record {
@@ -110,13 +110,13 @@ row_read t l seen rows i row v h r =
 
 pub entry_is : (t : List ℕ) (l : List Mark) (seen : List Record) (rows : List RecordRow) (i : ℕ) (row : RecordRow) (mark : Mark) (text : List ℕ) (path : Path) → records_in t l rows ≡ seen → slice_get rows i ≡ Some row
     → slice_get l row.mark ≡ Some mark → text ≡ text_in t row → path ≡ path_names text
-    → slice_get seen i ≡ Some (record { kind = row.kind; device = mark.device; inode = row.inode; label = mark.label; path = path })
+    → slice_get seen i ≡ Some (record { kind = row.kind; device = mark.device; inode = row.inode; links = mark.links; label = mark.label; path = path })
 entry_is t l seen rows i row mark text path v r known same names =
     let path_is : path_names (text_in t row) ≡ path = sym (names ∙ ap path_names same) in
     let mark_is = get_or_from_slice_get l row.mark mark no_mark known in
     ap (λ s. slice_get s i) (sym v)
     ∙ record_at t l rows i row r
-    ∙ λ i. Some (record { kind = row.kind; device = (mark_is i).device; inode = row.inode; label = (mark_is i).label; path = path_is i })
+    ∙ λ i. Some (record { kind = row.kind; device = (mark_is i).device; inode = row.inode; links = (mark_is i).links; label = (mark_is i).label; path = path_is i })
 
 -- the label of a record, by the number of its mark
 pub label_is : (t : List ℕ) (l : List Mark) (seen : List Record) (rows : List RecordRow) (i : ℕ) (row : RecordRow) (a : Record) → records_in t l rows ≡ seen → slice_get rows i ≡ Some row → slice_get seen i ≡ Some a → (get_or l row.mark no_mark).label ≡ a.label
@@ -126,11 +126,11 @@ label_is t l seen rows i row a v r h =
 -- ---- the row of what is told
 
 pub told_is : (t u more : List ℕ) (l : List Mark) (row : RecordRow) (mark : Mark) (names : Path) → u ≡ t ++ more → row.at ≡ length t → row.size ≡ length u - row.at → slice_get l row.mark ≡ Some mark → path_names more ≡ names
-    → record_in u l row ≡ record { kind = row.kind; device = mark.device; inode = row.inode; label = mark.label; path = names }
+    → record_in u l row ≡ record { kind = row.kind; device = mark.device; inode = row.inode; links = mark.links; label = mark.label; path = names }
 told_is t u more l row mark names e a s known n =
     let mark_is = get_or_from_slice_get l row.mark mark no_mark known in
     let path_is = ap path_names (text_added t u more row.at row.size e a s) ∙ n in
-    λ i. record { kind = row.kind; device = (mark_is i).device; inode = row.inode; label = (mark_is i).label; path = path_is i }
+    λ i. record { kind = row.kind; device = (mark_is i).device; inode = row.inode; links = (mark_is i).links; label = (mark_is i).label; path = path_is i }
 
 pub told_within : (t u more : List ℕ) (l : List Mark) (row : RecordRow) (mark : Mark) → u ≡ t ++ more → row.at ≡ length t → row.size ≡ length u - row.at → slice_get l row.mark ≡ Some mark → IsNormal more → IsWithin u l row
 told_within t u more l row mark e a s known n = record {

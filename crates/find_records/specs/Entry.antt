@@ -12,6 +12,7 @@ entry_of e = record {
   kind = e.kind;
   device = e.device;
   inode = e.inode;
+  links = e.links;
   label = e.label.now;
   path = path_of e.path;
 }
@@ -22,6 +23,7 @@ record_told t = record {
   kind = t.kind;
   device = t.device;
   inode = t.inode;
+  links = t.links;
   label = label_of t.label.now;
   path = path_names t.path.now;
 }

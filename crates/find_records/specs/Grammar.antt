@@ -1,16 +1,19 @@
--- The grammar of records, as find(1) writes them by -printf '%y %D %i %Z %p\0', and below it how it is computed.
-use Rattle.std.specs.Prelude.{◌≡◌, ◌⊎◌, ℕ, ◌+◌, ◌<◌, ◌≤◌, Bool, true, false, ◌==◌, nat_lt, codes, List, [], ◌∷◌, ◌++◌, length, Contains, count_by, Option, Some, None, IsSome, Result, Ok, Err, if◌then◌else◌}
+-- The grammar of records, as find(1) writes them by -printf '%y %D %i %Z %p\0', or with a link count by
+-- -printf '%y %D %i %n %Z %p\0', and below it how it is computed.
+use Rattle.std.specs.Prelude.{◌≡◌, ◌⊎◌, ℕ, ◌+◌, ◌<◌, ◌≤◌, Bool, true, false, ◌==◌, nat_lt, List, [], ◌∷◌, ◌++◌, length, Contains, count_by, Option, Some, None, IsSome, Result, Ok, Err, if◌then◌else◌}
 use Rattle.std.specs.List.{slice_split}
+use Rattle.std.specs.Option.{option_map}
 use Rattle.label_base.specs.Cut.{front, behind}
 use Rattle.label_base.specs.Number.{number_of}
-use Rattle.label_base.specs.Text.{same_bytes}
+use Rattle.label_base.specs.Kind.{letter_kind}
 use Rattle.file_paths.specs.Path.{Path, path_read}
 use Rattle.file_paths.specs.declared.path_fault.PathWhy.{PathWhy}
 use Rattle.label_base.specs.declared.kind.EntryKind.{EntryKind}
-use Rattle.label_base.specs.declared.kind.EntryKind.TheVariants.{Regular, Directory, Link, Pipe, Socket, Block, Char, Other}
 use Rattle.context_syntax.specs.Label.{label_of}
 use Rattle.context_syntax.specs.declared.label.Label.{Label}
 use Rattle.find_records.specs.Record.{Record}
+use Rattle.find_records.specs.declared.format.Format.{Format}
+use Rattle.find_records.specs.declared.format.Format.TheVariants.{One, Two}
 use Rattle.find_records.specs.declared.record.TheConstants.{SPACE}
 use Rattle.find_records.specs.declared.reading.TheConstants.{NUL}
 use Rattle.find_records.specs.declared.reading.RecordLimits.{RecordLimits}
@@ -21,50 +24,62 @@ use Rattle.find_records.specs.declared.fault.RecordsFault.TheVariants.{TooMany, 
 
 -- ---- one record
 
--- the bytes of the five fields
+-- the bytes of the five fields, and of the link count where there is one
 pub record Fields : Type 0 where
   pub letter : List ℕ
   pub device : List ℕ
   pub inode : List ℕ
+  pub links : Option (List ℕ)
   pub label : List ℕ
   pub path : List ℕ
 
+-- a link count and its space stand before the rest, where there is one
+abbrev pub behind_links : Option (List ℕ) → List ℕ → List ℕ
+behind_links None rest = rest
+behind_links (Some links) rest = links ++ SPACE ∷ rest
+
+-- the second format alone has a link count, which holds no space
+abbrev pub HasLinks : Format → Option (List ℕ) → Type 0
+HasLinks One None = Unit {0}
+HasLinks One (Some links) = ⊥
+HasLinks Two None = ⊥
+HasLinks Two (Some links) = ¬ Contains links SPACE
+
 -- the bytes are these fields with one space between two of them; a path may hold spaces
-pub record HasFields (bytes : List ℕ) (fields : Fields) : Type 0 where
+pub record HasFields (format : Format) (bytes : List ℕ) (fields : Fields) : Type 0 where
   pub text :
       bytes ≡ fields.letter ++ SPACE ∷ fields.device ++ SPACE ∷ fields.inode
-      ++ SPACE ∷ fields.label ++ SPACE ∷ fields.path
+      ++ SPACE ∷ behind_links fields.links (fields.label ++ SPACE ∷ fields.path)
   pub letter : ¬ Contains fields.letter SPACE
   pub device : ¬ Contains fields.device SPACE
   pub inode : ¬ Contains fields.inode SPACE
+  pub links : HasLinks format fields.links
   pub label : ¬ Contains fields.label SPACE
 
--- the kind that find(1) tells by a letter; a door (D) and an unknown entry (U) are of another kind
+-- the kind that find(1) tells by a letter
 abbrev pub kind_of : List ℕ → Option EntryKind
-kind_of field =
-    if same_bytes field (codes "f") then Some Regular
-    else if same_bytes field (codes "d") then Some Directory
-    else if same_bytes field (codes "l") then Some Link
-    else if same_bytes field (codes "p") then Some Pipe
-    else if same_bytes field (codes "s") then Some Socket
-    else if same_bytes field (codes "b") then Some Block
-    else if same_bytes field (codes "c") then Some Char
-    else if same_bytes field (codes "D") then Some Other
-    else if same_bytes field (codes "U") then Some Other
-    else None
+kind_of [] = None
+kind_of (letter ∷ []) = letter_kind letter
+kind_of (letter ∷ more ∷ rest) = None
 
--- what the fields tell: a kind, two decimal numbers of at most 64 bits, a label, an absolute path
+-- the link count that its field tells; none, where the field isn't there
+abbrev pub links_of : Option (List ℕ) → Option (Option ℕ)
+links_of None = Some None
+links_of (Some field) = option_map (λ count. Some count) (number_of field)
+
+-- what the fields tell: a kind, decimal numbers of at most 64 bits, a label, an absolute path
 pub record Tells (fields : Fields) (found : Record) : Type 0 where
   pub kind : kind_of fields.letter ≡ Some found.kind
   pub device : number_of fields.device ≡ Some found.device
   pub inode : number_of fields.inode ≡ Some found.inode
+  pub links : links_of fields.links ≡ Some found.links
   pub label : label_of fields.label ≡ found.label
   pub path : path_read fields.path ≡ Ok found.path
 
 -- the bytes spell this record
-pub record Spells (bytes : List ℕ) (found : Record) : Type 0 where
+pub record Spells (format : Format) (bytes : List ℕ) (found : Record) : Type 0 where
   pub fields : Fields
-  pub cut : HasFields bytes fields
+  pub cut : HasFields format bytes fields
   pub told : Tells fields found
 
 -- nothing is wrong with the fields before the path
@@ -72,6 +87,7 @@ pub record AreGood (fields : Fields) : Type 0 where
   pub kind : IsSome (kind_of fields.letter)
   pub device : IsSome (number_of fields.device)
   pub inode : IsSome (number_of fields.inode)
+  pub links : IsSome (links_of fields.links)
 
 -- what is wrong with the fields, where nothing before it is
 abbrev pub AreBad : Fields → RecordWhy → Type 0
@@ -79,66 +95,74 @@ AreBad fields MissingField = ⊥
 AreBad fields BadType = kind_of fields.letter ≡ None
 AreBad fields BadNumber =
     IsSome (kind_of fields.letter)
-    × ((number_of fields.device ≡ None) ⊎ (number_of fields.inode ≡ None))
+    × ((number_of fields.device ≡ None)
+    ⊎ ((number_of fields.inode ≡ None) ⊎ (links_of fields.links ≡ None)))
 AreBad fields (BadPath why) = AreGood fields × (path_read fields.path ≡ Err why)
 
 abbrev pub is_space : ℕ → Bool
 is_space b = b == SPACE
 
+-- how many spaces a record has at least
+abbrev pub spaces_in : Format → ℕ
+spaces_in One = 4
+spaces_in Two = 5
+
 -- the bytes spell no record, and why
-abbrev pub IsBad : List ℕ → RecordWhy → Type 0
-IsBad bytes MissingField = count_by is_space bytes < 4
-IsBad bytes why = (fields : Fields) × HasFields bytes fields × AreBad fields why
+abbrev pub IsBad : Format → List ℕ → RecordWhy → Type 0
+IsBad format bytes MissingField = count_by is_space bytes < spaces_in format
+IsBad format bytes why = (fields : Fields) × HasFields format bytes fields × AreBad fields why
 
 -- ---- a run of records
 
 -- the bytes are these records, each ended by a NUL
-pub data IsRun : List ℕ → List Record → Type 0 where
-  none : IsRun [] []
+pub data IsRun (format : Format) : List ℕ → List Record → Type 0 where
+  none : IsRun format [] []
   more : (bytes rest : List ℕ) (first : Record) (others : List Record)
       → ¬ Contains bytes NUL
-      → Spells bytes first
-      → IsRun rest others
-      → IsRun (bytes ++ NUL ∷ rest) (first ∷ others)
+      → Spells format bytes first
+      → IsRun format rest others
+      → IsRun format (bytes ++ NUL ∷ rest) (first ∷ others)
 
 -- behind good records these bytes are left, for the record with this number
-pub record StandsAt (bytes : List ℕ) (number : ℕ) (left : List ℕ) : Type 0 where
+pub record StandsAt (format : Format) (bytes : List ℕ) (number : ℕ) (left : List ℕ)
+    : Type 0 where
   pub front : List ℕ
   pub records : List Record
   pub text : bytes ≡ front ++ left
-  pub good : IsRun front records
+  pub good : IsRun format front records
   pub count : length records + 1 ≡ number
 
 -- bytes are left behind as many good records as there may be
-pub record HasTooMany (most : ℕ) (bytes : List ℕ) : Type 0 where
+pub record HasTooMany (format : Format) (most : ℕ) (bytes : List ℕ) : Type 0 where
   pub left : List ℕ
-  pub place : StandsAt bytes (most + 1) left
+  pub place : StandsAt format bytes (most + 1) left
   pub some : 0 < length left
 
 -- behind good records, the one with this number is refused
-pub record IsRefusedAt (most : ℕ) (bytes : List ℕ) (number : ℕ) (why : RecordWhy) : Type 0 where
+pub record IsRefusedAt (format : Format) (most : ℕ) (bytes : List ℕ) (number : ℕ) (why : RecordWhy)
+    : Type 0 where
   pub bad : List ℕ
   pub rest : List ℕ
-  pub place : StandsAt bytes number (bad ++ NUL ∷ rest)
+  pub place : StandsAt format bytes number (bad ++ NUL ∷ rest)
   pub within : number ≤ most
   pub ended : ¬ Contains bad NUL
-  pub is_bad : IsBad bad why
+  pub is_bad : IsBad format bad why
 
 -- behind good records, the last one has this number and no NUL
-pub record IsUnendedAt (most : ℕ) (bytes : List ℕ) (number : ℕ) : Type 0 where
+pub record IsUnendedAt (format : Format) (most : ℕ) (bytes : List ℕ) (number : ℕ) : Type 0 where
   pub left : List ℕ
-  pub place : StandsAt bytes number left
+  pub place : StandsAt format bytes number left
   pub within : number ≤ most
   pub some : 0 < length left
   pub unended : ¬ Contains left NUL
 
 -- what the bytes mean, where there may be so many records
-abbrev pub Means : ℕ → List ℕ → Result (List Record) RecordsFault → Type 0
-Means most bytes (Ok records) = IsRun bytes records × (length records ≤ most)
-Means most bytes (Err TooMany) = HasTooMany most bytes
-Means most bytes (Err (Refused number why)) = IsRefusedAt most bytes number why
-Means most bytes (Err (Unended number)) = IsUnendedAt most bytes number
-Means most bytes (Err fault) = ⊥
+abbrev pub Means : Format → ℕ → List ℕ → Result (List Record) RecordsFault → Type 0
+Means format most bytes (Ok records) = IsRun format bytes records × (length records ≤ most)
+Means format most bytes (Err TooMany) = HasTooMany format most bytes
+Means format most bytes (Err (Refused number why)) = IsRefusedAt format most bytes number why
+Means format most bytes (Err (Unended number)) = IsUnendedAt format most bytes number
+Means format most bytes (Err fault) = ⊥
 
 -- ---- how it is computed
 
@@ -151,44 +175,72 @@ abbrev pub path_of : List ℕ → Result Path RecordWhy
 path_of bytes = path_from (path_read bytes)
 
 -- the record of the fields' values, or the first of them that is bad
-abbrev pub record_from : Option EntryKind → Option ℕ → Option ℕ → Label → Result Path RecordWhy
-    → Result Record RecordWhy
-record_from None device inode label path = Err BadType
-record_from (Some kind) None inode label path = Err BadNumber
-record_from (Some kind) (Some device) None label path = Err BadNumber
-record_from (Some kind) (Some device) (Some inode) label (Err why) = Err why
-record_from (Some kind) (Some device) (Some inode) label (Ok path) =
-    Ok (record { kind = kind; device = device; inode = inode; label = label; path = path })
+abbrev pub record_from : Option EntryKind → Option ℕ → Option ℕ → Option (Option ℕ) → Label
+    → Result Path RecordWhy → Result Record RecordWhy
+record_from None device inode links label path = Err BadType
+record_from (Some kind) None inode links label path = Err BadNumber
+record_from (Some kind) (Some device) None links label path = Err BadNumber
+record_from (Some kind) (Some device) (Some inode) None label path = Err BadNumber
+record_from (Some kind) (Some device) (Some inode) (Some links) label (Err why) = Err why
+record_from (Some kind) (Some device) (Some inode) (Some links) label (Ok path) =
+    Ok (record {
+      kind = kind;
+      device = device;
+      inode = inode;
+      links = links;
+      label = label;
+      path = path;
+    })
 
 -- the record of the fields
-abbrev pub with_path : List ℕ → List ℕ → List ℕ → List ℕ → List ℕ → Result Record RecordWhy
-with_path letter device inode label path =
-    record_from (kind_of letter) (number_of device) (number_of inode) (label_of label)
-    (path_of path)
+abbrev pub with_path : List ℕ → List ℕ → List ℕ → Option (List ℕ) → List ℕ → List ℕ
+    → Result Record RecordWhy
+with_path letter device inode links label path =
+    record_from (kind_of letter) (number_of device) (number_of inode) (links_of links)
+    (label_of label) (path_of path)
 
 -- the fields so far, and what stands behind the last one's space, if it has one
-abbrev pub with_label : List ℕ → List ℕ → List ℕ → List ℕ → Option (List ℕ)
+abbrev pub with_label : List ℕ → List ℕ → List ℕ → Option (List ℕ) → List ℕ → Option (List ℕ)
     → Result Record RecordWhy
-with_label letter device inode label None = Err MissingField
-with_label letter device inode label (Some path) = with_path letter device inode label path
+with_label letter device inode links label None = Err MissingField
+with_label letter device inode links label (Some path) =
+    with_path letter device inode links label path
 
-abbrev pub with_inode : List ℕ → List ℕ → List ℕ → Option (List ℕ) → Result Record RecordWhy
-with_inode letter device inode None = Err MissingField
-with_inode letter device inode (Some rest) =
-    with_label letter device inode (front is_space rest) (behind is_space rest)
+-- the label and the path stand behind the link count, if there is one
+abbrev pub with_links : List ℕ → List ℕ → List ℕ → Option (List ℕ) → List ℕ
+    → Result Record RecordWhy
+with_links letter device inode links rest =
+    with_label letter device inode links (front is_space rest) (behind is_space rest)
 
-abbrev pub with_device : List ℕ → List ℕ → Option (List ℕ) → Result Record RecordWhy
-with_device letter device None = Err MissingField
-with_device letter device (Some rest) =
-    with_inode letter device (front is_space rest) (behind is_space rest)
+abbrev pub with_count : List ℕ → List ℕ → List ℕ → List ℕ → Option (List ℕ)
+    → Result Record RecordWhy
+with_count letter device inode count None = Err MissingField
+with_count letter device inode count (Some rest) =
+    with_links letter device inode (Some count) rest
 
-abbrev pub with_letter : List ℕ → Option (List ℕ) → Result Record RecordWhy
-with_letter letter None = Err MissingField
-with_letter letter (Some rest) = with_device letter (front is_space rest) (behind is_space rest)
+abbrev pub with_rest : Format → List ℕ → List ℕ → List ℕ → List ℕ → Result Record RecordWhy
+with_rest One letter device inode rest = with_links letter device inode None rest
+with_rest Two letter device inode rest =
+    with_count letter device inode (front is_space rest) (behind is_space rest)
 
--- the record that the bytes before a NUL spell: cut at the first four spaces, the path is the rest
-unfoldable pub record_of : List ℕ → Result Record RecordWhy
-record_of bytes = with_letter (front is_space bytes) (behind is_space bytes)
+abbrev pub with_inode : Format → List ℕ → List ℕ → List ℕ → Option (List ℕ)
+    → Result Record RecordWhy
+with_inode format letter device inode None = Err MissingField
+with_inode format letter device inode (Some rest) = with_rest format letter device inode rest
+
+abbrev pub with_device : Format → List ℕ → List ℕ → Option (List ℕ) → Result Record RecordWhy
+with_device format letter device None = Err MissingField
+with_device format letter device (Some rest) =
+    with_inode format letter device (front is_space rest) (behind is_space rest)
+
+abbrev pub with_letter : Format → List ℕ → Option (List ℕ) → Result Record RecordWhy
+with_letter format letter None = Err MissingField
+with_letter format letter (Some rest) =
+    with_device format letter (front is_space rest) (behind is_space rest)
+
+-- the record that the bytes before a NUL spell: cut at the first spaces, the path is the rest
+unfoldable pub record_of : Format → List ℕ → Result Record RecordWhy
+record_of format bytes = with_letter format (front is_space bytes) (behind is_space bytes)
 
 abbrev pub is_nul : ℕ → Bool
 is_nul b = b == NUL
@@ -208,14 +260,14 @@ abbrev pub numbered : ℕ → Result Record RecordWhy → Result Record RecordsF
 numbered number (Ok found) = Ok found
 numbered number (Err why) = Err (Refused number why)
 
-abbrev pub ended : ℕ → List ℕ → Bool → Result Record RecordsFault
-ended number bytes false = Err (Unended number)
-ended number bytes true = numbered number (record_of bytes)
+abbrev pub ended : Format → ℕ → List ℕ → Bool → Result Record RecordsFault
+ended format number bytes false = Err (Unended number)
+ended format number bytes true = numbered number (record_of format bytes)
 
 -- what the piece with this number gives: too many first, then the end, then the grammar
-unfoldable pub meaning : ℕ → ℕ → List ℕ → Bool → Result Record RecordsFault
-meaning most number bytes is_ended =
-    if nat_lt most number then Err TooMany else ended number bytes is_ended
+unfoldable pub meaning : Format → ℕ → ℕ → List ℕ → Bool → Result Record RecordsFault
+meaning format most number bytes is_ended =
+    if nat_lt most number then Err TooMany else ended format number bytes is_ended
 
 -- a first record before others; the first refusal decides
 abbrev pub onto : Result Record RecordsFault → Result (List Record) RecordsFault
@@ -225,14 +277,14 @@ onto (Ok first) (Err why) = Err why
 onto (Ok first) (Ok rest) = Ok (first ∷ rest)
 
 -- all records of the pieces, of which the first has this number, or the first refusal
-abbrev pub all_from : ℕ → ℕ → List (List ℕ × Bool) → Result (List Record) RecordsFault
-all_from most number [] = Ok []
-all_from most number (piece ∷ pieces) =
-    onto (meaning most number piece.0 piece.1) (all_from most (number + 1) pieces)
+abbrev pub all_from : Format → ℕ → ℕ → List (List ℕ × Bool) → Result (List Record) RecordsFault
+all_from format most number [] = Ok []
+all_from format most number (piece ∷ pieces) =
+    onto (meaning format most number piece.0 piece.1) (all_from format most (number + 1) pieces)
 
-unfoldable pub records_from : ℕ → ℕ → List ℕ → Result (List Record) RecordsFault
-records_from most number bytes = all_from most number (pieces_of bytes)
+unfoldable pub records_from : Format → ℕ → ℕ → List ℕ → Result (List Record) RecordsFault
+records_from format most number bytes = all_from format most number (pieces_of bytes)
 
 -- the records that the bytes spell, or what is wrong with the first bad one
-abbrev pub records_of : RecordLimits → List ℕ → Result (List Record) RecordsFault
-records_of limits bytes = records_from limits.records 1 bytes
+abbrev pub records_of : Format → RecordLimits → List ℕ → Result (List Record) RecordsFault
+records_of format limits bytes = records_from format limits.records 1 bytes

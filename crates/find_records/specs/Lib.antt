@@ -3,6 +3,7 @@ pub mod Entry
 pub mod Grammar
 pub mod Labelled
 pub mod Labels
+pub mod MarkRef
 pub mod Marks
 pub mod Places
 pub mod Reading

@@ -1,35 +1,41 @@
--- What many records have in common: the device and the label.
-use Rattle.std.specs.Prelude.{◌≡◌, ◌⊎◌, ℕ, ◌<◌, ◌^◌, List, [], ◌∷◌, ◌++◌, length, map, get_or}
+-- What many records have in common: the device, the link count and the label.
+use Rattle.std.specs.Prelude.{◌≡◌, ◌⊎◌, ℕ, ◌<◌, ◌^◌, List, [], ◌∷◌, ◌++◌, length, map, get_or, Option, None}
 use Rattle.std.specs.List.{AllByRecursion}
 use Rattle.context_syntax.specs.declared.label.Label.{Label}
 use Rattle.context_syntax.specs.declared.label.Label.TheVariants.{Absent}
+use Rattle.find_records.specs.declared.mark_row.MarkRow.{MarkRow}
 
 pub record Mark : Type 0 where
   pub device : ℕ
+  pub links : Option ℕ
   pub label : Label
 
-abbrev pub mark_of : ℕ → Label → Mark
-mark_of device label = record { device = device; label = label }
+abbrev pub mark_of : ℕ → Option ℕ → Label → Mark
+mark_of device links label = record { device = device; links = links; label = label }
 
 -- what stands where there is none
 abbrev pub no_mark : Mark
-no_mark = mark_of 0 Absent
+no_mark = mark_of 0 None Absent
 
 -- ---- how they are kept
 
--- the device and the label that a pair of numbers stands for
-abbrev pub mark_in : List Label → ℕ × ℕ → Mark
-mark_in labels pair = mark_of pair.0 (get_or labels pair.1 Absent)
+-- what a row stands for
+abbrev pub mark_in : List Label → MarkRow → Mark
+mark_in labels row = mark_of row.device row.links (get_or labels row.label Absent)
 
-abbrev pub marks_in : List Label → List (ℕ × ℕ) → List Mark
-marks_in labels pairs = map (mark_in labels) pairs
+abbrev pub marks_in : List Label → List MarkRow → List Mark
+marks_in labels rows = map (mark_in labels) rows
 
--- the labels of the pairs are there, and numbers of 32 bits tell them
-pub record AreMarks (labels : List Label) (pairs : List (ℕ × ℕ)) : Type 0 where
-  pub known : AllByRecursion (λ pair. pair.1 < length labels) pairs
+-- the labels of the rows are there
+abbrev pub AreLabelled : ℕ → List MarkRow → Type 0
+AreLabelled count rows = AllByRecursion (λ row. row.label < count) rows
+
+-- the labels of the rows are there, and numbers of 32 bits tell them
+pub record AreMarks (labels : List Label) (rows : List MarkRow) : Type 0 where
+  pub known : AreLabelled (length labels) rows
   pub few_labels : length labels < 2 ^ 32
-  pub few : length pairs < 2 ^ 32
+  pub few : length rows < 2 ^ 32
 
--- the pair stands behind the others, or nothing was added
-abbrev pub IsWithPair : List (ℕ × ℕ) → ℕ × ℕ → List (ℕ × ℕ) → Type 0
-IsWithPair old pair new = (new ≡ old) ⊎ (new ≡ old ++ pair ∷ [])
+-- the row stands behind the others, or nothing was added
+abbrev pub IsWithRow : List MarkRow → MarkRow → List MarkRow → Type 0
+IsWithRow old row new = (new ≡ old) ⊎ (new ≡ old ++ row ∷ [])

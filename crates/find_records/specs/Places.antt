@@ -1,5 +1,5 @@
 -- The records at places among others.
-use Rattle.std.specs.Prelude.{ℕ, ◌<◌, List, [], map, get_or}
+use Rattle.std.specs.Prelude.{ℕ, ◌<◌, List, [], map, get_or, None}
 use Rattle.std.specs.List.{AllByRecursion}
 use Rattle.label_base.specs.declared.kind.EntryKind.TheVariants.{Regular}
 use Rattle.context_syntax.specs.declared.label.Label.TheVariants.{Absent}
@@ -7,7 +7,8 @@ use Rattle.find_records.specs.Record.{Record}
 
 -- what stands where there is no record
 abbrev pub no_record : Record
-no_record = record { kind = Regular; device = 0; inode = 0; label = Absent; path = [] }
+no_record =
+    record { kind = Regular; device = 0; inode = 0; links = None; label = Absent; path = [] }
 
 -- the records at these places
 abbrev pub records_at : List Record → List ℕ → List Record

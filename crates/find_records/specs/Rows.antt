@@ -1,4 +1,5 @@
--- Rows that stand for records: each has its path's text in one text, and its device and label among marks.
+-- Rows that stand for records: each has its path's text in one text, and its device, link
+-- count and label among marks.
 use Rattle.std.specs.Prelude.{◌≡◌, ℕ, ◌+◌, ◌<◌, ◌≤◌, ◌^◌, List, [], ◌∷◌, length, map, take, drop, get_or}
 use Rattle.std.specs.List.{AllByRecursion}
 use Rattle.file_paths.specs.Path.{path_names}
@@ -18,6 +19,7 @@ record_in texts marks row = record {
   kind = row.kind;
   device = (get_or marks row.mark no_mark).device;
   inode = row.inode;
+  links = (get_or marks row.mark no_mark).links;
   label = (get_or marks row.mark no_mark).label;
   path = path_names (text_in texts row);
 }

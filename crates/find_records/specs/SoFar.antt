@@ -17,7 +17,7 @@ refused_or (Some fault) meant = Err fault
 abbrev pub meant_with : SoFar → List ℕ → Result (List Record) RecordsFault
 meant_with s rest =
     refused_or s.refused
-    (with_front s.records (records_from s.most (length s.records + 1) (s.pending ++ rest)))
+    (with_front s.records (records_from s.format s.most (length s.records + 1) (s.pending ++ rest)))
 
 -- there are no more records than there may be, and none is whole among the bytes behind them
 pub record IsSound (s : SoFar) : Type 0 where

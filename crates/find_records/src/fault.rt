@@ -6,11 +6,11 @@ use file_paths::PathWhy;
 /// What is wrong with a record that has its NUL.
 #[derive(Clone, Copy, Debug, PartialEq, Eq)]
 pub enum RecordWhy {
-    /// It has fewer than four spaces.
+    /// It has fewer spaces than its format: four, or five with a link count.
     MissingField,
     /// Its type is no letter that find(1) prints for `%y`.
     BadType,
-    /// Its device or inode is no decimal number of at most 64 bits.
+    /// Its device, inode or link count is no decimal number of at most 64 bits.
     BadNumber,
     /// Its path is no absolute path.
     BadPath(PathWhy),

@@ -5,7 +5,9 @@ ghost use Rattle.find_records.specs.Labelled.{ArePaired};
 ghost use Rattle.find_records.specs.Places.{ArePlaces};
 ghost use Rattle.find_records.specs.Rows.{AreWithin};
 
-use crate::marks::{Marks, Pair, number_behind};
+use crate::guesses::Guesses;
+use crate::mark_row::MarkRow;
+use crate::marks::{Marks, number_guessed};
 use crate::row::RecordRow;
 use context_syntax::Label;
 use label_base::{OutOfMemory, Row};
@@ -22,37 +24,43 @@ pub fn copy_labels(alloc: Global, labels: &Row<Label>) -> Result<Vec<Label>, Out
     Ok(copies)
 }
 
-// Rows, and the pairs of a device and the number of a label that they have.
+// Rows, and the marks that they have.
 #[derive(Drop)]
-pub struct Paired {
-    pub pairs: Vec<Pair>,
+pub struct Marked {
+    pub marks: Vec<MarkRow>,
     pub rows: Vec<RecordRow>,
 }
 
 /// The rows as they are, but for their labels, of which each is that with this number.
-pub fn pair_rows(
+pub fn mark_rows(
     alloc: Global,
     marks: &Marks,
     rows: &[RecordRow],
     numbers: &[u32],
-) -> Result<Paired, OutOfMemory>
+) -> Result<Marked, OutOfMemory>
     requires counted { length numbers.now ≡ length rows.now }
     requires known { AllByRecursion (λ row. row.mark < length marks.now) rows.now }
-    ensures { IfOk result (λ paired. (texts : List ℕ) → (labels : List Label)
+    ensures { IfOk result (λ marked. (texts : List ℕ) → (labels : List Label)
         → ArePlaces (length labels) numbers.now → AreWithin texts marks.now rows.now
-        → ArePaired texts marks.now rows.now numbers.now labels paired.pairs.items
-        paired.rows.items) }
+        → ArePaired texts marks.now rows.now numbers.now labels marked.marks.items
+        marked.rows.items) }
 {
-    let mut paired = Paired {
-        pairs: Vec::new(alloc),
+    let mut marked = Marked {
+        marks: Vec::new(alloc),
         rows: Vec::with_capacity(alloc, rows.len())?,
     };
-    let mut last = 0;
+    let mut guesses = Guesses::new(alloc);
+    guesses.make_room(alloc)?;
     'rows: for i in 0..rows.len() {
         let row = &rows[i];
-        let (device, _) = marks.get(row.mark);
-        last = number_behind(&mut paired.pairs, last, (device, numbers[i]))?;
-        paired.rows.push(RecordRow { mark: last, ..*row })?;
+        let given = marks.get(row.mark);
+        let own = MarkRow {
+            device: given.device,
+            links: given.links,
+            label: numbers[i],
+        };
+        let mark = number_guessed(&mut marked.marks, &mut guesses, own)?;
+        marked.rows.push(RecordRow { mark, ..*row })?;
     }
-    Ok(paired)
+    Ok(marked)
 }

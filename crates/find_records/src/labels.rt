@@ -2,6 +2,7 @@ ghost use Rattle.std.specs.Prelude.{◌≡◌, ◌++◌, ◌∷◌, ◌<◌, ◌
 ghost use Rattle.context_syntax.specs.Label.{label_of};
 ghost use Rattle.find_records.specs.Labels.{AreSpelled, Extends, labels_in};
 
+use crate::guesses::{Guesses, mix};
 use context_syntax::Label;
 use label_base::OutOfMemory;
 use std::alloc::Global;
@@ -23,15 +24,9 @@ pub struct Labels {
     // what a hash puts together. Nothing is claimed of them: what they give is compared.
     numbers: BTreeMap<Vec<u8>, u32>,
     // Guesses of numbers, by what bytes mix to, and the number that was last asked for.
-    guesses: Vec<u32>,
+    guesses: Guesses,
     last: u32,
 }
-
-// How many guesses are kept: so many that a few hundred labels seldom share one.
-const GUESSES: usize = 4_096;
-
-// An odd number with its bits in no order.
-const MIX: u64 = 0x9E37_79B9_7F4A_7C15;
 
 impl Model for Labels {
     ghost use Rattle.std.specs.Prelude.{List};
@@ -56,20 +51,18 @@ fn is_spelled(known: &[Spelled], number: u32, bytes: &[u8]) -> bool
     }
 }
 
-// Where a guess of the number of these bytes stands.
-fn slot_of(bytes: &[u8]) -> usize
-    ensures { result < GUESSES }
-{
+// Bytes, mixed to one word.
+fn mix_bytes(bytes: &[u8]) -> u64 {
     let mut mixed = 0u64;
     let mut left = bytes;
     'words: while let Some((word, rest)) = left.split_first_chunk::<8>() {
-        mixed = (mixed ^ u64::from_le_bytes(*word)).wrapping_mul(MIX);
+        mixed = mix(mixed, u64::from_le_bytes(*word));
         left = rest;
     }
     'bytes: for byte in left {
-        mixed = (mixed ^ u64::from(*byte)).wrapping_mul(MIX);
+        mixed = mix(mixed, u64::from(*byte));
     }
-    ((mixed >> 32) as usize) % GUESSES
+    mixed
 }
 
 // The number, if the bytes spell the label that it has.
@@ -84,18 +77,11 @@ fn number_told(known: &[Spelled], number: Option<u32>, bytes: &[u8]) -> Option<u
     None
 }
 
-// Keeps a number where it is guessed.
-fn keep_guess(guesses: &mut Vec<u32>, slot: usize, number: u32) {
-    if let Some(guess) = guesses.get_mut(slot) {
-        *guess = number;
-    }
-}
-
 // The number of a spelling that is there: the last one, or one that is guessed or found.
 fn number_in(
     known: &[Spelled],
     numbers: &BTreeMap<Vec<u8>, u32>,
-    guesses: &mut Vec<u32>,
+    guesses: &mut Guesses,
     last: u32,
     bytes: &[u8],
 ) -> Option<u32>
@@ -105,21 +91,14 @@ fn number_in(
     if is_spelled(known, last, bytes) {
         return Some(last);
     }
-    let slot = slot_of(bytes);
-    if let Some(number) = number_told(known, guesses.get(slot).copied(), bytes) {
-        return Some(number);
+    let mixed = mix_bytes(bytes);
+    let guess = guesses.get(mixed);
+    if is_spelled(known, guess, bytes) {
+        return Some(guess);
     }
     let number = number_told(known, numbers.get(bytes).copied(), bytes)?;
-    keep_guess(guesses, slot, number);
+    guesses.keep(mixed, number);
     Some(number)
-}
-
-// Room for guesses, which is made with the first label.
-fn make_room(alloc: Global, guesses: &mut Vec<u32>) -> Result<(), OutOfMemory> {
-    if guesses.is_empty() {
-        *guesses = vec![in alloc; 0u32; GUESSES]?;
-    }
-    Ok(())
 }
 
 // Notes the number of a spelling.
@@ -172,7 +151,7 @@ impl Labels {
         Labels {
             known: Vec::new(alloc),
             numbers: BTreeMap::new(alloc),
-            guesses: Vec::new(alloc),
+            guesses: Guesses::new(alloc),
             last: 0,
         }
     }
@@ -212,7 +191,7 @@ impl Labels {
         if self.known.len() >= u32::MAX as usize {
             return Err(OutOfMemory);
         }
-        make_room(alloc, &mut self.guesses)?;
+        self.guesses.make_room(alloc)?;
         let number = add_label(alloc, &mut self.known, &mut self.numbers, bytes)?;
         self.last = number;
         Ok(number)

@@ -1,12 +1,16 @@
-//! The records of a tree, as `find -printf '%y %D %i %Z %p\0'` writes them.
+//! The records of a tree, as `find -printf '%y %D %i %Z %p\0'` writes them, or with link counts
+//! `find -printf '%y %D %i %n %Z %p\0'`.
 #![tactic(auto)]
 
 mod all_labels;
 mod entry;
 mod fault;
+mod format;
+mod guesses;
 mod labelled;
 mod labels;
 mod lay;
+mod mark_row;
 mod marks;
 mod reading;
 mod record;
@@ -17,6 +21,7 @@ mod so_far;
 pub use entry::{Entry, Told};
 pub use fault::{RecordWhy, RecordsFault};
 pub use file_paths::PathWhy;
+pub use format::Format;
 pub use reading::{RecordLimits, read_records, records_follow_grammar};
 pub use records::Records;
 

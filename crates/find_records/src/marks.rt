@@ -1,28 +1,35 @@
 ghost use Rattle.std.specs.Prelude.{◌≡◌, ◌++◌, ◌∷◌, ◌<◌, ◌^◌, [], true, get_or, length, slice_get, Some, IfOk, IfSome, OnOk, OnErr};
 ghost use Rattle.context_syntax.specs.Label.{label_of, same_label};
 ghost use Rattle.find_records.specs.Labels.{Extends};
-ghost use Rattle.find_records.specs.Marks.{AreMarks, IsWithPair, mark_of, marks_in, no_mark};
+ghost use Rattle.find_records.specs.MarkRef.{mark_lent};
+ghost use Rattle.find_records.specs.Marks.{AreMarks, IsWithRow, mark_of, marks_in, no_mark};
 
 use crate::all_labels::AllLabels;
+use crate::guesses::Guesses;
+use crate::mark_row::MarkRow;
 use context_syntax::Label;
 use label_base::OutOfMemory;
 use std::alloc::Global;
 use std::collections::BTreeMap;
 use std::marker::Model;
 
-// A device, and the number of a label.
-pub type Pair = (u64, u32);
+/// What many records have in common.
+#[derive(Clone, Copy)]
+pub struct MarkRef<'a> {
+    pub device: u64,
+    pub links: Option<u64>,
+    pub label: &'a Label,
+}
 
-// The devices and labels of records, two by two, seen as their list. They are found by their
-// number, from 0 on.
+// The devices, link counts and labels of records, seen as the list of what goes together. They are found
+// by their number, from 0 on. So a record without a link count costs nothing for it.
 #[derive(Drop)]
 pub struct Marks {
     labels: AllLabels,
-    pairs: Vec<Pair>,
-    // The numbers of pairs, in order, as those of spellings are: what they give is compared.
-    numbers: BTreeMap<Pair, u32>,
-    // The number that each label was last asked for with.
-    guesses: Vec<u32>,
+    rows: Vec<MarkRow>,
+    // The numbers of rows, in order, as those of spellings are: what they give is compared.
+    numbers: BTreeMap<MarkRow, u32>,
+    guesses: Guesses,
 }
 
 impl Model for Marks {
@@ -31,141 +38,156 @@ impl Model for Marks {
 
     ghost Value = { List Mark };
 
-    ghost view = { λ m. marks_in m.labels m.pairs.items };
+    ghost view = { λ m. marks_in m.labels m.rows.items };
 
-    ghost invariant = { λ m. AreMarks m.labels m.pairs.items };
+    ghost invariant = { λ m. AreMarks m.labels m.rows.items };
 }
 
-// The pair with a number.
-fn pair_at(pairs: &[Pair], number: u32) -> Pair
-    requires { number < length pairs.now }
-    ensures { slice_get pairs.now number ≡ Some result }
+// The row with a number.
+fn row_at(rows: &[MarkRow], number: u32) -> MarkRow
+    requires { number < length rows.now }
+    ensures { slice_get rows.now number ≡ Some result }
 {
-    pairs[number as usize]
+    rows[number as usize]
 }
 
-// Whether the pair with a number is this one.
-fn is_pair(pairs: &[Pair], number: u32, pair: Pair) -> bool
-    ensures { result ≡ true → slice_get pairs.now number ≡ Some pair }
+// Whether the row with a number is this one.
+fn is_row(rows: &[MarkRow], number: u32, row: MarkRow) -> bool
+    ensures { result ≡ true → slice_get rows.now number ≡ Some row }
 {
-    match pairs.get(number as usize) {
-        Some(found) => *found == pair,
+    match rows.get(number as usize) {
+        Some(found) => *found == row,
         None => false,
     }
 }
 
-// The number, if that pair has it.
-fn number_told(pairs: &[Pair], number: Option<u32>, pair: Pair) -> Option<u32>
-    ensures { IfSome result (λ number. slice_get pairs.now number ≡ Some pair) }
+// The number, if that row has it.
+fn number_told(rows: &[MarkRow], number: Option<u32>, row: MarkRow) -> Option<u32>
+    ensures { IfSome result (λ number. slice_get rows.now number ≡ Some row) }
 {
     let number = number?;
-    if is_pair(pairs, number, pair) {
+    if is_row(rows, number, row) {
         return Some(number);
     }
     None
 }
 
-// Keeps a number as that of a label, as far as the labels before have one.
-fn keep_guess(guesses: &mut Vec<u32>, label: u32, number: u32) -> Result<(), OutOfMemory> {
-    match guesses.get_mut(label as usize) {
-        Some(guess) => {
-            *guess = number;
-            Ok(())
-        }
-        None => Ok(guesses.push(number)?),
-    }
-}
-
-// The number of a pair that is there: the last one of its label, or one that is found.
+// The number of a row that is there: one that is guessed, or one that is found.
 fn number_in(
-    pairs: &[Pair],
-    numbers: &BTreeMap<Pair, u32>,
-    guesses: &[u32],
-    pair: Pair,
+    rows: &[MarkRow],
+    numbers: &BTreeMap<MarkRow, u32>,
+    guess: u32,
+    row: MarkRow,
 ) -> Option<u32>
-    ensures { IfSome result (λ number. slice_get pairs.now number ≡ Some pair) }
+    ensures { IfSome result (λ number. slice_get rows.now number ≡ Some row) }
 {
-    let guess = guesses.get(pair.1 as usize).copied();
-    if let Some(number) = number_told(pairs, guess, pair) {
-        return Some(number);
+    if is_row(rows, guess, row) {
+        return Some(guess);
     }
-    number_told(pairs, numbers.get(&pair).copied(), pair)
+    number_told(rows, numbers.get(&row).copied(), row)
 }
 
-// Adds a pair behind the others: its number. There is no memory for more than there are numbers.
-fn add_pair(pairs: &mut Vec<Pair>, pair: Pair) -> Result<u32, OutOfMemory>
-    requires { length pairs.old.items < 2 ^ 32 }
-    ensures number { IfOk result (λ number. slice_get pairs.new.items number ≡ Some pair) }
-    ensures added { OnOk result (pairs.new.items ≡ pairs.old.items ++ pair ∷ []) }
-    ensures few { length pairs.new.items < 2 ^ 32 }
-    ensures err { OnErr result (pairs.new.items ≡ pairs.old.items) }
+// Adds a row behind the others: its number. There is no memory for more than there are numbers.
+fn add_row(rows: &mut Vec<MarkRow>, row: MarkRow) -> Result<u32, OutOfMemory>
+    requires { length rows.old.items < 2 ^ 32 }
+    ensures number { IfOk result (λ number. slice_get rows.new.items number ≡ Some row) }
+    ensures added { OnOk result (rows.new.items ≡ rows.old.items ++ row ∷ []) }
+    ensures few { length rows.new.items < 2 ^ 32 }
+    ensures err { OnErr result (rows.new.items ≡ rows.old.items) }
 {
-    if pairs.len() >= u32::MAX as usize {
+    if rows.len() >= u32::MAX as usize {
         return Err(OutOfMemory);
     }
-    let number = pairs.len() as u32;
-    pairs.push(pair)?;
+    let number = rows.len() as u32;
+    rows.push(row)?;
     Ok(number)
 }
 
-// The number of a pair, which is added if it isn't the one that was last asked for.
-pub fn number_behind(pairs: &mut Vec<Pair>, last: u32, pair: Pair) -> Result<u32, OutOfMemory>
-    requires { length pairs.old.items < 2 ^ 32 }
-    ensures number { IfOk result (λ number. slice_get pairs.new.items number ≡ Some pair) }
-    ensures with { IsWithPair pairs.old.items pair pairs.new.items }
-    ensures few { length pairs.new.items < 2 ^ 32 }
-    ensures err { OnErr result (pairs.new.items ≡ pairs.old.items) }
+// The number of a row, which is added unless it is the one that is guessed.
+fn number_behind(rows: &mut Vec<MarkRow>, guess: u32, row: MarkRow) -> Result<u32, OutOfMemory>
+    requires { length rows.old.items < 2 ^ 32 }
+    ensures number { IfOk result (λ number. slice_get rows.new.items number ≡ Some row) }
+    ensures with { IsWithRow rows.old.items row rows.new.items }
+    ensures few { length rows.new.items < 2 ^ 32 }
+    ensures err { OnErr result (rows.new.items ≡ rows.old.items) }
 {
-    if is_pair(pairs.as_slice(), last, pair) {
-        return Ok(last);
+    if is_row(rows.as_slice(), guess, row) {
+        return Ok(guess);
     }
-    add_pair(pairs, pair)
+    add_row(rows, row)
 }
 
-// The number of a pair, which is added and noted if it is new.
-fn number_of(
-    pairs: &mut Vec<Pair>,
-    numbers: &mut BTreeMap<Pair, u32>,
-    guesses: &mut Vec<u32>,
-    pair: Pair,
+// The number of a row, which is added if no guess leads to it.
+pub fn number_guessed(
+    rows: &mut Vec<MarkRow>,
+    guesses: &mut Guesses,
+    row: MarkRow,
 ) -> Result<u32, OutOfMemory>
-    requires { length pairs.old.items < 2 ^ 32 }
-    ensures number { IfOk result (λ number. slice_get pairs.new.items number ≡ Some pair) }
-    ensures with { IsWithPair pairs.old.items pair pairs.new.items }
-    ensures few { length pairs.new.items < 2 ^ 32 }
-    ensures err { OnErr result (pairs.new.items ≡ pairs.old.items) }
+    requires { length rows.old.items < 2 ^ 32 }
+    ensures number { IfOk result (λ number. slice_get rows.new.items number ≡ Some row) }
+    ensures with { IsWithRow rows.old.items row rows.new.items }
+    ensures few { length rows.new.items < 2 ^ 32 }
+    ensures err { OnErr result (rows.new.items ≡ rows.old.items) }
 {
-    if let Some(number) = number_in(pairs.as_slice(), numbers, guesses.as_slice(), pair) {
-        keep_guess(guesses, pair.1, number)?;
+    let mixed = row.mixed();
+    let number = number_behind(rows, guesses.get(mixed), row)?;
+    guesses.keep(mixed, number);
+    Ok(number)
+}
+
+// The number of a row, which is added and noted if it is new.
+fn number_of(
+    alloc: Global,
+    rows: &mut Vec<MarkRow>,
+    numbers: &mut BTreeMap<MarkRow, u32>,
+    guesses: &mut Guesses,
+    row: MarkRow,
+) -> Result<u32, OutOfMemory>
+    requires { length rows.old.items < 2 ^ 32 }
+    ensures number { IfOk result (λ number. slice_get rows.new.items number ≡ Some row) }
+    ensures with { IsWithRow rows.old.items row rows.new.items }
+    ensures few { length rows.new.items < 2 ^ 32 }
+    ensures err { OnErr result (rows.new.items ≡ rows.old.items) }
+{
+    let mixed = row.mixed();
+    if let Some(number) = number_in(rows.as_slice(), numbers, guesses.get(mixed), row) {
+        guesses.keep(mixed, number);
         return Ok(number);
     }
-    let number = pairs.len() as u32;
-    let _ = numbers.insert(pair, number)?;
-    keep_guess(guesses, pair.1, number)?;
-    add_pair(pairs, pair)
+    guesses.make_room(alloc)?;
+    let number = rows.len() as u32;
+    let _ = numbers.insert(row, number)?;
+    guesses.keep(mixed, number);
+    add_row(rows, row)
 }
 
-// The number of a device and a label, which are added if they are new.
+// The number of a device, a link count and a label, which are added if they are new.
 fn mark_number(
     alloc: Global,
     labels: &mut AllLabels,
-    pairs: &mut Vec<Pair>,
-    numbers: &mut BTreeMap<Pair, u32>,
-    guesses: &mut Vec<u32>,
+    rows: &mut Vec<MarkRow>,
+    numbers: &mut BTreeMap<MarkRow, u32>,
+    guesses: &mut Guesses,
     device: u64,
+    links: Option<u64>,
     bytes: &[u8],
 ) -> Result<u32, OutOfMemory>
-    requires { AreMarks labels.old pairs.old.items }
-    ensures marks { AreMarks labels.new pairs.new.items }
-    ensures number { IfOk result (λ number. slice_get (marks_in labels.new pairs.new.items) number
-        ≡ Some (mark_of device (label_of bytes.now))) }
-    ensures extends { Extends (marks_in labels.old pairs.old.items)
-        (marks_in labels.new pairs.new.items) }
-    ensures same { OnErr result (marks_in labels.new pairs.new.items
-        ≡ marks_in labels.old pairs.old.items) }
+    requires { AreMarks labels.old rows.old.items }
+    ensures marks { AreMarks labels.new rows.new.items }
+    ensures number { IfOk result (λ number. slice_get (marks_in labels.new rows.new.items) number
+        ≡ Some (mark_of device links (label_of bytes.now))) }
+    ensures extends { Extends (marks_in labels.old rows.old.items)
+        (marks_in labels.new rows.new.items) }
+    ensures same { OnErr result (marks_in labels.new rows.new.items
+        ≡ marks_in labels.old rows.old.items) }
 {
     let label = labels.number_of(alloc, bytes)?;
-    number_of(pairs, numbers, guesses, (device, label))
+    let row = MarkRow {
+        device,
+        links,
+        label,
+    };
+    number_of(alloc, rows, numbers, guesses, row)
 }
 
 impl Marks {
@@ -175,32 +197,36 @@ impl Marks {
     {
         Marks {
             labels: AllLabels::new(alloc),
-            pairs: Vec::new(alloc),
+            rows: Vec::new(alloc),
             numbers: BTreeMap::new(alloc),
-            guesses: Vec::new(alloc),
+            guesses: Guesses::new(alloc),
         }
     }
 
-    // The marks of these pairs, whose labels are these.
-    pub fn of_pairs(alloc: Global, labels: Vec<Label>, pairs: Vec<Pair>) -> Marks
-        requires { AreMarks labels.items pairs.items }
-        ensures { result ≡ marks_in labels.items pairs.items }
+    // The marks of these rows, whose labels are these.
+    pub fn of_rows(alloc: Global, labels: Vec<Label>, rows: Vec<MarkRow>) -> Marks
+        requires { AreMarks labels.items rows.items }
+        ensures { result ≡ marks_in labels.items rows.items }
     {
         Marks {
             labels: AllLabels::of_given(alloc, labels),
-            pairs,
+            rows,
             numbers: BTreeMap::new(alloc),
-            guesses: Vec::new(alloc),
+            guesses: Guesses::new(alloc),
         }
     }
 
-    // The device and the label with a number.
-    pub fn get(&self, number: u32) -> (u64, &Label)
+    // The mark with a number.
+    pub fn get(&self, number: u32) -> MarkRef<'_>
         requires { number < length self.now }
-        ensures { slice_get self.now number ≡ Some (mark_of result.0 result.1.now) }
+        ensures { slice_get self.now number ≡ Some (mark_lent result) }
     {
-        let (device, label) = pair_at(self.pairs.as_slice(), number);
-        (device, self.labels.get(label))
+        let row = row_at(self.rows.as_slice(), number);
+        MarkRef {
+            device: row.device,
+            links: row.links,
+            label: self.labels.get(row.label),
+        }
     }
 
     // Whether the labels with two numbers are the same.
@@ -210,30 +236,33 @@ impl Marks {
         ensures { result ≡ same_label (get_or self.now first no_mark).label
             (get_or self.now second no_mark).label }
     {
-        let first = pair_at(self.pairs.as_slice(), first);
-        let second = pair_at(self.pairs.as_slice(), second);
-        self.labels.is_same(first.1, second.1)
+        let first = row_at(self.rows.as_slice(), first);
+        let second = row_at(self.rows.as_slice(), second);
+        self.labels.is_same(first.label, second.label)
     }
 
-    // The number of a device and of the label that the bytes spell, which are added if they are new.
+    // The number of a device, a link count and the label that the bytes spell, which are added if they
+    // are new.
     pub fn number_of(
         &mut self,
         alloc: Global,
         device: u64,
+        links: Option<u64>,
         label: &[u8],
     ) -> Result<u32, OutOfMemory>
         ensures number { IfOk result (λ number.
-            slice_get self.new number ≡ Some (mark_of device (label_of label.now))) }
+            slice_get self.new number ≡ Some (mark_of device links (label_of label.now))) }
         ensures extends { Extends self.old self.new }
         ensures same { OnErr result (self.new ≡ self.old) }
     {
         mark_number(
             alloc,
             &mut self.labels,
-            &mut self.pairs,
+            &mut self.rows,
             &mut self.numbers,
             &mut self.guesses,
             device,
+            links,
             label,
         )
     }

@@ -1,12 +1,13 @@
-ghost use Rattle.std.specs.Prelude.{◌≡◌, ◌↔◌, ◌<◌, ◌≤◌, ◌-◌, ◌^◌, ℕ, List, [], Result, Err, length, vec_len, IfOk, IfErr};
+ghost use Rattle.std.specs.Prelude.{◌≡◌, ◌↔◌, ◌<◌, ◌≤◌, ◌-◌, ◌^◌, ℕ, List, [], Result, Ok, Err, length, vec_len, IfOk, IfErr};
 ghost use Rattle.label_base.specs.Answers.{Answers};
 ghost use Rattle.find_records.specs.Cause.{records_cause};
 ghost use Rattle.find_records.specs.Grammar.{Means, records_from, records_of};
 ghost use Rattle.find_records.specs.Reading.{RecordsTold, RecordsCounts};
-ghost use Rattle.find_records.specs.Record.{Record};
+ghost use Rattle.find_records.specs.Record.{AreOf, Record};
 ghost use Rattle.find_records.specs.SoFar.{IsSound, meant_with};
 
 use crate::fault::RecordsFault;
+use crate::format::Format;
 use crate::records::Records;
 use crate::so_far::SoFar;
 use input_output::{Source, Take};
@@ -38,6 +39,7 @@ fn buffer(alloc: Global) -> Result<Vec<u8>, OutOfMemory>
 fn take_pieces<I: Source>(
     alloc: Global,
     source: &mut I,
+    format: Format,
     limits: RecordLimits,
     buf: &mut [u8],
     so_far: &mut SoFar,
@@ -47,17 +49,19 @@ fn take_pieces<I: Source>(
     requires sound { IsSound so_far.old }
     requires most { so_far.old.most ≡ limits.records }
     requires nothing { (rest : List ℕ) →
-        meant_with so_far.old rest ≡ records_from limits.records 1 rest }
+        meant_with so_far.old rest ≡ records_from format limits.records 1 rest }
     ensures sound { IfOk result (λ _. IsSound so_far.new) }
     ensures most { IfOk result (λ _. so_far.new.most ≡ limits.records) }
     ensures told { IfOk result (λ _. (answer : Result (List Record) RecordsFault)
         → Answers (λ records. records) records_cause answer (meant_with so_far.new [])
-        → RecordsTold (I.left source.old) (I.left source.new) limits answer) }
+        → RecordsTold format (I.left source.old) (I.left source.new) limits answer) }
     ensures counts { IfOk result (λ _. (answer : Result (List Record) RecordsFault)
         → Answers (λ records. records) records_cause answer (meant_with so_far.new [])
         → RecordsCounts (I.faults source.old) (I.faults source.new) answer) }
+    ensures of_format { IfOk result (λ _. (records : List Record)
+        → meant_with so_far.new [] ≡ Ok records → AreOf format records) }
     ensures fault { IfErr result (λ fault.
-        RecordsTold (I.left source.old) (I.left source.new) limits (Err fault)) }
+        RecordsTold format (I.left source.old) (I.left source.new) limits (Err fault)) }
     ensures rose { IfErr result (λ fault.
         RecordsCounts (I.faults source.old) (I.faults source.new) (Err fault)) }
 {
@@ -77,25 +81,35 @@ fn take_pieces<I: Source>(
     Err(RecordsFault::TooLong)
 }
 
-/// Reads a source to its end, and the records that it has, each ended by a NUL, as
-/// `find -printf '%y %D %i %Z %p\0'` writes them (find(1)).
+/// Reads a source to its end, and the records of a format that it has, each ended by a NUL, as find(1)
+/// writes them. Each record has a link count exactly where its format has one.
 ///
 /// The first bad record decides, and what comes behind it is read and thrown away; on one record the
-/// limit of their number comes first, then the NUL that a last one lacks, then its fields. Beside the
-/// records stand one piece of the source and the front of one record at most.
+/// limit of their number comes first, then the NUL that a last one lacks, then its fields. At most a
+/// byte more than the limit is taken, whatever the answer, a failed read included. Beside the records
+/// stand one piece of the source and the front of one record at most.
 pub fn read_records<I: Source>(
     alloc: Global,
     source: &mut I,
+    format: Format,
     limits: RecordLimits,
 ) -> Result<Records, RecordsFault>
     requires { limits.bytes < 2 ^ 64 - 1 }
-    ensures told { RecordsTold (I.left source.old) (I.left source.new) limits result }
+    ensures told { RecordsTold format (I.left source.old) (I.left source.new) limits result }
     ensures counts { RecordsCounts (I.faults source.old) (I.faults source.new) result }
     ensures few { IfOk result (λ records. length records ≤ limits.records) }
+    ensures of_format { IfOk result (λ records. AreOf format records) }
 {
     let mut buf = buffer(alloc)?;
-    let mut so_far = SoFar::new(alloc, limits.records);
-    take_pieces(alloc, source, limits, buf.as_mut_slice(), &mut so_far)?;
+    let mut so_far = SoFar::new(alloc, format, limits.records);
+    take_pieces(
+        alloc,
+        source,
+        format,
+        limits,
+        buf.as_mut_slice(),
+        &mut so_far,
+    )?;
     so_far.end()
 }
 
@@ -103,7 +117,7 @@ pub fn read_records<I: Source>(
 /// fault included. They give records exactly where they are such records, each ended by a NUL, and no
 /// more than the limit; a fault names the first record that is bad, behind good ones. It does nothing.
 #[tactic(auto, using(crate::proofs::RunGrammar::run_means))]
-pub fn records_follow_grammar(_limits: RecordLimits, _bytes: &[u8])
+pub fn records_follow_grammar(_format: Format, _limits: RecordLimits, _bytes: &[u8])
     ensures { (meant : _)
-        → (records_of _limits _bytes.now ≡ meant) ↔ Means _limits.records _bytes.now meant }
+        → (records_of _format _limits _bytes.now ≡ meant) ↔ Means _format _limits.records _bytes.now meant }
 {}

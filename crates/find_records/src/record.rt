@@ -1,11 +1,14 @@
-ghost use Rattle.std.specs.Prelude.{◌≡◌, ◌∷◌, [], ◌<◌, ◌-◌, ◌^◌, OnErr, Some, length};
+ghost use Rattle.std.specs.Prelude.{◌≡◌, ◌<◌, ◌-◌, ◌^◌, OnErr, Some, length};
+ghost use Rattle.std.specs.Option.{option_copied};
 ghost use Rattle.label_base.specs.Answers.{Answers, cause_of};
 ghost use Rattle.context_syntax.specs.Label.{label_of};
-ghost use Rattle.find_records.specs.Grammar.{kind_of, path_of, record_from, record_of, with_path};
+ghost use Rattle.find_records.specs.Grammar.{kind_of, links_of, path_of, record_from, record_of, with_links, with_path, with_rest};
 ghost use Rattle.find_records.specs.Reading.{with_one};
+ghost use Rattle.find_records.specs.declared.format.Format.TheVariants.{Two};
 
 use crate::entry::Told;
 use crate::fault::RecordWhy;
+use crate::format::Format;
 use crate::records::Records;
 use label_base::{EntryKind, Fault, cut_at, read_number};
 use std::alloc::Global;
@@ -13,28 +16,30 @@ use std::alloc::Global;
 // Parts the fields of a record.
 const SPACE: u8 = b' ';
 
-fn kind_of_letter(letter: u8) -> Option<EntryKind>
-    ensures { result ≡ kind_of (letter ∷ []) }
-{
-    match letter {
-        b'f' => Some(EntryKind::Regular),
-        b'd' => Some(EntryKind::Directory),
-        b'l' => Some(EntryKind::Link),
-        b'p' => Some(EntryKind::Pipe),
-        b's' => Some(EntryKind::Socket),
-        b'b' => Some(EntryKind::Block),
-        b'c' => Some(EntryKind::Char),
-        b'D' | b'U' => Some(EntryKind::Other),
-        _ => None,
-    }
+// The fields that each record has in front.
+#[derive(Clone, Copy)]
+struct Front<'a> {
+    letter: &'a [u8],
+    device: &'a [u8],
+    inode: &'a [u8],
 }
 
 fn read_kind(field: &[u8]) -> Option<EntryKind>
     ensures { result ≡ kind_of field.now }
 {
     match field {
-        [letter] => kind_of_letter(*letter),
+        [letter] => EntryKind::of_letter(*letter),
         _ => None,
+    }
+}
+
+// The link count, if the field is one; none is told where there is no field.
+fn read_links(field: Option<&[u8]>) -> Option<Option<u64>>
+    ensures { result ≡ links_of (option_copied field.entry) }
+{
+    match field {
+        Some(field) => Some(Some(read_number(field)?)),
+        None => Some(None),
     }
 }
 
@@ -42,7 +47,7 @@ fn add_told(alloc: Global, records: &mut Records, told: &Told<'_>) -> Result<(),
     requires { length records.old < 2 ^ 32 - 1 }
     ensures answer { Answers (λ _. records.new) cause_of result (with_one records.old
         (record_from (Some told.now.kind) (Some told.now.device) (Some told.now.inode)
-        (label_of told.now.label.now) (path_of told.now.path.now))) }
+        (Some told.now.links) (label_of told.now.label.now) (path_of told.now.path.now))) }
     ensures same { OnErr result (records.new ≡ records.old) }
 {
     match records.push(alloc, told) {
@@ -52,19 +57,117 @@ fn add_told(alloc: Global, records: &mut Records, told: &Told<'_>) -> Result<(),
     }
 }
 
+// Adds the record of its fields.
+fn add_fields(
+    alloc: Global,
+    records: &mut Records,
+    front: &Front<'_>,
+    links: Option<&[u8]>,
+    label: &[u8],
+    path: &[u8],
+) -> Result<(), Fault<RecordWhy>>
+    requires { length records.old < 2 ^ 32 - 1 }
+    ensures answer { Answers (λ _. records.new) cause_of result (with_one records.old
+        (with_path front.now.letter.now front.now.device.now front.now.inode.now (option_copied links.entry)
+        label.now path.now)) }
+    ensures same { OnErr result (records.new ≡ records.old) }
+{
+    let Some(kind) = read_kind(front.letter) else {
+        return Err(Fault::Why(RecordWhy::BadType));
+    };
+    let Some(device) = read_number(front.device) else {
+        return Err(Fault::Why(RecordWhy::BadNumber));
+    };
+    let Some(inode) = read_number(front.inode) else {
+        return Err(Fault::Why(RecordWhy::BadNumber));
+    };
+    let Some(links) = read_links(links) else {
+        return Err(Fault::Why(RecordWhy::BadNumber));
+    };
+    let told = Told {
+        kind,
+        device,
+        inode,
+        links,
+        label,
+        path,
+    };
+    add_told(alloc, records, &told)
+}
+
+// Adds the record whose label and path these are.
+fn add_labelled(
+    alloc: Global,
+    records: &mut Records,
+    front: &Front<'_>,
+    links: Option<&[u8]>,
+    rest: &[u8],
+) -> Result<(), Fault<RecordWhy>>
+    requires { length records.old < 2 ^ 32 - 1 }
+    ensures answer { Answers (λ _. records.new) cause_of result (with_one records.old
+        (with_links front.now.letter.now front.now.device.now front.now.inode.now (option_copied links.entry)
+        rest.now)) }
+    ensures same { OnErr result (records.new ≡ records.old) }
+{
+    let (label, path) = cut_at(SPACE, rest);
+    let Some(path) = path else {
+        return Err(Fault::Why(RecordWhy::MissingField));
+    };
+    add_fields(alloc, records, front, links, label, path)
+}
+
+// Adds the record whose link count, label and path these are.
+fn add_counted(
+    alloc: Global,
+    records: &mut Records,
+    front: &Front<'_>,
+    rest: &[u8],
+) -> Result<(), Fault<RecordWhy>>
+    requires { length records.old < 2 ^ 32 - 1 }
+    ensures answer { Answers (λ _. records.new) cause_of result (with_one records.old
+        (with_rest Two front.now.letter.now front.now.device.now front.now.inode.now rest.now)) }
+    ensures same { OnErr result (records.new ≡ records.old) }
+{
+    let (links, rest) = cut_at(SPACE, rest);
+    let Some(rest) = rest else {
+        return Err(Fault::Why(RecordWhy::MissingField));
+    };
+    add_labelled(alloc, records, front, Some(links), rest)
+}
+
+// Adds the record whose fields behind the inode these are.
+fn add_rest(
+    alloc: Global,
+    records: &mut Records,
+    format: Format,
+    front: &Front<'_>,
+    rest: &[u8],
+) -> Result<(), Fault<RecordWhy>>
+    requires { length records.old < 2 ^ 32 - 1 }
+    ensures answer { Answers (λ _. records.new) cause_of result (with_one records.old
+        (with_rest format front.now.letter.now front.now.device.now front.now.inode.now rest.now)) }
+    ensures same { OnErr result (records.new ≡ records.old) }
+{
+    match format {
+        Format::One => add_labelled(alloc, records, front, None, rest),
+        Format::Two => add_counted(alloc, records, front, rest),
+    }
+}
+
 // Reads one record, without its NUL, and adds it to the others.
 #[tactic(auto, unfolding(crate::specs::Grammar::record_of))]
 pub fn add_record(
     alloc: Global,
     records: &mut Records,
+    format: Format,
     bytes: &[u8],
 ) -> Result<(), Fault<RecordWhy>>
     requires { length records.old < 2 ^ 32 - 1 }
     ensures answer { Answers (λ _. records.new) cause_of result
-        (with_one records.old (record_of bytes.now)) }
+        (with_one records.old (record_of format bytes.now)) }
     ensures same { OnErr result (records.new ≡ records.old) }
 {
-    let (kind, rest) = cut_at(SPACE, bytes);
+    let (letter, rest) = cut_at(SPACE, bytes);
     let Some(rest) = rest else {
         return Err(Fault::Why(RecordWhy::MissingField));
     };
@@ -76,42 +179,10 @@ pub fn add_record(
     let Some(rest) = rest else {
         return Err(Fault::Why(RecordWhy::MissingField));
     };
-    let (label, path) = cut_at(SPACE, rest);
-    let Some(path) = path else {
-        return Err(Fault::Why(RecordWhy::MissingField));
-    };
-    add_fields(alloc, records, kind, device, inode, label, path)
-}
-
-fn add_fields(
-    alloc: Global,
-    records: &mut Records,
-    kind: &[u8],
-    device: &[u8],
-    inode: &[u8],
-    label: &[u8],
-    path: &[u8],
-) -> Result<(), Fault<RecordWhy>>
-    requires { length records.old < 2 ^ 32 - 1 }
-    ensures answer { Answers (λ _. records.new) cause_of result (with_one records.old
-        (with_path kind.now device.now inode.now label.now path.now)) }
-    ensures same { OnErr result (records.new ≡ records.old) }
-{
-    let Some(kind) = read_kind(kind) else {
-        return Err(Fault::Why(RecordWhy::BadType));
-    };
-    let Some(device) = read_number(device) else {
-        return Err(Fault::Why(RecordWhy::BadNumber));
-    };
-    let Some(inode) = read_number(inode) else {
-        return Err(Fault::Why(RecordWhy::BadNumber));
-    };
-    let told = Told {
-        kind,
+    let front = Front {
+        letter,
         device,
         inode,
-        label,
-        path,
     };
-    add_told(alloc, records, &told)
+    add_rest(alloc, records, format, &front, rest)
 }

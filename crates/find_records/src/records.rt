@@ -12,7 +12,7 @@ ghost use Rattle.find_records.specs.Places.{ArePlaces, records_at};
 ghost use Rattle.find_records.specs.Rows.{IsWithin, record_in};
 
 use crate::entry::{Entry, Told};
-use crate::labelled::{copy_labels, pair_rows};
+use crate::labelled::{copy_labels, mark_rows};
 use crate::lay::{is_given, lay};
 use crate::marks::Marks;
 use crate::row::{RecordRow, text_at};
@@ -64,7 +64,7 @@ fn reserve_row(rows: &mut Vec<RecordRow>) -> Result<(), PathFault>
     }
 }
 
-// Adds a record's text, its device and its label, and makes its row.
+// Adds a record's text and its mark, and makes its row.
 fn row_of(
     alloc: Global,
     texts: &mut Vec<u8>,
@@ -83,7 +83,7 @@ fn row_of(
     let at = texts.len();
     add_path(alloc, texts, told.path)?;
     let size = (texts.len() - at) as u16;
-    let mark = marks.number_of(alloc, told.device, told.label)?;
+    let mark = marks.number_of(alloc, told.device, told.links, told.label)?;
     Ok(RecordRow {
         inode: told.inode,
         at,
@@ -134,12 +134,13 @@ impl Records {
         ensures { slice_get self.now i ≡ Some (entry_of result) }
     {
         let row = &self.rows[i as usize];
-        let (device, label) = self.marks.get(row.mark);
+        let mark = self.marks.get(row.mark);
         Entry {
             kind: row.kind,
-            device,
+            device: mark.device,
             inode: row.inode,
-            label,
+            links: mark.links,
+            label: mark.label,
             path: PathRef::of_text(text_at(self.texts.as_slice(), row)),
         }
     }
@@ -179,12 +180,12 @@ impl Records {
             records ≡ with_labels labels.now numbers.now self.now) }
     {
         let copies = copy_labels(alloc, labels)?;
-        let paired = pair_rows(alloc, &self.marks, self.rows.as_slice(), numbers)?;
+        let marked = mark_rows(alloc, &self.marks, self.rows.as_slice(), numbers)?;
         let texts = Vec::from_slice(alloc, self.texts.as_slice())?;
         Ok(Records {
             texts,
-            marks: Marks::of_pairs(alloc, copies, paired.pairs),
-            rows: paired.rows,
+            marks: Marks::of_rows(alloc, copies, marked.marks),
+            rows: marked.rows,
         })
     }
 

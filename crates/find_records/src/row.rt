@@ -3,7 +3,7 @@ ghost use Rattle.find_records.specs.Rows.{text_in};
 
 use label_base::EntryKind;
 
-// A record: the place and length of its path among the texts, and the number of its device and label.
+// A record: the place and length of its path among the texts, and the number of its mark.
 #[derive(Clone, Copy)]
 pub struct RecordRow {
     pub inode: u64,

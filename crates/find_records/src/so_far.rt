@@ -6,6 +6,7 @@ ghost use Rattle.find_records.specs.Reading.{with_one};
 ghost use Rattle.find_records.specs.SoFar.{IsSound, meant_with, refused_or};
 
 use crate::fault::RecordsFault;
+use crate::format::Format;
 use crate::reading::NUL;
 use crate::record::add_record;
 use crate::records::Records;
@@ -15,6 +16,8 @@ use std::alloc::Global;
 // The records so far, and what stands behind them.
 #[derive(Drop)]
 pub struct SoFar {
+    // Which fields records have.
+    pub format: Format,
     // The greatest number of records.
     pub most: u32,
     pub records: Records,
@@ -46,19 +49,20 @@ fn is_full(records: &Records, most: u32) -> bool
 fn add_numbered(
     alloc: Global,
     records: &mut Records,
+    format: Format,
     most: u32,
     bytes: &[u8],
 ) -> Result<(), RecordsFault>
     requires { length records.old ≤ most }
     ensures answer { Answers (λ _. records.new) records_cause result (with_one records.old
-        (meaning most (length records.old + 1) bytes.now true)) }
+        (meaning format most (length records.old + 1) bytes.now true)) }
     ensures few { length records.new ≤ most }
 {
     if is_full(records, most) {
         return Err(RecordsFault::TooMany);
     }
     let number = records.len() + 1;
-    match add_record(alloc, records, bytes) {
+    match add_record(alloc, records, format, bytes) {
         Ok(()) => Ok(()),
         Err(Fault::Why(why)) => Err(RecordsFault::Refused { number, why }),
         Err(Fault::OutOfMemory) => Err(RecordsFault::OutOfMemory),
@@ -69,7 +73,7 @@ fn add_numbered(
 #[tactic(auto, unfolding(crate::specs::Grammar::meaning))]
 fn unended(records: &Records, most: u32) -> RecordsFault
     requires { length records.now ≤ most }
-    ensures { (bytes : List ℕ) → meaning most (length records.now + 1) bytes false ≡ Err result }
+    ensures { (format : _) → (bytes : List ℕ) → meaning format most (length records.now + 1) bytes false ≡ Err result }
 {
     if is_full(records, most) {
         return RecordsFault::TooMany;
@@ -83,15 +87,16 @@ fn unended(records: &Records, most: u32) -> RecordsFault
 fn add_or_refuse(
     alloc: Global,
     records: &mut Records,
+    format: Format,
     most: u32,
     bytes: &[u8],
 ) -> Result<Option<RecordsFault>, OutOfMemory>
     requires { length records.old ≤ most }
     ensures added { IfOk result (λ refused. refused_or refused (Ok records.new)
-        ≡ with_one records.old (meaning most (length records.old + 1) bytes.now true)) }
+        ≡ with_one records.old (meaning format most (length records.old + 1) bytes.now true)) }
     ensures few { length records.new ≤ most }
 {
-    match add_numbered(alloc, records, most, bytes) {
+    match add_numbered(alloc, records, format, most, bytes) {
         Ok(()) => Ok(None),
         Err(fault) => match cause_of_fault(fault) {
             Some(why) => Ok(Some(why)),
@@ -110,13 +115,15 @@ fn take_ended(alloc: Global, so_far: &mut SoFar, bytes: &[u8]) -> Result<(), Out
     ensures meant { IfOk result (λ _. (rest : List ℕ) →
         meant_with so_far.old (bytes.now ++ NUL ∷ rest) ≡ meant_with so_far.new rest) }
 {
+    let format = so_far.format;
+    let most = so_far.most;
     if so_far.pending.len() == 0 {
-        so_far.refused = add_or_refuse(alloc, &mut so_far.records, so_far.most, bytes)?;
+        so_far.refused = add_or_refuse(alloc, &mut so_far.records, format, most, bytes)?;
         return Ok(());
     }
     so_far.pending.push(bytes)?;
     let whole = so_far.pending.as_slice();
-    so_far.refused = add_or_refuse(alloc, &mut so_far.records, so_far.most, whole)?;
+    so_far.refused = add_or_refuse(alloc, &mut so_far.records, format, most, whole)?;
     so_far.pending = Bytes::new(alloc);
     Ok(())
 }
@@ -153,12 +160,13 @@ fn take_first<'a>(
 
 impl SoFar {
     // Nothing is read.
-    pub fn new(alloc: Global, most: u32) -> SoFar
+    pub fn new(alloc: Global, format: Format, most: u32) -> SoFar
         ensures sound { IsSound result }
         ensures most { result.most ≡ most }
-        ensures meant { (rest : List ℕ) → meant_with result rest ≡ records_from most 1 rest }
+        ensures meant { (rest : List ℕ) → meant_with result rest ≡ records_from format most 1 rest }
     {
         SoFar {
+            format,
             most,
             records: Records::new(alloc),
             pending: Bytes::new(alloc),
@@ -188,6 +196,7 @@ impl SoFar {
         ensures few { IfOk result (λ records. length records ≤ self.most) }
     {
         let SoFar {
+            format: _,
             most,
             records,
             pending,

@@ -1,5 +1,5 @@
 use crate::{
-    PathWhy, RecordLimits, RecordWhy, Records, RecordsFault, Told, read_records,
+    Format, PathWhy, RecordLimits, RecordWhy, Records, RecordsFault, Told, read_records,
     records_follow_grammar,
 };
 use context_syntax::Label;
@@ -14,7 +14,12 @@ const LIMITS: RecordLimits = RecordLimits {
 };
 
 // What the bytes give, by a source that has pieces of ten bytes and fails at one call.
-fn read_failing(alloc: Global, bytes: &[u8], failing: u64) -> Result<Records, RecordsFault> {
+fn read_failing(
+    alloc: Global,
+    format: Format,
+    bytes: &[u8],
+    failing: u64,
+) -> Result<Records, RecordsFault> {
     let Ok(bytes) = Bytes::copy_of(alloc, bytes) else {
         return Err(RecordsFault::OutOfMemory);
     };
@@ -23,11 +28,11 @@ fn read_failing(alloc: Global, bytes: &[u8], failing: u64) -> Result<Records, Re
         return Err(RecordsFault::OutOfMemory);
     }
     let mut source = MemSource::new(bytes, 10, calls);
-    read_records(alloc, &mut source, LIMITS)
+    read_records(alloc, &mut source, format, LIMITS)
 }
 
 fn read(alloc: Global, bytes: &[u8]) -> Result<Records, RecordsFault> {
-    read_failing(alloc, bytes, 0)
+    read_failing(alloc, Format::One, bytes, 0)
 }
 
 fn refusal(alloc: Global, bytes: &[u8]) -> Option<RecordsFault> {
@@ -41,7 +46,7 @@ fn refused(why: RecordWhy) -> Option<RecordsFault> {
 #[test]
 fn reads_records(rt: HostRuntime) -> Result<(), Fail> {
     let bytes = b"f 1 5 system_u:object_r:t:s0 /a b\0U 2 6 ? //c/\0";
-    records_follow_grammar(LIMITS, bytes);
+    records_follow_grammar(Format::One, LIMITS, bytes);
     let records = read(rt.alloc(), bytes)?;
     assert_eq!(rt; records.len(), 2);
     let first = records.entry(0);
@@ -65,11 +70,13 @@ fn records_are_added(rt: HostRuntime) -> Result<(), Fail> {
         kind: EntryKind::Link,
         device: 1,
         inode: 2,
+        links: Some(3),
         label: b"?",
         path: b"/a//b",
     };
     records.push(alloc, &told)?;
     assert_eq!(rt; records.len(), 1);
+    assert_eq!(rt; records.entry(0).links, Some(3));
     assert_eq!(rt; records.path(0).as_text(), b"/a/b".as_slice());
     Ok(())
 }
@@ -82,7 +89,7 @@ fn labels_are_kept_once(rt: HostRuntime) -> Result<(), Fail> {
         bytes: 500,
     };
     let mut source = ReadSource::new(bytes.as_slice());
-    let records = read_records(rt.alloc(), &mut source, limits)?;
+    let records = read_records(rt.alloc(), &mut source, Format::One, limits)?;
     assert_eq!(rt; records.len(), 4);
     assert!(rt; records.has_same_label(0, 3));
     assert!(rt; records.has_same_label(1, 2));
@@ -201,10 +208,10 @@ fn refuses_a_long_path(rt: HostRuntime) -> Result<(), Fail> {
 fn tells_a_failed_call(rt: HostRuntime) {
     let bytes = b"f 1 5 system_u:object_r:t:s0 /a\0";
     assert_eq!(rt;
-        read_failing(rt.alloc(), bytes, 3).err(),
+        read_failing(rt.alloc(), Format::One, bytes, 3).err(),
         Some(RecordsFault::ReadFault)
     );
-    assert!(rt; read_failing(rt.alloc(), bytes, 9).is_ok());
+    assert!(rt; read_failing(rt.alloc(), Format::One, bytes, 9).is_ok());
 }
 
 #[test]
@@ -217,5 +224,68 @@ fn tells_too_many_bytes(rt: HostRuntime) -> Result<(), Fail> {
         refusal(rt.alloc(), bytes.as_slice()),
         Some(RecordsFault::TooLong)
     );
+    Ok(())
+}
+
+fn read_counted(alloc: Global, bytes: &[u8]) -> Result<Records, RecordsFault> {
+    read_failing(alloc, Format::Two, bytes, 0)
+}
+
+// Whether the records have these link counts.
+fn have_links(alloc: Global, format: Format, bytes: &[u8], wanted: [Option<u64>; 2]) -> bool {
+    match read_failing(alloc, format, bytes, 0) {
+        Ok(records) => {
+            records.len() == 2
+                && records.entry(0).links == wanted[0]
+                && records.entry(1).links == wanted[1]
+        }
+        Err(_) => false,
+    }
+}
+
+#[test]
+fn reads_link_counts(rt: HostRuntime) {
+    let bytes = b"d 1 5 4 t /a b\0f 1 6 1 t /c\0";
+    assert!(rt; have_links(rt.alloc(), Format::Two, bytes, [Some(4), Some(1)]));
+    let bytes = b"d 1 5 t /a b\0f 1 6 t /c\0";
+    assert!(rt; have_links(rt.alloc(), Format::One, bytes, [None, None]));
+}
+
+#[test]
+fn refuses_bad_link_counts(rt: HostRuntime) {
+    let alloc = rt.alloc();
+    let fields = read_counted(alloc, b"f 1 5 t /a\0");
+    assert_eq!(rt; fields.err(), refused(RecordWhy::MissingField));
+    let number = read_counted(alloc, b"f 1 5 18446744073709551616 t /a\0");
+    assert_eq!(rt; number.err(), refused(RecordWhy::BadNumber));
+}
+
+#[test]
+fn the_other_format_is_refused(rt: HostRuntime) {
+    let alloc = rt.alloc();
+    assert_eq!(rt;
+        refusal(alloc, b"d 2049 2 5 @root_t /\0"),
+        refused(RecordWhy::BadPath(PathWhy::NotAbsolute))
+    );
+    let other = read_counted(alloc, b"d 2049 2 t /a b\0");
+    assert_eq!(rt; other.err(), refused(RecordWhy::BadNumber));
+}
+
+// Whether a record keeps its link count under another label.
+fn keeps_links(alloc: Global, records: &Records, labels: &Row<Label>) -> bool {
+    if records.len() != 1 || labels.len() != 2 {
+        return false;
+    }
+    match records.with_labels(alloc, &[1], labels) {
+        Ok(changed) => changed.len() == 1 && changed.entry(0).links == Some(3),
+        Err(_) => false,
+    }
+}
+
+#[test]
+fn other_labels_keep_link_counts(rt: HostRuntime) -> Result<(), Fail> {
+    let records = read_counted(rt.alloc(), b"f 1 5 3 t /a\0")?;
+    let labels = two_labels(rt.alloc())?;
+    assert!(rt; keeps_links(rt.alloc(), &records, &labels));
     Ok(())
 }

@@ -1,12 +1,12 @@
 use Rattle.std.proofs.Common.{◌≡◌, ◌∙◌, ap, sym, subst}
 use Rattle.file_paths.specs.PathText.{IsNormal}
-use Rattle.find_records.specs.Marks.{mark_of}
+use Rattle.find_records.specs.MarkRef.{mark_lent}
 use Rattle.find_records.specs.Rows.{text_in}
 use Rattle.find_records.proofs.RowLemmas.{entry_is, row_read, within_at}
 use Rattle.find_records.proofs.records.Records.entry.Goals as goal
 
-pub get-device-requires : goal.get-device-requires
-get-device-requires c =
+pub get-mark-requires : goal.get-mark-requires
+get-mark-requires c =
     let s = c.self.inside in
     let row = c.index-row.result.now in
     (within_at s.texts.items s.marks s.rows.items c.args.i row c.self.invariant.within (row_read s.texts.items s.marks c.args.self.now s.rows.items c.args.i row c.self.view_is c.requires c.index-row.ensures)).known
@@ -31,6 +31,6 @@ returns c =
     let s = c.self.inside in
     let row = c.index-row.result.now in
     let text : c.text_at.result.now ≡ text_in s.texts.items row = c.text_at.ensures ∙ ap (λ t. text_in t row) c.as_slice.ensures.value in
-    entry_is s.texts.items s.marks c.args.self.now s.rows.items c.args.i row (mark_of c.get-device.result.0 c.get-device.result.1.now) c.text_at.result.now _ c.self.view_is
+    entry_is s.texts.items s.marks c.args.self.now s.rows.items c.args.i row (mark_lent c.get-mark.result) c.text_at.result.now _ c.self.view_is
     (row_read s.texts.items s.marks c.args.self.now s.rows.items c.args.i row c.self.view_is c.requires c.index-row.ensures)
-    c.get-device.ensures text c.of_text.ensures
+    c.get-mark.ensures text c.of_text.ensures

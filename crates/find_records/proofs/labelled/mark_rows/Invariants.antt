@@ -3,12 +3,12 @@ use Rattle.context_syntax.specs.declared.label.Label.{Label}
 use Rattle.find_records.specs.Labelled.{ArePaired}
 use Rattle.find_records.specs.Places.{ArePlaces}
 use Rattle.find_records.specs.Rows.{AreWithin}
-use Rattle.find_records.proofs.labelled.pair_rows.Given as goal
+use Rattle.find_records.proofs.labelled.mark_rows.Given as goal
 
 -- the new rows stand for the records of the rows so far
 abbrev pub invariant-rows : goal.invariant-rows
 invariant-rows l = record {
-  few : length l.paired.pairs.items < 2 ^ 32;
+  few : length l.marked.marks.items < 2 ^ 32;
   paired : (texts : List ℕ) → (labels : List Label) → ArePlaces (length labels) l.numbers → AreWithin texts l.marks l.rows
-      → ArePaired texts l.marks (take l.i l.rows) (take l.i l.numbers) labels l.paired.pairs.items l.paired.rows.items;
+      → ArePaired texts l.marks (take l.i l.rows) (take l.i l.numbers) labels l.marked.marks.items l.marked.rows.items;
 }
