@@ -1,5 +1,7 @@
 ghost use Rattle.std.specs.Prelude.{◌≡◌, ℕ, ◌<◌, ◌≤◌, ◌^◌, IfErr, IfOk, None, length, option_map};
 ghost use Rattle.run_faults.specs.Causes.{Counts, Gives, IsFileCause, IsInputCause};
+ghost use Rattle.find_records.specs.Record.{AreOf};
+ghost use Rattle.find_records.specs.declared.format.Format.TheVariants.{One};
 ghost use Rattle.run_input.specs.Records.{entries_of};
 ghost use Rattle.run_input.specs.declared.records.TheConstants.{MOST_RECORDS};
 ghost use Rattle.sample_tree.specs.Plan.{answered_for, own_files, own_names, own_rules};
@@ -10,6 +12,7 @@ use crate::records::{SPECS, sample_records};
 use crate::walks::sample_ending;
 use crate::words::SampleWords;
 use file_roles::FileList;
+use find_records::Format;
 use input_output::{Store, SureSource, SureStore};
 use label_base::OutOfMemory;
 use label_rules::Rules;
@@ -70,14 +73,15 @@ fn read_own_files(alloc: Global) -> Result<Rules, Cause>
 // Reads the records of a sample, by the reader of any others.
 #[tactic(auto, using(run_input::proofs::CountLemmas::calm_counts))]
 fn read_own_records(alloc: Global, count: u32) -> Result<Tree, Cause>
-    ensures answer { Gives (entries_of (sample_records count)) result }
+    ensures answer { Gives (entries_of One (sample_records count)) result }
     ensures counts { (count : ℕ) → Counts count count result }
     ensures kinds { IfErr result IsInputCause }
     ensures few { IfOk result (λ tree. length tree ≤ MOST_RECORDS) }
+    ensures of_format { IfOk result (λ tree. AreOf One tree) }
 {
     let records = sample_records(alloc, count)?;
     let mut source = SureSource::new(records, PIECE);
-    read_tree(alloc, &mut source)
+    read_tree(alloc, Format::One, &mut source)
 }
 
 // What a sample of so many files writes, by its rules.
@@ -100,7 +104,7 @@ impl Tool for SampleWords {
 
     ghost reads = { λ words. [] };
 
-    ghost takes_records = { λ words. false };
+    ghost records = { λ words. None };
 
     ghost is_soft = { λ words. false };
 
@@ -116,8 +120,8 @@ impl Tool for SampleWords {
         Ok(FileList::new(alloc))
     }
 
-    fn does_take_records(&self) -> bool {
-        false
+    fn record_format(&self) -> Option<Format> {
+        None
     }
 
     fn has_soft_errors(&self) -> bool {

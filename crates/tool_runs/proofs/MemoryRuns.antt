@@ -4,6 +4,7 @@ use Rattle.std.specs.Prelude.{Bool, false, Option, Some, None, Result, Ok, IfSom
 use Rattle.input_output.specs.Store.{Calls, Files}
 use Rattle.file_roles.specs.declared.list.NamedFile.{NamedFile}
 use Rattle.find_records.specs.Record.{Record}
+use Rattle.find_records.specs.declared.format.Format.{Format}
 use Rattle.run_faults.specs.Faults.{fault_line}
 use Rattle.run_faults.specs.declared.cause.Cause.{Cause}
 use Rattle.run_faults.specs.declared.cause.Cause.TheVariants.{OutOfMemory}
@@ -19,7 +20,7 @@ use Rattle.tool_runs.proofs.PartLemmas.{files_accepted, files_memory, if_some, l
 module _ {S I O R : Type 0} (files : S → Option Files) (calls : S → Option ℕ)
     (read_faults write_faults : S → ℕ)
     (left : I → Option (List ℕ)) (input_faults : I → ℕ) (written : O → Option (List ℕ))
-    (out_faults : O → ℕ) (reads : List NamedFile) (takes soft : Bool) (output : Option (List ℕ))
+    (out_faults : O → ℕ) (reads : List NamedFile) (takes : Option Format) (soft : Bool) (output : Option (List ℕ))
     (read : Files → FilesSay R) (answered : R → List Record → Result Ending Cause)
     (store store_now : S) (input input_now : I) (out out_now : O) where
   abbrev Ran : Cause → Type 0
@@ -43,7 +44,7 @@ module _ {S I O R : Type 0} (files : S → Option Files) (calls : S → Option �
       → IfSome (files store) (λ known. CallsUpTo (calls store) (calls store_now)
       ((read known).opened + writes_of output))
       → (reads ≡ [] → output ≡ None → store_now ≡ store)
-      → (takes ≡ false → input_now ≡ input)
+      → (takes ≡ None → input_now ≡ input)
       → OthersStay (files store) (files store_now) output
       → IfSome (files store) (λ known. files store_now ≡ Some known)
       → LineOrFront written out_faults out out_now (fault_line reads OutOfMemory)

@@ -9,6 +9,7 @@ use Rattle.input_output.specs.Store.{Calls, Files}
 use Rattle.input_output.specs.declared.store.SaveFault.{SaveFault}
 use Rattle.input_output.specs.declared.store.SaveFault.TheVariants as save
 use Rattle.find_records.specs.Record.{Record}
+use Rattle.find_records.specs.declared.format.Format.{Format}
 use Rattle.run_faults.specs.Causes.{and_then, CauseCounts, Explained, IsFileCause, IsInputCause, IsReadingCause, IsReported, IsWritten}
 use Rattle.run_faults.specs.declared.cause.Cause.{Cause}
 use Rattle.run_faults.specs.declared.cause.Cause.TheVariants.{Done, RecordRefused, Unended, Doubled, Limit, WalkErrors, Differs, ReadFault, WriteFault, OutOfMemory}
@@ -111,7 +112,7 @@ ends_explained files written store out out_now known meant WriteFault unwritten 
     absurd (unwritten tt)
 ends_explained files written store out out_now known meant cause unwritten is = is
 
-module _ {R : Type 0} (takes : Bool) (read : Files → Result R Cause)
+module _ {R : Type 0} (takes : Option Format) (read : Files → Result R Cause)
     (answered : R → List Record → Result Ending Cause) (known : Files) (bytes : List ℕ) where
   pub file_explains : (cause : Cause) → Explained (read known) cause
       → Explained (answer_by takes read answered known bytes) cause

@@ -4,6 +4,7 @@ use Rattle.std.specs.Prelude.{Bool, Option, None, Result, Ok, Err}
 use Rattle.input_output.specs.Store.{Files}
 use Rattle.file_roles.specs.declared.list.NamedFile.{NamedFile}
 use Rattle.find_records.specs.Record.{Record}
+use Rattle.find_records.specs.declared.format.Format.{Format}
 use Rattle.run_faults.specs.Causes.{CauseCounts, IsFileCause, IsInputCause}
 use Rattle.run_faults.specs.Faults.{fault_line}
 use Rattle.run_faults.specs.declared.cause.Cause.{Cause}
@@ -22,7 +23,7 @@ use Rattle.tool_runs.proofs.MemoryRuns.{accepted_memory, gave_up}
 module _ {S I O R : Type 0} (files : S → Option Files) (calls : S → Option ℕ)
     (read_faults write_faults : S → ℕ)
     (left : I → Option (List ℕ)) (input_faults : I → ℕ) (written : O → Option (List ℕ))
-    (out_faults : O → ℕ) (reads : List NamedFile) (takes soft : Bool) (output : Option (List ℕ))
+    (out_faults : O → ℕ) (reads : List NamedFile) (takes : Option Format) (soft : Bool) (output : Option (List ℕ))
     (read : Files → FilesSay R) (answered : R → List Record → Result Ending Cause)
     (store store_now : S) (input input_now : I) (out out_now : O) where
   abbrev Ran : Cause → Type 0

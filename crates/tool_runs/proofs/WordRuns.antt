@@ -8,6 +8,7 @@ use Rattle.label_base.specs.declared.fault.Fault.TheVariants as faults
 use Rattle.input_output.specs.Store.{Files}
 use Rattle.file_roles.specs.declared.list.NamedFile.{NamedFile}
 use Rattle.find_records.specs.Record.{Record}
+use Rattle.find_records.specs.declared.format.Format.{Format}
 use Rattle.tool_words.specs.declared.usage.Usage.{Usage}
 use Rattle.tool_words.specs.declared.usage.UsageWhy.{UsageWhy}
 use Rattle.run_faults.specs.Causes.{Explained, IsWritten, words_cause}
@@ -82,7 +83,7 @@ module _ {S I O : Type 0} (files : S → Option Files) (calls : S → Option ℕ
       refused_words wrong (causes.Usage wrong.index wrong.why) (inl refl) (λ written. written)
       (λ is. absurd (cc)) refl (λ other is. same_usage wrong other (cc) (cc)) line
 
-  module _ {W R : Type 0} (reads : W → List NamedFile) (takes soft : W → Bool)
+  module _ {W R : Type 0} (reads : W → List NamedFile) (takes : W → Option Format) (soft : W → Bool)
       (output : W → Option (List ℕ)) (read : W → Files → FilesSay R)
       (answered : W → R → List Record → Result Ending Cause) where
     abbrev plan : W → Plan

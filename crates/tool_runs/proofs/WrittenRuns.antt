@@ -1,12 +1,13 @@
 -- A run that writes what its tool answers, or tries to.
 use Rattle.std.proofs.Common.{◌≡◌, ◌∙◌, ap, sym, subst, refl, ℕ, ◌+◌, ◌≤◌, arith, ◌⊎◌, inl, inr, List, []}
-use Rattle.std.specs.Prelude.{Bool, true, Option, Some, None, Result, Ok, Err, is_ok, is_some, IfSome, option_map}
+use Rattle.std.specs.Prelude.{Bool, true, Option, Some, None, Result, Ok, Err, is_ok, is_some, IfSome, IsSome, option_map}
 use Rattle.input_output.specs.Source.{Rose}
 use Rattle.input_output.specs.Store.{Calls, Files}
 use Rattle.input_output.specs.declared.store.SaveFault.{SaveFault}
 use Rattle.input_output.specs.declared.store.SaveFault.TheVariants as save
 use Rattle.file_roles.specs.declared.list.NamedFile.{NamedFile}
 use Rattle.find_records.specs.Record.{Record}
+use Rattle.find_records.specs.declared.format.Format.{Format}
 use Rattle.run_faults.specs.Causes.{Explained, IsInputCause, IsReported, IsWritten}
 use Rattle.run_faults.specs.Faults.{fault_line}
 use Rattle.run_faults.specs.declared.cause.Cause.{Cause}
@@ -25,7 +26,7 @@ use Rattle.tool_runs.proofs.MemoryRuns.{accepted_memory, gave_up}
 module _ {S I O R : Type 0} (files : S → Option Files) (calls : S → Option ℕ)
     (read_faults write_faults : S → ℕ)
     (left : I → Option (List ℕ)) (input_faults : I → ℕ) (written : O → Option (List ℕ))
-    (out_faults : O → ℕ) (reads : List NamedFile) (takes soft : Bool) (output : Option (List ℕ))
+    (out_faults : O → ℕ) (reads : List NamedFile) (takes : Option Format) (soft : Bool) (output : Option (List ℕ))
     (read : Files → FilesSay R) (answered : R → List Record → Result Ending Cause)
     (store store_now : S) (input input_now : I) (out out_now : O) where
   abbrev Ran : Cause → Type 0
@@ -55,7 +56,7 @@ module _ {S I O R : Type 0} (files : S → Option Files) (calls : S → Option �
   module _ (mid : S) (found : R) (entries : List Record)
       (accepted : Reads files calls read_faults write_faults read store mid (Ok found))
       (given : InputRead left input_faults takes input input_now (Ok entries))
-      (ended : takes ≡ true → IfSome (left input) (λ bytes. left input_now ≡ Some []))
+      (ended : IsSome takes → IfSome (left input) (λ bytes. left input_now ≡ Some []))
       (unread : reads ≡ [] → mid ≡ store) where
     -- the files were opened, and then so many writes were tried
     calls_behind : (more : ℕ) → Calls (calls mid) (calls store_now) more
@@ -251,7 +252,7 @@ module _ {S I O R : Type 0} (files : S → Option Files) (calls : S → Option �
           → WritesReport written out_faults out out_now made cause → Ran cause
       finished cause saves made_calls unasked unwritten uncounted (inl done) =
           subst Ran (sym done.0) (tried (cause_of made.end) (Ok tt) (end_written made.end) saves
-          made_calls unasked (omega (arith, done.2)) (λ _. done.2)
+          made_calls unasked (omega (arith, done.1.1)) (λ _. done.1.1)
           uncounted (omega (arith, unwritten, accepted.unwritten))
           (λ _. unwritten ∙ accepted.unwritten)
           (if_both (files store) (λ known accepts saved.
@@ -262,21 +263,21 @@ module _ {S I O R : Type 0} (files : S → Option Files) (calls : S → Option �
             is_meant = answer_is takes says answered known bytes found entries (Ok made) accepts
                 entered is;
             cause_is = refl;
-            whole = done.1;
+            whole = done.1.0;
             saved = saved;
           })) given.gives) accepted.gives (saved_now saves))
           (λ cause_is. absurd (end_kept made.end cause_is)))
       finished cause saves made_calls unasked unwritten uncounted (inr failed) =
-          failed_to_write cause (Ok tt) failed.0 saves made_calls unasked failed.2 uncounted
+          failed_to_write cause (Ok tt) failed.0 saves made_calls unasked failed.1.1 uncounted
           (omega (arith, unwritten, accepted.unwritten)) (inr (record {
-            rose = failed.3;
+            rose = failed.1.2;
             no_file_failed = unwritten ∙ accepted.unwritten;
             front = if_both (files store) (λ known accepts saved.
                 if_some (input_for takes (left input)) (λ bytes entered. record {
                   reported = made;
                   is_meant = answer_is takes says answered known bytes found entries (Ok made)
                       accepts entered is;
-                  front = failed.1;
+                  front = failed.1.0;
                   saved = saved;
                 }) given.gives) accepted.gives (saved_now saves);
           }))

@@ -1,5 +1,5 @@
 -- What a run of a tool says and does, over any store, input and sink.
-use Rattle.std.specs.Prelude.{◌≡◌, ℕ, ◌+◌, ◌≤◌, true, false, List, [], Option, Some, None, is_some, Result, Ok, Err, IsOk, IfErr, IfOk, IfSome, ◌⊎◌}
+use Rattle.std.specs.Prelude.{◌≡◌, ℕ, ◌+◌, ◌≤◌, true, List, [], Option, Some, None, is_some, IsSome, Result, Ok, Err, IsOk, IfErr, IfOk, IfSome, ◌⊎◌}
 use Rattle.std.specs.FinMap as map
 use Rattle.std.specs.Io.KnownBytes.{Appends}
 use Rattle.input_output.specs.Sink.{AppendsFront}
@@ -136,7 +136,7 @@ pub record Run {S I O : Type 0} (files : S → Option Files) (calls : S → Opti
   pub only_wrong_words : (wrong : Usage)
       → cause ≡ causes.Usage wrong.index wrong.why → asked ≡ Err wrong
   -- A command that takes no records leaves the input alone.
-  pub no_records : IfOk asked (λ plan. plan.takes_records ≡ false → input_now ≡ input)
+  pub no_records : IfOk asked (λ plan. plan.records ≡ None → input_now ≡ input)
   -- A refused file is known as such, before the input is touched. Any later end means that all
   -- files are accepted.
   pub files_decide : IfOk asked (λ plan. IfSome (files store) (λ known.
@@ -159,7 +159,7 @@ pub record Run {S I O : Type 0} (files : S → Option Files) (calls : S → Opti
   pub fault_line_written : (IsWritten cause → ⊥)
       → LineOrFront written out_faults out out_now (fault_line (reads_in asked) cause)
   -- Where dump or report are written, the records were read to their end.
-  pub all_read : IsWritten cause → IfOk asked (λ plan. plan.takes_records ≡ true
+  pub all_read : IsWritten cause → IfOk asked (λ plan. IsSome plan.records
       → IfSome (left input) (λ bytes. left input_now ≡ Some []))
   -- A read failed in the store with the input untouched, or in the input with all files accepted.
   pub read_failed : cause ≡ ReadFault

@@ -1,10 +1,11 @@
 -- What the stages of a run leave: the files are read, then the input, then the tool is asked, and its
 -- answer written.
-use Rattle.std.specs.Prelude.{◌≡◌, ℕ, Bool, false, List, Option, None, Result, Ok, Err, IfSome, option_map, ◌⊎◌}
+use Rattle.std.specs.Prelude.{◌≡◌, ℕ, List, Option, None, Result, Ok, Err, IfSome, option_map, ◌⊎◌}
 use Rattle.input_output.specs.Store.{Calls, Files, SaveCounts}
 use Rattle.input_output.specs.declared.store.SaveFault.TheVariants as save
 use Rattle.file_roles.specs.declared.list.NamedFile.{NamedFile}
 use Rattle.find_records.specs.Record.{Record}
+use Rattle.find_records.specs.declared.format.Format.{Format}
 use Rattle.run_faults.specs.Causes.{Counts, Explained, Gives, IsInputCause}
 use Rattle.run_faults.specs.Faults.{fault_line}
 use Rattle.run_faults.specs.declared.cause.Cause.{Cause}
@@ -18,11 +19,11 @@ abbrev pub saved_name : Saved → List ℕ
 saved_name saved = saved.name
 
 -- what reading the input leaves
-pub record InputRead {I : Type 0} (left : I → Option (List ℕ)) (faults : I → ℕ) (takes : Bool)
+pub record InputRead {I : Type 0} (left : I → Option (List ℕ)) (faults : I → ℕ) (records : Option Format)
     (input input_now : I) (result : Result (List Record) Cause) : Type 0 where
-  pub gives : IfSome (input_for takes (left input)) (λ bytes.
-      Gives (entries_for takes bytes) result)
-  pub untouched : takes ≡ false → input_now ≡ input
+  pub gives : IfSome (input_for records (left input)) (λ bytes.
+      Gives (entries_for records bytes) result)
+  pub untouched : records ≡ None → input_now ≡ input
   pub counts : Counts (faults input) (faults input_now) result
 
 -- What asking the tool and writing its answer leave. There are four ends: a refusal, with the store

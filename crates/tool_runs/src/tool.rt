@@ -1,14 +1,17 @@
 ghost use Rattle.std.specs.Prelude.{◌≡◌, [], ℕ, ◌<◌, ◌^◌, Bool, List, Option, Result, IfErr, IfOk, length, option_map};
 ghost use Rattle.input_output.specs.Store.{Files};
 ghost use Rattle.find_records.specs.Record.{Record};
+ghost use Rattle.find_records.specs.declared.format.Format.{Format};
 ghost use Rattle.file_roles.specs.declared.list.NamedFile.{NamedFile};
 ghost use Rattle.run_faults.specs.Causes.{Counts, Gives, IsInputCause};
 ghost use Rattle.run_faults.specs.declared.cause.Cause.{Cause};
 ghost use Rattle.run_input.specs.Files.{FilesSay, Reads};
+ghost use Rattle.run_input.specs.Records.{AreTaken};
 ghost use Rattle.run_endings.specs.declared.ending.Ending.{Ending};
 ghost use Rattle.tool_runs.specs.Stages.{saved_name};
 
 use file_roles::FileList;
+use find_records::Format;
 use input_output::Store;
 use label_base::OutOfMemory;
 use run_endings::Ending;
@@ -16,8 +19,8 @@ use run_faults::Cause;
 use std::alloc::Global;
 use tree_model::Tree;
 
-/// What the words of a tool ask for: the files that are read, whether records are, and what is
-/// answered by both.
+/// What the words of a tool ask for: the files that are read, the format of the records that are, if
+/// any, and what is answered by both.
 pub trait Tool {
     /// What the files say.
     type Found: Drop;
@@ -25,8 +28,8 @@ pub trait Tool {
     /// The files that are read, in order.
     ghost reads: { Self → List NamedFile };
 
-    /// The input is read, as records.
-    ghost takes_records: { Self → Bool };
+    /// The input is read as records of this format, or left alone.
+    ghost records: { Self → Option Format };
 
     /// Errors of the walk end with status 1.
     ghost is_soft: { Self → Bool };
@@ -47,9 +50,9 @@ pub trait Tool {
     fn file_list(&self, alloc: Global) -> Result<FileList, OutOfMemory>
         ensures { IfOk result (λ list. list ≡ reads self.now) };
 
-    /// Whether the input is read, as records.
-    fn does_take_records(&self) -> bool
-        ensures { result ≡ takes_records self.now };
+    /// The format of the records that the input is read as, or none where it is left alone.
+    fn record_format(&self) -> Option<Format>
+        ensures { result ≡ records self.now };
 
     /// Whether errors of the walk end with status 1.
     fn has_soft_errors(&self) -> bool
@@ -73,6 +76,7 @@ pub trait Tool {
     fn answer(&self, alloc: Global, found: &Self::Found, tree: &Tree) -> Result<Ending, Cause>
         requires fit { IsFit self.now }
         requires tree { length tree.now < 2 ^ 31 }
+        requires of_format { AreTaken (records self.now) tree.now }
         ensures meant { Gives (answered self.now found.now tree.now) result }
         ensures counts { (count : ℕ) → Counts count count result }
         ensures kinds { IfErr result IsInputCause }
