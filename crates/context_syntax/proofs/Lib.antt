@@ -3,3 +3,4 @@ pub mod NameSets
 pub mod Spelling
 pub mod TypeLines
 pub mod TypesMeant
+pub mod Sending

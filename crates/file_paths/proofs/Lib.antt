@@ -3,3 +3,4 @@ pub mod PathTexts
 pub mod PathMoves
 pub mod PathFronts
 pub mod PathLengths
+pub mod Sending

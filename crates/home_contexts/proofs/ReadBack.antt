@@ -18,7 +18,7 @@ use Rattle.pattern_syntax.specs.Tree.{Tree}
 use Rattle.pattern_syntax.specs.declared.pattern_fault.PatternWhy.{PatternWhy}
 use Rattle.spec_reader.specs.SpecLines.{spec_in, with_context, with_decision, with_pattern, with_tree, with_type}
 use Rattle.spec_reader.specs.SpecValue.{SpecValue}
-use Rattle.spec_reader.specs.TypeField.{kind_of}
+use Rattle.label_base.specs.Kind.{field_kind}
 use Rattle.spec_reader.specs.declared.line.TheConstants.{NO_CONTEXT}
 use Rattle.spec_reader.specs.declared.spec.Decision.{Decision}
 use Rattle.spec_reader.specs.declared.spec.Decision.TheVariants.{Give, Leave}
@@ -69,7 +69,7 @@ spec_either : (part : Part) (n m : ℕ) (fields : List (List ℕ)) → is_ok (sp
 spec_either part n m [] = refl
 spec_either part n m (text ∷ []) = refl
 spec_either part n m (text ∷ context ∷ []) = decision_either part n m text None context
-spec_either part n m (text ∷ kind ∷ context ∷ others) = type_either part n m text (kind_of kind)
+spec_either part n m (text ∷ kind ∷ context ∷ others) = type_either part n m text (field_kind kind)
     context
 
 ok_value : (read : Result SpecValue SpecWhy) → is_ok read ≡ true → (spec : SpecValue) × (read ≡ Ok

@@ -5,11 +5,10 @@ use Rattle.label_base.specs.declared.lines.RefusedLine.{RefusedLine}
 use Rattle.file_roles.specs.Roles.{role}
 use Rattle.file_roles.specs.declared.list.NamedFile.{NamedFile}
 use Rattle.file_roles.specs.declared.role.Part.TheVariants.{Homedirs, Template, Users}
-use Rattle.run_faults.specs.Causes.{and_then}
 use Rattle.run_faults.specs.declared.cause.Cause.{Cause}
 use Rattle.run_faults.specs.declared.cause.Cause.TheVariants.{Limit, TemplateRefused, UsersRefused}
 use Rattle.run_faults.specs.declared.cause.LimitKind.TheVariants.{File, Specs}
-use Rattle.run_input.specs.Files.{part_bytes}
+use Rattle.run_input.specs.Files.{FilesSay, just, part_says, read_on}
 use Rattle.home_contexts.specs.Homes.{expansion}
 use Rattle.home_contexts.specs.User.{UserValue}
 use Rattle.home_contexts.specs.UserLines.{users_of}
@@ -33,16 +32,16 @@ abbrev pub text_from : Result (List ℕ) HomesWhy → Result (List ℕ) Cause
 text_from (Ok text) = Ok text
 text_from (Err why) = Err (homes_refusal why)
 
-unfoldable pub users_found : List NamedFile → Files → Result (List UserValue) Cause
+unfoldable pub users_found : List NamedFile → Files → FilesSay (List UserValue)
 users_found list files =
-    and_then (part_bytes list (role Users 0) files) (λ bytes. users_from (users_of bytes))
+    read_on (part_says list (role Users 0) files) (λ bytes. just (users_from (users_of bytes)))
 
 -- the text that a template gives for the users
-unfoldable pub text_for : List NamedFile → (template : List ℕ) → Files → Result (List ℕ) Cause
+unfoldable pub text_for : List NamedFile → (template : List ℕ) → Files → FilesSay (List ℕ)
 text_for list template files =
-    and_then (users_found list files) (λ users. text_from (expansion template users))
+    read_on (users_found list files) (λ users. just (text_from (expansion template users)))
 
 -- the text, or the first refusal; the users are read before a line of the template is looked at
-unfoldable pub text_found : List NamedFile → Files → Result (List ℕ) Cause
+unfoldable pub text_found : List NamedFile → Files → FilesSay (List ℕ)
 text_found list files =
-    and_then (part_bytes list (role Template 0) files) (λ template. text_for list template files)
+    read_on (part_says list (role Template 0) files) (λ template. text_for list template files)

@@ -1,5 +1,5 @@
 -- What genhomedircon reads, and what it writes.
-use Rattle.std.specs.Prelude.{ℕ, List, [], ◌∷◌, Some, Ok, false}
+use Rattle.std.specs.Prelude.{ℕ, List, [], ◌∷◌, None, Some, Ok, false}
 use Rattle.file_roles.specs.Roles.{named, role}
 use Rattle.file_roles.specs.declared.list.NamedFile.{NamedFile}
 use Rattle.file_roles.specs.declared.role.Part.TheVariants.{Homedirs, Template, Users}
@@ -27,5 +27,5 @@ homes_ending words text = record {
 }
 
 abbrev pub homes_plan : HomesWords → Plan
-homes_plan words = plan_by (homes_names words) false false (Some words.output)
+homes_plan words = plan_by (homes_names words) None false (Some words.output)
     (text_found (homes_names words)) (λ text entries. Ok (homes_ending words text))

@@ -37,7 +37,7 @@ fn read_users_file<S: Store>(
     list: &FileList,
     store: &mut S,
 ) -> Result<Row<User>, Cause>
-    ensures { Reads S.files S.read_faults S.write_faults (users_found list.now)
+    ensures { Reads S.files S.calls S.read_faults S.write_faults (users_found list.now)
         store.old store.new result }
 {
     let role = FileRole {
@@ -81,7 +81,7 @@ fn expand_file<S: Store>(
     store: &mut S,
 ) -> Result<Bytes, Cause>
     requires { length template.now < 2 ^ 32 }
-    ensures { Reads S.files S.read_faults S.write_faults (text_for list.now template.now)
+    ensures { Reads S.files S.calls S.read_faults S.write_faults (text_for list.now template.now)
         store.old store.new result }
 {
     let users = read_users_file(alloc, list, store)?;
@@ -92,7 +92,7 @@ fn expand_file<S: Store>(
 ///
 /// The error is a failed read, or the first refusal.
 pub fn read_found<S: Store>(alloc: Global, list: &FileList, store: &mut S) -> Result<Bytes, Cause>
-    ensures { Reads S.files S.read_faults S.write_faults (text_found list.now)
+    ensures { Reads S.files S.calls S.read_faults S.write_faults (text_found list.now)
         store.old store.new result }
 {
     let role = FileRole {

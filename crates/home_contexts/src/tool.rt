@@ -4,6 +4,7 @@ ghost use Rattle.home_contexts.specs.Plan.{homes_ending, homes_names};
 use crate::asked::HomesWords;
 use crate::found::read_found;
 use file_roles::{FileList, FileRole, Part};
+use find_records::Format;
 use input_output::Store;
 use label_base::{Bytes, Name, OutOfMemory};
 use run_endings::{End, Ending, Saved};
@@ -47,7 +48,7 @@ fn ending(alloc: Global, words: &HomesWords, text: &Bytes) -> Result<Ending, Out
 }
 
 impl Tool for HomesWords {
-    ghost use Rattle.std.specs.Prelude.{Some, Ok, false};
+    ghost use Rattle.std.specs.Prelude.{None, Some, Ok, false};
     ghost use Rattle.home_contexts.specs.Found.{text_found};
     ghost use Rattle.home_contexts.specs.Plan.{homes_ending, homes_names};
 
@@ -55,7 +56,7 @@ impl Tool for HomesWords {
 
     ghost reads = { homes_names };
 
-    ghost takes_records = { λ words. false };
+    ghost records = { λ words. None };
 
     ghost is_soft = { λ words. false };
 
@@ -71,8 +72,8 @@ impl Tool for HomesWords {
         file_list(alloc, self)
     }
 
-    fn does_take_records(&self) -> bool {
-        false
+    fn record_format(&self) -> Option<Format> {
+        None
     }
 
     fn has_soft_errors(&self) -> bool {

@@ -1,5 +1,5 @@
 -- What calls of a store say of its files, where it tells them, and of its counts of faults.
-use Rattle.std.specs.Prelude.{◌≡◌, ℕ, ◌≤◌, ◌<◌, Bool, true, false, List, [], ◌∷◌, length, slice_index_or, Option, Some, None, Result, Ok, Err, if◌then◌else◌, map as list_map, refl}
+use Rattle.std.specs.Prelude.{◌≡◌, ℕ, zero, suc, ◌≤◌, ◌<◌, Bool, true, false, List, [], ◌∷◌, length, slice_index_or, Option, Some, None, Result, Ok, Err, if◌then◌else◌, map as list_map, refl}
 use Rattle.std.specs.Coded.{Coded, code_by, coded×, coded_list, coded_ℕ}
 use Rattle.std.specs.Str.{bytes_eq}
 use Rattle.std.specs.Ordering.{nat_cmp}
@@ -34,6 +34,16 @@ FileTold (Some files) name limit result = FileIs (content files name) limit resu
 abbrev pub FileCounts : ℕ → ℕ → Result (List ℕ) FileFault → Type 0
 FileCounts before now (Err Failed) = (before ≤ now) × Rose before now
 FileCounts before now other = now ≡ before
+
+-- a count of calls, after so many more
+abbrev pub calls_after : ℕ → ℕ → ℕ
+calls_after count zero = count
+calls_after count (suc more) = calls_after (next_count count) more
+
+-- so many calls were made, where the store tells how many there were
+abbrev pub Calls : Option ℕ → Option ℕ → ℕ → Type 0
+Calls None now more = Unit {0}
+Calls (Some count) now more = now ≡ Some (calls_after count more)
 
 -- what an answer to a write says of the files: after a failure the named one alone is unknown, and may be absent
 abbrev pub SaveTold : Option Files → Option Files → List ℕ → List ℕ → Result (Unit {0}) SaveFault

@@ -8,16 +8,17 @@ use crate::store::{FileFault, SaveFault, Store};
 use label_base::Bytes;
 use std::alloc::Global;
 use std::fs;
-use std::fs::Files;
+use std::fs::{Files, OpenFile};
 use std::io::ErrorKind;
 use std::marker::Model;
 
-/// The files of the system. It tells no content, and counts each call that fails.
+/// The files of the system. It tells no content and no number of calls, and counts each call that fails.
 ///
 /// A name is a path as open(2) takes it. `NotThere` is the system's "no such file or directory" (ENOENT)
 /// and "file name too long" (ENAMETOOLONG), since no such file can exist. A read takes at most one byte
 /// more than its limit. A write makes the file anew, or shortens it to nothing first, so a write that
-/// fails may leave a part of the bytes. One name may lead to another file.
+/// fails may leave a part of the bytes; it ends once the bytes have reached their device, since some file
+/// systems tell only then that they lost them. One name may lead to another file.
 #[derive(Drop)]
 pub struct FileStore<'r, R> {
     system: &'r R,
@@ -101,17 +102,30 @@ fn fault_of(kind: ErrorKind) -> FileFault
     }
 }
 
-fn save<R: Files>(system: &R, name: &str, bytes: &[u8]) -> Result<(), SaveFault> {
-    match fs::create(system, name) {
-        Ok(file) => match write_all(&mut WriteSink::new(file), bytes) {
-            Ok(()) => Ok(()),
-            Err(_) => Err(SaveFault::Failed),
-        },
+// Waits until a file's bytes have reached its device, where it has one: a file system may tell only then
+// that it lost them. What can't be waited for, as a pipe, is left as it is.
+fn keep<F: OpenFile>(file: &F) -> Result<(), SaveFault> {
+    match file.sync_all() {
+        Ok(()) => Ok(()),
         Err(error) => match error.kind() {
-            ErrorKind::OutOfMemory => Err(SaveFault::OutOfMemory),
+            ErrorKind::InvalidInput | ErrorKind::Unsupported => Ok(()),
             _ => Err(SaveFault::Failed),
         },
     }
+}
+
+fn save<R: Files>(system: &R, name: &str, bytes: &[u8]) -> Result<(), SaveFault> {
+    let mut file = match fs::create(system, name) {
+        Ok(file) => file,
+        Err(error) => match error.kind() {
+            ErrorKind::OutOfMemory => return Err(SaveFault::OutOfMemory),
+            _ => return Err(SaveFault::Failed),
+        },
+    };
+    if write_all(&mut WriteSink::new(&mut file), bytes).is_err() {
+        return Err(SaveFault::Failed);
+    }
+    keep(&file)
 }
 
 impl<'r, R: Files> Store for FileStore<'r, R> {
@@ -120,6 +134,8 @@ impl<'r, R: Files> Store for FileStore<'r, R> {
     ghost read_faults = { λ s. s.read_faults };
 
     ghost write_faults = { λ s. s.write_faults };
+
+    ghost calls = { λ _. None };
 
     fn read_file(&mut self, alloc: Global, name: &str, limit: usize) -> Result<Bytes, FileFault> {
         let file = name_led(self.from, self.to, name);

@@ -2,7 +2,7 @@ ghost use Rattle.std.specs.Prelude.{◌≡◌, ◌≤◌, IfOk, OnOk, OnErr, fal
 ghost use Rattle.std.specs.FinMap as map;
 ghost use Rattle.std.specs.Option.{option_copied};
 ghost use Rattle.input_output.specs.Source.{next_count};
-ghost use Rattle.input_output.specs.Store.{FileCounts, FileIs, IsFirstPlace, SaveCounts, SaveTold, content, files_of, found_in, has_name, is_planned, read_after, read_failed, write_after, write_failed};
+ghost use Rattle.input_output.specs.Store.{Calls, FileCounts, FileIs, IsFirstPlace, SaveCounts, SaveTold, content, files_of, found_in, has_name, is_planned, read_after, read_failed, write_after, write_failed};
 
 use crate::store::{FileFault, SaveFault, Store};
 use label_base::{Bytes, Name, OutOfMemory, Row};
@@ -79,7 +79,7 @@ fn copy_within(alloc: Global, bytes: &[u8], limit: usize) -> Result<Bytes, FileF
     }
 }
 
-/// A store in memory that never fails.
+/// A store in memory that never fails. It doesn't tell how many calls there were.
 #[derive(Drop)]
 pub struct SureStore {
     files: Vec<MemFile>,
@@ -129,11 +129,14 @@ impl Store for SureStore {
 
     ghost write_faults = { λ _. 0 };
 
+    ghost calls = { λ _. None };
+
     fn read_file(&mut self, alloc: Global, name: &str, limit: usize) -> Result<Bytes, FileFault>
         ensures files { self.new ≡ self.old }
         ensures within { IfOk result (λ bytes. length bytes ≤ limit) }
         ensures content { FileIs (content self.old name.now) limit result }
         ensures counts { FileCounts 0 0 result }
+        ensures calls { Calls None None 1 }
         ensures calm { read_failed result ≡ false }
     {
         match self.file(name) {
@@ -145,6 +148,7 @@ impl Store for SureStore {
     fn write_file(&mut self, alloc: Global, name: &str, bytes: &[u8]) -> Result<(), SaveFault>
         ensures files { SaveTold (Some self.old) (Some self.new) name.now bytes.now result }
         ensures counts { SaveCounts 0 0 result }
+        ensures calls { Calls None None 1 }
         ensures calm { write_failed result ≡ false }
     {
         match self.put(alloc, name, bytes) {
@@ -232,11 +236,14 @@ impl Store for MemStore {
 
     ghost write_faults = { λ s. s.write_faults };
 
+    ghost calls = { λ s. Some s.calls };
+
     fn read_file(&mut self, alloc: Global, name: &str, limit: usize) -> Result<Bytes, FileFault>
         ensures files { self.new.files ≡ self.old.files }
         ensures within { IfOk result (λ bytes. length bytes ≤ limit) }
         ensures content { FileIs (content self.old.files name.now) limit result }
         ensures counts { FileCounts self.old.read_faults self.new.read_faults result }
+        ensures calls { Calls (Some self.old.calls) (Some self.new.calls) 1 }
         ensures writes { self.new.write_faults ≡ self.old.write_faults }
         ensures planned { read_failed result ≡ is_planned self.old }
         ensures after { self.new ≡ read_after self.old }
@@ -252,6 +259,7 @@ impl Store for MemStore {
         ensures files { SaveTold (Some self.old.files) (Some self.new.files)
             name.now bytes.now result }
         ensures counts { SaveCounts self.old.write_faults self.new.write_faults result }
+        ensures calls { Calls (Some self.old.calls) (Some self.new.calls) 1 }
         ensures reads { self.new.read_faults ≡ self.old.read_faults }
         ensures planned { write_failed result ≡ is_planned self.old }
         ensures after { self.new ≡ write_after self.old name.now bytes.now result }

@@ -1,9 +1,11 @@
-ghost use Rattle.std.specs.Prelude.{◌≡◌, ◌≤◌, ◌<◌, OnOk, OnErr, List, ℕ, Option, None, length};
+ghost use Rattle.std.specs.Prelude.{◌≡◌, ◌≤◌, ◌<◌, IfOk, OnOk, OnErr, List, ℕ, Option, None, length};
 ghost use Rattle.std.specs.Io.KnownBytes.{Appends};
 ghost use Rattle.input_output.specs.Sink.{Puts, PutCounts, AppendsFront};
 ghost use Rattle.input_output.specs.Source.{Rose};
 
-use std::io::Write;
+use crate::source::MOST_TRIES;
+use std::io;
+use std::io::{ErrorKind, Write};
 use std::marker::Model;
 
 /// The answer of a sink.
@@ -52,7 +54,21 @@ pub fn write_all<O: Sink>(out: &mut O, bytes: &[u8]) -> Result<(), WriteFailed>
     Ok(())
 }
 
-/// A sink over any writer. It tells no content, and counts each error and each write of no bytes.
+// A write that a signal interrupted before any byte was taken is tried again.
+fn write_again<W: Write>(inner: &mut W, bytes: &[u8]) -> io::Result<usize>
+    ensures { IfOk result (λ count. count ≤ length bytes.now) }
+{
+    for _ in 0..MOST_TRIES {
+        match inner.write(bytes) {
+            Err(error) if error.kind() == ErrorKind::Interrupted => {}
+            answer => return answer,
+        }
+    }
+    inner.write(bytes)
+}
+
+/// A sink over any writer. It tells no content, and counts each error and each write of no bytes. A
+/// write that a signal interrupts is none.
 #[derive(Drop)]
 pub struct WriteSink<W> {
     inner: W,
@@ -82,7 +98,7 @@ impl<W: Write> Sink for WriteSink<W> {
     ghost faults = { λ count. count };
 
     fn write(&mut self, bytes: &[u8]) -> Put {
-        match self.inner.write(bytes) {
+        match write_again(&mut self.inner, bytes) {
             Ok(0) | Err(_) => {
                 self.faults = self.faults.saturating_add(1);
                 Put::Failed

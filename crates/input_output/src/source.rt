@@ -1,7 +1,8 @@
-ghost use Rattle.std.specs.Prelude.{◌≡◌, ◌<◌, List, ℕ, Option, None, length};
+ghost use Rattle.std.specs.Prelude.{◌≡◌, ◌<◌, ◌≤◌, IfOk, List, ℕ, Option, None, length};
 ghost use Rattle.input_output.specs.Source.{Takes, TakeCounts};
 
-use std::io::Read;
+use std::io;
+use std::io::{ErrorKind, Read};
 use std::marker::Model;
 
 /// A count of faults stands still at this value.
@@ -33,7 +34,24 @@ pub trait Source {
         ensures counts { TakeCounts (faults self.old) (faults self.new) result };
 }
 
-/// A source over any reader. It tells no content, and counts each error.
+/// How often a call that a signal interrupts is tried again.
+pub(crate) const MOST_TRIES: u32 = 1000;
+
+// A read that a signal interrupted before any byte was given is tried again.
+fn read_again<R: Read>(inner: &mut R, buf: &mut [u8]) -> io::Result<usize>
+    ensures { IfOk result (λ count. count ≤ length buf.new) }
+{
+    for _ in 0..MOST_TRIES {
+        match inner.read(buf) {
+            Err(error) if error.kind() == ErrorKind::Interrupted => {}
+            answer => return answer,
+        }
+    }
+    inner.read(buf)
+}
+
+/// A source over any reader. It tells no content, and counts each error. A read that a signal interrupts
+/// is none.
 #[derive(Drop)]
 pub struct ReadSource<R> {
     inner: R,
@@ -63,7 +81,7 @@ impl<R: Read> Source for ReadSource<R> {
     ghost faults = { λ count. count };
 
     fn read(&mut self, buf: &mut [u8]) -> Take {
-        match self.inner.read(buf) {
+        match read_again(&mut self.inner, buf) {
             Ok(0) => Take::End,
             Ok(count) => Take::Got(count),
             Err(_) => {

@@ -1,5 +1,5 @@
 ghost use Rattle.std.specs.Prelude.{◌≡◌, ◌≤◌, IfOk, length, ℕ, Option};
-ghost use Rattle.input_output.specs.Store.{FileCounts, FileTold, Files, SaveCounts, SaveTold};
+ghost use Rattle.input_output.specs.Store.{Calls, FileCounts, FileTold, Files, SaveCounts, SaveTold};
 
 use label_base::Bytes;
 use std::alloc::Global;
@@ -37,17 +37,23 @@ pub trait Store {
     /// How often a write has failed. The count never falls, and stands still at its last value.
     ghost write_faults: { Self → ℕ };
 
+    /// How many reads and writes it was asked for, where the store tells it. The count never falls, and
+    /// stands still at its last value.
+    ghost calls: { Self → Option ℕ };
+
     /// The whole content of a file of at most `limit` bytes.
     fn read_file(&mut self, alloc: Global, name: &str, limit: usize) -> Result<Bytes, FileFault>
         ensures files { files self.new ≡ files self.old }
         ensures within { IfOk result (λ bytes. length bytes ≤ limit) }
         ensures content { FileTold (files self.old) name.now limit result }
         ensures counts { FileCounts (read_faults self.old) (read_faults self.new) result }
+        ensures calls { Calls (calls self.old) (calls self.new) 1 }
         ensures writes { write_faults self.new ≡ write_faults self.old };
 
     /// Makes a file hold exactly these bytes, also where there was none. All other files stay.
     fn write_file(&mut self, alloc: Global, name: &str, bytes: &[u8]) -> Result<(), SaveFault>
         ensures files { SaveTold (files self.old) (files self.new) name.now bytes.now result }
         ensures counts { SaveCounts (write_faults self.old) (write_faults self.new) result }
+        ensures calls { Calls (calls self.old) (calls self.new) 1 }
         ensures reads { read_faults self.new ≡ read_faults self.old };
 }

@@ -1,11 +1,12 @@
 -- What matchpathcon reads, and what it answers.
-use Rattle.std.specs.Prelude.{List, [], Result, Ok, None, false}
+use Rattle.std.specs.Prelude.{List, [], Option, Some, None, Ok, false, if◌then◌else◌}
 use Rattle.input_output.specs.Store.{Files}
 use Rattle.file_roles.specs.declared.list.NamedFile.{NamedFile}
 use Rattle.context_syntax.specs.TypeNames.{set_of}
+use Rattle.find_records.specs.declared.format.Format.{Format}
+use Rattle.find_records.specs.declared.format.Format.TheVariants.{One}
 use Rattle.label_rules.specs.declared.rules.Rules.{Rules}
-use Rattle.run_faults.specs.Causes.{and_then}
-use Rattle.run_faults.specs.declared.cause.Cause.{Cause}
+use Rattle.run_input.specs.Files.{FilesSay, just, read_on}
 use Rattle.policy_files.specs.Files.{list_of, subs_for}
 use Rattle.policy_files.specs.Names.{policy_names}
 use Rattle.policy_files.specs.Rules.{rules_with}
@@ -14,14 +15,19 @@ use Rattle.path_lookups.specs.Answer.{answer_of}
 use Rattle.path_lookups.specs.declared.words.LookupWords.{LookupWords}
 
 -- the rules, for which no type is customizable
-unfoldable pub rules_found : List NamedFile → Files → Result Rules Cause
+unfoldable pub rules_found : List NamedFile → Files → FilesSay Rules
 rules_found list files =
-    and_then (list_of list 0 files) (λ specs.
-    and_then (subs_for list 0 files) (λ subs. Ok (rules_with specs subs (set_of []))))
+    read_on (list_of list 0 files) (λ specs.
+    read_on (subs_for list 0 files) (λ subs.
+    just (Ok (rules_with specs subs (set_of [])))))
 
 abbrev pub lookup_names : LookupWords → List NamedFile
 lookup_names words = policy_names 0 words.base
 
+-- records are taken for -V alone
+abbrev pub lookup_records : LookupWords → Option Format
+lookup_records words = if words.verify then Some One else None
+
 abbrev pub lookup_plan : LookupWords → Plan
-lookup_plan words = plan_by (lookup_names words) words.verify false None
+lookup_plan words = plan_by (lookup_names words) (lookup_records words) false None
     (rules_found (lookup_names words)) (λ rules entries. Ok (answer_of words rules entries))

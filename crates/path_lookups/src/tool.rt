@@ -6,6 +6,7 @@ use crate::answer::answer_of;
 use crate::words::LookupWords;
 use context_syntax::TypeNames;
 use file_roles::FileList;
+use find_records::Format;
 use input_output::Store;
 use label_base::OutOfMemory;
 use label_rules::Rules;
@@ -18,7 +19,7 @@ use tree_model::Tree;
 
 // Reads the specifications, then the substitutions; no look-up asks for customizable types.
 fn read_found<S: Store>(alloc: Global, list: &FileList, store: &mut S) -> Result<Rules, Cause>
-    ensures { Reads S.files S.read_faults S.write_faults (rules_found list.now)
+    ensures { Reads S.files S.calls S.read_faults S.write_faults (rules_found list.now)
         store.old store.new result }
 {
     let rules = read_specifications(alloc, list, 0, store)?;
@@ -33,13 +34,13 @@ fn read_found<S: Store>(alloc: Global, list: &FileList, store: &mut S) -> Result
 impl Tool for LookupWords {
     ghost use Rattle.std.specs.Prelude.{◌<◌, ◌^◌, None, Ok, false, length};
     ghost use Rattle.path_lookups.specs.Answer.{answer_of};
-    ghost use Rattle.path_lookups.specs.Plan.{lookup_names};
+    ghost use Rattle.path_lookups.specs.Plan.{lookup_names, lookup_records};
 
     type Found = Rules;
 
     ghost reads = { lookup_names };
 
-    ghost takes_records = { λ words. words.verify };
+    ghost records = { lookup_records };
 
     ghost is_soft = { λ words. false };
 
@@ -57,8 +58,8 @@ impl Tool for LookupWords {
         Ok(list)
     }
 
-    fn does_take_records(&self) -> bool {
-        self.verify
+    fn record_format(&self) -> Option<Format> {
+        if self.verify { Some(Format::One) } else { None }
     }
 
     fn has_soft_errors(&self) -> bool {

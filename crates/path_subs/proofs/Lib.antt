@@ -3,3 +3,4 @@ pub mod Covering
 pub mod NamesAt
 pub mod SubsMeant
 pub mod ListedLemmas
+pub mod Sending

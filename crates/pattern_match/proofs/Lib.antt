@@ -21,3 +21,4 @@ pub mod Ready
 pub mod Standing
 pub mod Reading
 pub mod OneText
+pub mod Sending

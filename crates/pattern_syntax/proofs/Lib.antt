@@ -11,3 +11,4 @@ pub mod FaultLemmas
 pub mod LiteralLemmas
 pub mod PartsLemmas
 pub mod RestLemmas
+pub mod Sending

@@ -18,11 +18,10 @@ use Rattle.path_subs.specs.Subs.{SubValue}
 use Rattle.path_subs.specs.SubLines.{subs_of}
 use Rattle.path_subs.specs.declared.sub_fault.NoSub.{NoSub}
 use Rattle.path_subs.specs.declared.subs.Subs as both
-use Rattle.run_faults.specs.Causes.{and_then}
 use Rattle.run_faults.specs.declared.cause.Cause.{Cause}
 use Rattle.run_faults.specs.declared.cause.Cause.TheVariants.{SpecRefused, SubRefused, CustomRefused, Limit}
 use Rattle.run_faults.specs.declared.cause.LimitKind.TheVariants.{Specs}
-use Rattle.run_input.specs.Files.{part_bytes}
+use Rattle.run_input.specs.Files.{FilesSay, just, part_says, read_on}
 use Rattle.policy_files.specs.declared.reading.TheConstants.{MOST_SPECS}
 
 abbrev pub spec_refusal : FileRole → LinesWhy SpecWhy → Cause
@@ -35,9 +34,10 @@ specs_from role (Ok specs) = Ok specs
 specs_from role (Err why) = Err (spec_refusal role why)
 
 -- the specifications of a file, with room for so many
-unfoldable pub part_specs : List NamedFile → FileRole → ℕ → Files → Result (List SpecValue) Cause
+unfoldable pub part_specs : List NamedFile → FileRole → ℕ → Files → FilesSay (List SpecValue)
 part_specs list role room files =
-    and_then (part_bytes list role files) (λ bytes. specs_from role (specs_of role.part room bytes))
+    read_on (part_says list role files) (λ bytes.
+    just (specs_from role (specs_of role.part room bytes)))
 
 abbrev pub subs_from : FileRole → Result (List SubValue) (RefusedLine NoSub)
     → Result (List SubValue) Cause
@@ -45,30 +45,31 @@ subs_from role (Ok subs) = Ok subs
 subs_from role (Err line) = Err (SubRefused role line.number)
 
 -- the substitutions of a file
-unfoldable pub part_subs : List NamedFile → FileRole → Files → Result (List SubValue) Cause
+unfoldable pub part_subs : List NamedFile → FileRole → Files → FilesSay (List SubValue)
 part_subs list role files =
-    and_then (part_bytes list role files) (λ bytes. subs_from role (subs_of bytes))
+    read_on (part_says list role files) (λ bytes. just (subs_from role (subs_of bytes)))
 
 abbrev pub types_from : Result NameSet (RefusedLine NoTypeName) → Result NameSet Cause
 types_from (Ok types) = Ok types
 types_from (Err line) = Err (CustomRefused line.number)
 
 -- the customizable types
-unfoldable pub customizable_types : List NamedFile → Files → Result NameSet Cause
+unfoldable pub customizable_types : List NamedFile → Files → FilesSay NameSet
 customizable_types list files =
-    and_then (part_bytes list (role Customizable 0) files) (λ bytes. types_from (types_read bytes))
+    read_on (part_says list (role Customizable 0) files) (λ bytes.
+    just (types_from (types_read bytes)))
 
 -- the specifications of a policy's three files, in the order in which the last match decides
-unfoldable pub list_of : List NamedFile → (version : ℕ) → Files → Result (List SpecValue) Cause
+unfoldable pub list_of : List NamedFile → (version : ℕ) → Files → FilesSay (List SpecValue)
 list_of list version files =
-    and_then (part_specs list (role Base version) MOST_SPECS files) (λ first.
-    and_then (part_specs list (role Homedirs version) (MOST_SPECS - length first) files) (λ home.
-    and_then (part_specs list (role Local version) (MOST_SPECS - length first - length home) files)
-    (λ local. Ok (in_order (first ++ home ++ local)))))
+    read_on (part_specs list (role Base version) MOST_SPECS files) (λ first.
+    read_on (part_specs list (role Homedirs version) (MOST_SPECS - length first) files) (λ home.
+    read_on (part_specs list (role Local version) (MOST_SPECS - length first - length home) files)
+    (λ local. just (Ok (in_order (first ++ home ++ local))))))
 
 -- both lists of substitutions of a policy
-unfoldable pub subs_for : List NamedFile → (version : ℕ) → Files → Result both.Subs Cause
+unfoldable pub subs_for : List NamedFile → (version : ℕ) → Files → FilesSay both.Subs
 subs_for list version files =
-    and_then (part_subs list (role Subs version) files) (λ first.
-    and_then (part_subs list (role SubsDist version) files) (λ second.
-    Ok (record { first = first; second = second })))
+    read_on (part_subs list (role Subs version) files) (λ first.
+    read_on (part_subs list (role SubsDist version) files) (λ second.
+    just (Ok (record { first = first; second = second }))))

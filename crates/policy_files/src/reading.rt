@@ -51,7 +51,7 @@ fn read_specs_part<S: Store>(
     store: &mut S,
 ) -> Result<Row<Spec>, Cause>
     ensures within { IfOk result (λ specs. length specs ≤ room) }
-    ensures read { Reads S.files S.read_faults S.write_faults (part_specs list.now role room)
+    ensures read { Reads S.files S.calls S.read_faults S.write_faults (part_specs list.now role room)
         store.old store.new result }
 {
     let bytes = read_part(alloc, list, role, store)?;
@@ -81,7 +81,7 @@ fn read_subs_part<S: Store>(
     role: FileRole,
     store: &mut S,
 ) -> Result<SubList, Cause>
-    ensures { Reads S.files S.read_faults S.write_faults (part_subs list.now role)
+    ensures { Reads S.files S.calls S.read_faults S.write_faults (part_subs list.now role)
         store.old store.new result }
 {
     let bytes = read_part(alloc, list, role, store)?;
@@ -97,7 +97,7 @@ pub fn read_substitutions<S: Store>(
     version: u32,
     store: &mut S,
 ) -> Result<Subs, Cause>
-    ensures { Reads S.files S.read_faults S.write_faults (subs_for list.now version)
+    ensures { Reads S.files S.calls S.read_faults S.write_faults (subs_for list.now version)
         store.old store.new result }
 {
     let role = FileRole {
@@ -135,7 +135,7 @@ pub fn read_types<S: Store>(
     list: &FileList,
     store: &mut S,
 ) -> Result<TypeNames, Cause>
-    ensures { Reads S.files S.read_faults S.write_faults (customizable_types list.now)
+    ensures { Reads S.files S.calls S.read_faults S.write_faults (customizable_types list.now)
         store.old store.new result }
 {
     let role = FileRole {
@@ -156,7 +156,7 @@ pub fn read_specifications<S: Store>(
     version: u32,
     store: &mut S,
 ) -> Result<RuleSet, Cause>
-    ensures { Reads S.files S.read_faults S.write_faults (list_of list.now version)
+    ensures { Reads S.files S.calls S.read_faults S.write_faults (list_of list.now version)
         store.old store.new result }
 {
     let role = FileRole {

@@ -17,7 +17,7 @@ fn read_rest<S: Store>(
     list: &FileList,
     store: &mut S,
 ) -> Result<(Subs, TypeNames), Cause>
-    ensures { Reads S.files S.read_faults S.write_faults (rest_for list.now)
+    ensures { Reads S.files S.calls S.read_faults S.write_faults (rest_for list.now)
         store.old store.new result }
 {
     let subs = read_substitutions(alloc, list, 0, store)?;
@@ -30,7 +30,7 @@ fn read_rest<S: Store>(
 ///
 /// The error is a failed read, or the first refusal.
 pub fn read_rules<S: Store>(alloc: Global, list: &FileList, store: &mut S) -> Result<Rules, Cause>
-    ensures { Reads S.files S.read_faults S.write_faults (rules_for list.now)
+    ensures { Reads S.files S.calls S.read_faults S.write_faults (rules_for list.now)
         store.old store.new result }
 {
     let rules = read_specifications(alloc, list, 0, store)?;

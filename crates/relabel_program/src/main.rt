@@ -5,6 +5,8 @@
 
 ghost use Rattle.std.specs.Prelude.{◌<◌, ◌^◌, IfOk, length};
 
+#[cfg(test)]
+mod failing_tests;
 mod runs;
 #[cfg(test)]
 mod tests;

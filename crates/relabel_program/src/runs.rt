@@ -78,7 +78,7 @@ fn run_setfiles<S: Store, I: Source, O: Sink>(
 ) -> Outcome
     requires { length words.now + FIRST < 2 ^ 31 }
     ensures status { result.status ≡ status_of (is_soft_in (planned relabel_plan (setfiles_words FIRST (word_texts words.now)))) result.cause }
-    ensures run { Run S.files S.read_faults S.write_faults I.left I.faults O.written O.faults
+    ensures run { Run S.files S.calls S.read_faults S.write_faults I.left I.faults O.written O.faults
         (planned relabel_plan (setfiles_words FIRST (word_texts words.now))) store.old store.new input.old input.new
         out.old out.new result.cause }
 {
@@ -95,7 +95,7 @@ fn run_restorecon<S: Store, I: Source, O: Sink>(
 ) -> Outcome
     requires { length words.now + FIRST < 2 ^ 31 }
     ensures status { result.status ≡ status_of (is_soft_in (planned relabel_plan (restorecon_words FIRST (word_texts words.now)))) result.cause }
-    ensures run { Run S.files S.read_faults S.write_faults I.left I.faults O.written O.faults
+    ensures run { Run S.files S.calls S.read_faults S.write_faults I.left I.faults O.written O.faults
         (planned relabel_plan (restorecon_words FIRST (word_texts words.now))) store.old store.new input.old input.new
         out.old out.new result.cause }
 {
@@ -118,7 +118,7 @@ fn run_lookup<S: Store, I: Source, O: Sink>(
 ) -> Outcome
     requires { length words.now + FIRST < 2 ^ 31 }
     ensures status { result.status ≡ status_of (is_soft_in (planned lookup_plan (lookup_words FIRST (word_texts words.now)))) result.cause }
-    ensures run { Run S.files S.read_faults S.write_faults I.left I.faults O.written O.faults
+    ensures run { Run S.files S.calls S.read_faults S.write_faults I.left I.faults O.written O.faults
         (planned lookup_plan (lookup_words FIRST (word_texts words.now))) store.old store.new input.old input.new
         out.old out.new result.cause }
 {
@@ -135,7 +135,7 @@ fn run_homes<S: Store, I: Source, O: Sink>(
 ) -> Outcome
     requires { length words.now + FIRST < 2 ^ 31 }
     ensures status { result.status ≡ status_of (is_soft_in (planned homes_plan (homes_words FIRST (word_texts words.now)))) result.cause }
-    ensures run { Run S.files S.read_faults S.write_faults I.left I.faults O.written O.faults
+    ensures run { Run S.files S.calls S.read_faults S.write_faults I.left I.faults O.written O.faults
         (planned homes_plan (homes_words FIRST (word_texts words.now))) store.old store.new input.old input.new
         out.old out.new result.cause }
 {
@@ -152,7 +152,7 @@ fn run_sample<S: Store, I: Source, O: Sink>(
 ) -> Outcome
     requires { length words.now + FIRST < 2 ^ 31 }
     ensures status { result.status ≡ status_of (is_soft_in (planned sample_plan (sample_words FIRST (word_texts words.now)))) result.cause }
-    ensures run { Run S.files S.read_faults S.write_faults I.left I.faults O.written O.faults
+    ensures run { Run S.files S.calls S.read_faults S.write_faults I.left I.faults O.written O.faults
         (planned sample_plan (sample_words FIRST (word_texts words.now))) store.old store.new input.old input.new
         out.old out.new result.cause }
 {
@@ -167,7 +167,7 @@ fn refuse_tool<S: Store, I: Source, O: Sink>(
     out: &mut O,
 ) -> Outcome
     ensures status { result.status ≡ status_of (is_soft_in (Err (usage 0 UnknownTool))) result.cause }
-    ensures run { Run S.files S.read_faults S.write_faults I.left I.faults O.written O.faults
+    ensures run { Run S.files S.calls S.read_faults S.write_faults I.left I.faults O.written O.faults
         (Err (usage 0 UnknownTool)) store.old store.new input.old input.new
         out.old out.new result.cause }
 {
@@ -186,7 +186,7 @@ fn run_named<S: Store, I: Source, O: Sink>(
 ) -> Outcome
     requires { length words.now + FIRST < 2 ^ 31 }
     ensures status { result.status ≡ status_of (is_soft_in (asked_for tool (word_texts words.now))) result.cause }
-    ensures run { Run S.files S.read_faults S.write_faults I.left I.faults O.written O.faults
+    ensures run { Run S.files S.calls S.read_faults S.write_faults I.left I.faults O.written O.faults
         (asked_for tool (word_texts words.now)) store.old store.new input.old input.new
         out.old out.new result.cause }
 {
@@ -210,7 +210,7 @@ fn run_asked<S: Store, I: Source, O: Sink>(
 ) -> Outcome
     requires { length words.now < 2 ^ 31 }
     ensures status { result.status ≡ status_of (is_soft_in (asked_of (word_texts words.now))) result.cause }
-    ensures run { Run S.files S.read_faults S.write_faults I.left I.faults O.written O.faults
+    ensures run { Run S.files S.calls S.read_faults S.write_faults I.left I.faults O.written O.faults
         (asked_of (word_texts words.now)) store.old store.new input.old input.new
         out.old out.new result.cause }
 {
@@ -232,7 +232,7 @@ pub fn plain<S: Store, I: Source, O: Sink>(
     requires { length words.now < 2 ^ 31 }
     ensures status { result.status
         ≡ status_of (is_soft_in (asked_of (word_texts words.now))) result.cause }
-    ensures run { Run S.files S.read_faults S.write_faults I.left I.faults O.written O.faults
+    ensures run { Run S.files S.calls S.read_faults S.write_faults I.left I.faults O.written O.faults
         (asked_of (word_texts words.now)) store.old store.new input.old input.new out.old out.new
         result.cause }
     ensures complete { Complete S.files S.read_faults S.write_faults I.left I.faults O.written
@@ -255,7 +255,7 @@ pub fn top<S: Store, I: Source, O: Sink>(
     requires few { length words.now < 2 ^ 31 }
     ensures status { result.status
         ≡ status_of (is_soft_in (asked_of (word_texts words.now))) result.cause }
-    ensures run { Run S.files S.read_faults S.write_faults I.left I.faults O.written O.faults
+    ensures run { Run S.files S.calls S.read_faults S.write_faults I.left I.faults O.written O.faults
         (asked_of (word_texts words.now)) store.old store.new input.old input.new out.old out.new
         result.cause }
     ensures complete { Complete S.files S.read_faults S.write_faults I.left I.faults O.written

@@ -7,28 +7,28 @@ use run_faults::{Cause, Outcome};
 use std::alloc::Global;
 use std::test::Fail;
 
-const WORDS: &[&str] = &["setfiles", "-n", "-v", "-F", "fc", "/"];
+pub(crate) const WORDS: &[&str] = &["setfiles", "-n", "-v", "-F", "fc", "/"];
 
 const TYPES: &str = "/etc/selinux/targeted/contexts/customizable_types";
 
-const SPECS: &[u8] =
+pub(crate) const SPECS: &[u8] =
     b"/ -d system_u:object_r:root_t:s0\n/etc/passwd system_u:object_r:passwd_file_t:s0\n";
 
-const RECORDS: &[u8] =
+pub(crate) const RECORDS: &[u8] =
     b"d 2049 2 system_u:object_r:root_t:s0 /\0f 2049 131 system_u:object_r:etc_t:s0 /etc/passwd\0";
 
-const REPORT: &[u8] =
+pub(crate) const REPORT: &[u8] =
     b"Would relabel /etc/passwd from system_u:object_r:etc_t:s0 to system_u:object_r:passwd_file_t:s0\n";
 
 /// The calls that fail: 0 for none.
 #[derive(Clone, Copy, Debug)]
-struct Failing {
-    store: u64,
-    input: u64,
-    out: u64,
+pub(crate) struct Failing {
+    pub(crate) store: u64,
+    pub(crate) input: u64,
+    pub(crate) out: u64,
 }
 
-const NONE_FAILS: Failing = Failing {
+pub(crate) const NONE_FAILS: Failing = Failing {
     store: 0,
     input: 0,
     out: 0,
@@ -36,27 +36,27 @@ const NONE_FAILS: Failing = Failing {
 
 /// What a run ended with, what it left in the store and wrote, and whether it left the input as it was.
 #[derive(Drop)]
-struct Ran {
-    outcome: Outcome,
+pub(crate) struct Ran {
+    pub(crate) outcome: Outcome,
     store: MemStore,
     out: MemSink,
     is_unread: bool,
 }
 
 impl Ran {
-    fn ended(&self, status: u8, text: &[u8]) -> bool {
+    pub(crate) fn ended(&self, status: u8, text: &[u8]) -> bool {
         self.outcome.status == status && self.out.written() == text
     }
 
-    fn refused(&self, status: u8, text: &[u8]) -> bool {
+    pub(crate) fn refused(&self, status: u8, text: &[u8]) -> bool {
         self.ended(status, text) && self.is_unread
     }
 
-    fn has(&self, name: &str, text: &[u8]) -> bool {
+    pub(crate) fn has(&self, name: &str, text: &[u8]) -> bool {
         self.store.file(name) == Some(text)
     }
 
-    fn lacks(&self, name: &str) -> bool {
+    pub(crate) fn lacks(&self, name: &str) -> bool {
         self.store.file(name).is_none()
     }
 }
@@ -95,7 +95,7 @@ fn input_of(alloc: Global, records: &[u8], failing: u64) -> Result<MemSource, Ou
     Ok(MemSource::new(bytes, 10, failing_at(alloc, failing)?))
 }
 
-fn run(
+pub(crate) fn run(
     alloc: Global,
     words: &[&str],
     files: &[(&str, &[u8])],
@@ -117,39 +117,8 @@ fn run(
 }
 
 // A run of the first example with one of its calls failing.
-fn first(alloc: Global, failing: &Failing) -> Result<Ran, OutOfMemory> {
+pub(crate) fn first(alloc: Global, failing: &Failing) -> Result<Ran, OutOfMemory> {
     run(alloc, WORDS, &[("fc", SPECS)], RECORDS, failing)
-}
-
-#[test]
-fn a_failing_read_of_a_file_is_told_before_the_input(rt: HostRuntime) -> Result<(), Fail> {
-    let third = Failing {
-        store: 3,
-        ..NONE_FAILS
-    };
-    let ran = first(rt.alloc(), &third)?;
-    assert!(rt; ran.refused(253, b"relabel: read failed\n"));
-    Ok(())
-}
-
-#[test]
-fn a_failing_read_of_the_input_is_told(rt: HostRuntime) -> Result<(), Fail> {
-    let at_once = Failing {
-        input: 1,
-        ..NONE_FAILS
-    };
-    assert!(rt; first(rt.alloc(), &at_once)?.ended(253, b"relabel: read failed\n"));
-    Ok(())
-}
-
-#[test]
-fn a_failing_write_of_the_report_leaves_a_front_of_it(rt: HostRuntime) -> Result<(), Fail> {
-    let second = Failing {
-        out: 2,
-        ..NONE_FAILS
-    };
-    assert!(rt; first(rt.alloc(), &second)?.ended(252, b"Would rela"));
-    Ok(())
 }
 
 /// Words that are refused, and what stands behind `relabel: usage: word `.
@@ -231,6 +200,10 @@ const REFUSED: &[(&[u8], &[u8])] = &[
         b"relabel: fc: line 1: pattern: too many positions\n",
     ),
     (b"/a", b"relabel: fc: line 1: missing context\n"),
+    (
+        b"(.{50}){41} <<none>>",
+        b"relabel: fc: line 1: pattern: too many positions\n",
+    ),
     (b"/a -x u:r:a_t", b"relabel: fc: line 1: bad type\n"),
     (b"/a u:r", b"relabel: fc: line 1: bad context\n"),
 ];
@@ -268,7 +241,7 @@ fn other_refused_files_are_told_before_the_input(rt: HostRuntime) -> Result<(), 
 
 const KEPT_WORDS: &[&str] = &["restorecon", "-S", "fc", "-K", "k", "-o", "out", "/srv/b"];
 
-const VAR_SPECS: &[u8] = b"/srv/.* system_u:object_r:var_t:s0\n";
+pub(crate) const VAR_SPECS: &[u8] = b"/srv/.* system_u:object_r:var_t:s0\n";
 
 /// Files of stored digests that are refused, and their line.
 const REFUSED_DUMPS: &[(&[u8], &[u8])] = &[
@@ -306,14 +279,14 @@ const ROW_WORDS: &[&str] = &["restorecon", "-v", "-S", "fc", "-o", "out", "/srv/
 
 const ROW_RECORDS: &[u8] = b"f 1 21 unconfined_u:object_r:tmp_t:s0-s0:c0.c1023 /srv/b\0";
 
-const ROW_REPORT: &[u8] =
+pub(crate) const ROW_REPORT: &[u8] =
     b"Relabeled /srv/b from unconfined_u:object_r:tmp_t:s0-s0:c0.c1023 to unconfined_u:object_r:var_t:s0-s0:c0.c1023\n";
 
-const ROW_DUMP: &[u8] =
+pub(crate) const ROW_DUMP: &[u8] =
     b"# file: /srv/b\nsecurity.selinux=\"unconfined_u:object_r:var_t:s0-s0:c0.c1023\"\n\n";
 
 // A run that writes a dump over an old one, beside another file.
-fn dumped(alloc: Global, failing: &Failing) -> Result<Ran, OutOfMemory> {
+pub(crate) fn dumped(alloc: Global, failing: &Failing) -> Result<Ran, OutOfMemory> {
     let files: &[(&str, &[u8])] = &[("fc", VAR_SPECS), ("out", b"old"), ("other", b"kept")];
     run(alloc, ROW_WORDS, files, ROW_RECORDS, failing)
 }
@@ -323,41 +296,6 @@ fn a_dump_is_written_to_its_file_alone(rt: HostRuntime) -> Result<(), Fail> {
     let ran = dumped(rt.alloc(), &NONE_FAILS)?;
     assert!(rt; ran.ended(0, ROW_REPORT) && ran.has("out", ROW_DUMP));
     assert!(rt; ran.has("other", b"kept"));
-    Ok(())
-}
-
-#[test]
-fn a_failing_read_leaves_the_dump(rt: HostRuntime) -> Result<(), Fail> {
-    for call in 1..7u64 {
-        let failing = Failing {
-            store: call,
-            ..NONE_FAILS
-        };
-        let ran = dumped(rt.alloc(), &failing)?;
-        assert!(rt; ran.refused(253, b"relabel: read failed\n") && ran.has("out", b"old"));
-    }
-    Ok(())
-}
-
-#[test]
-fn a_failing_write_of_the_dump_is_told_in_place_of_the_report(rt: HostRuntime) -> Result<(), Fail> {
-    let seventh = Failing {
-        store: 7,
-        ..NONE_FAILS
-    };
-    let ran = dumped(rt.alloc(), &seventh)?;
-    assert!(rt; ran.ended(252, b"relabel: write failed\n") && ran.has("other", b"kept"));
-    Ok(())
-}
-
-#[test]
-fn a_dump_stands_where_the_report_is_not_written(rt: HostRuntime) -> Result<(), Fail> {
-    let first = Failing {
-        out: 1,
-        ..NONE_FAILS
-    };
-    let ran = dumped(rt.alloc(), &first)?;
-    assert!(rt; ran.ended(252, b"") && ran.has("out", ROW_DUMP));
     Ok(())
 }
 

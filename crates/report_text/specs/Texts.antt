@@ -3,11 +3,11 @@ use Rattle.std.specs.Prelude.{ℕ, Bool, true, false, List, [], ◌++◌, Option
 use Rattle.std.specs.List.{flat_map}
 use Rattle.label_base.specs.Escape.{escaped}
 use Rattle.file_paths.specs.Path.{Path, path_text}
+use Rattle.label_base.specs.Kind.{names_of}
 use Rattle.label_base.specs.declared.kind.EntryKind.{EntryKind}
 use Rattle.context_syntax.specs.Context.{ContextValue, context_text}
 use Rattle.context_syntax.specs.declared.label.Label.{Label}
 use Rattle.context_syntax.specs.declared.label.Label.TheVariants as label
-use Rattle.spec_reader.specs.TypeField.{type_field}
 use Rattle.spec_reader.specs.declared.line.TheConstants.{NO_CONTEXT}
 use Rattle.report_text.specs.declared.words.TheConstants.{AND, CLOSE, COMMA, CONFLICTING, FROM, FULL_STOP, HAS_CONTEXT, HAS_NO_RECORD, LINE_FEED, NO_DEFAULT, NO_LABEL, NO_MATCHES, NO_RECORD_FOR, NOT_RESET, RELABELED, SHOULD_BE, SKIPPING, TAB, TO, USING, VERIFIED, WOULD_RELABEL}
 use Rattle.report_text.specs.Message.{MessageValue, Relabel, Customized, Conflict, NoDefault, Skipped, Absent, NoMatches, Found, Verified, Differs, NoRecord}
@@ -33,7 +33,7 @@ relabel_words false = RELABELED.now
 -- the type field of a specification, where it has one, and a comma
 abbrev pub kind_words : Option EntryKind → List ℕ
 kind_words None = []
-kind_words (Some kind) = type_field kind ++ COMMA.now
+kind_words (Some kind) = (names_of kind).type_field ++ COMMA.now
 
 -- the path before what a look-up found
 abbrev pub found_words : Path → Bool → List ℕ

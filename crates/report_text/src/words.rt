@@ -7,7 +7,7 @@ ghost use Rattle.report_text.specs.Texts.{found_words, given_text, kind_words, l
 use context_syntax::{Context, ContextRef, Label};
 use file_paths::PathRef;
 use label_base::{Bytes, EntryKind, OutOfMemory, write_escaped};
-use spec_reader::{NO_CONTEXT, type_field};
+use spec_reader::NO_CONTEXT;
 use std::alloc::Global;
 
 pub(crate) const NO_LABEL: &str = "<no context>";
@@ -111,7 +111,7 @@ pub(crate) fn add_kind(kind: Option<EntryKind>, text: &mut Bytes) -> Result<(), 
     match kind {
         None => Ok(()),
         Some(kind) => {
-            text.push(type_field(kind))?;
+            text.push(kind.type_field())?;
             add(COMMA, text)
         }
     }

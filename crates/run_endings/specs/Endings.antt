@@ -1,5 +1,5 @@
 -- What a run leaves at its end: a text saved, and its report or a fault line written.
-use Rattle.std.specs.Prelude.{◌≡◌, ℕ, List, Option, Some, None, Result, Ok, Err, ◌⊎◌}
+use Rattle.std.specs.Prelude.{◌≡◌, ℕ, ◌≤◌, List, Option, Some, None, Result, Ok, Err, ◌⊎◌}
 use Rattle.std.specs.Io.KnownBytes.{Appends}
 use Rattle.input_output.specs.Sink.{AppendsFront}
 use Rattle.input_output.specs.Source.{Rose}
@@ -19,11 +19,26 @@ cause_of Done = causes.Done
 cause_of (WalkErrors count) = causes.WalkErrors count
 cause_of (Differs count) = causes.Differs count
 
+-- all of a text was written, and the sink didn't fail
+abbrev pub WritesAll : {O : Type 0} → (O → Option (List ℕ)) → (O → ℕ) → O → O → List ℕ → Type 0
+WritesAll written faults old new text =
+    Appends (written old) (written new) text × (faults new ≡ faults old)
+
+-- the sink failed, and a front of a text was written
+abbrev pub WritesFront : {O : Type 0} → (O → Option (List ℕ)) → (O → ℕ) → O → O → List ℕ → Type 0
+WritesFront written faults old new text =
+    AppendsFront (written old) (written new) text × (faults old ≤ faults new)
+    × Rose (faults old) (faults new)
+
 -- a line was written, or a front of it where the sink failed
 abbrev pub LineOrFront : {O : Type 0} → (O → Option (List ℕ)) → (O → ℕ) → O → O → List ℕ → Type 0
 LineOrFront written faults old new line =
-    Appends (written old) (written new) line
-    ⊎ (AppendsFront (written old) (written new) line × Rose (faults old) (faults new))
+    WritesAll written faults old new line ⊎ WritesFront written faults old new line
+
+-- how many files are written for an ending
+abbrev pub writes_of : {A : Type 0} → Option A → ℕ
+writes_of None = 0
+writes_of (Some saved) = 1
 
 -- the write of a file: it was saved, or the write failed, or found no memory; without a file nothing
 -- is written
@@ -37,6 +52,5 @@ Saves old new (Some saved) result = SaveTold old new saved.name saved.text resul
 abbrev pub WritesReport : {O : Type 0}
     → (O → Option (List ℕ)) → (O → ℕ) → O → O → Ending → Cause → Type 0
 WritesReport written faults old new ending cause =
-    (cause ≡ cause_of ending.end) × Appends (written old) (written new) ending.report
-    ⊎ (cause ≡ WriteFault) × AppendsFront (written old) (written new) ending.report
-    × Rose (faults old) (faults new)
+    (cause ≡ cause_of ending.end) × WritesAll written faults old new ending.report
+    ⊎ (cause ≡ WriteFault) × WritesFront written faults old new ending.report

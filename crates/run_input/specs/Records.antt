@@ -1,7 +1,8 @@
 -- The tree that the input gives.
-use Rattle.std.specs.Prelude.{ℕ, nat_lt, Bool, List, [], length, Option, Some, Result, Ok, Err, if◌then◌else◌}
+use Rattle.std.specs.Prelude.{ℕ, nat_lt, List, [], length, Option, Some, None, Result, Ok, Err, if◌then◌else◌}
 use Rattle.find_records.specs.Grammar.{records_of}
-use Rattle.find_records.specs.Record.{Record}
+use Rattle.find_records.specs.Record.{AreOf, Record}
+use Rattle.find_records.specs.declared.format.Format.{Format}
 use Rattle.find_records.specs.declared.fault.RecordsFault.{RecordsFault}
 use Rattle.find_records.specs.declared.fault.RecordsFault.TheVariants as records
 use Rattle.find_records.specs.declared.reading.RecordLimits.{RecordLimits}
@@ -33,16 +34,23 @@ abbrev pub entries_read : Result (List Record) RecordsFault → Result (List Rec
 entries_read (Ok records) = entries_from (tree_of records)
 entries_read (Err fault) = Err (records_refusal fault)
 
--- the entries of the tree that the bytes of the input are
-unfoldable pub entries_of : List ℕ → Result (List Record) Cause
-entries_of bytes =
+-- the entries of the tree that the bytes of the input are, as records of this format
+unfoldable pub entries_of : Format → List ℕ → Result (List Record) Cause
+entries_of format bytes =
     if nat_lt MOST_RECORD_BYTES (length bytes) then Err (Limit RecordBytes)
-    else entries_read (records_of record_limits bytes)
+    else entries_read (records_of format record_limits bytes)
 
--- the entries of a tool: those of the input where it takes records, and else none
-unfoldable pub entries_for : (takes : Bool) → List ℕ → Result (List Record) Cause
-entries_for takes input = if takes then entries_of input else Ok []
+-- the entries of a tool: those of the input where it takes records of a format, and else none
+unfoldable pub entries_for : Option Format → List ℕ → Result (List Record) Cause
+entries_for None input = Ok []
+entries_for (Some format) input = entries_of format input
 
 -- the bytes of the input, of which none count where no records are taken
-abbrev pub input_for : (takes : Bool) → Option (List ℕ) → Option (List ℕ)
-input_for takes left = if takes then left else Some []
+abbrev pub input_for : Option Format → Option (List ℕ) → Option (List ℕ)
+input_for None left = Some []
+input_for (Some format) left = left
+
+-- entries are of the format whose records are taken
+abbrev pub AreTaken : Option Format → List Record → Type 0
+AreTaken None entries = Unit {0}
+AreTaken (Some format) entries = AreOf format entries

@@ -1,6 +1,7 @@
 ghost use Rattle.std.specs.Prelude.{◌≡◌, ℕ, ◌≤◌, IfErr, IfOk, IfSome, length};
 ghost use Rattle.file_roles.specs.Roles.{most_bytes};
 ghost use Rattle.run_faults.specs.Causes.{Counts, Gives, IsFileCause};
+ghost use Rattle.input_output.specs.Store.{Calls};
 ghost use Rattle.run_input.specs.Files.{absent, part_bytes};
 
 use file_roles::{FileList, FileRole};
@@ -39,6 +40,7 @@ pub fn read_part<S: Store>(
     ensures answer { IfSome (S.files store.old) (λ known.
         Gives (part_bytes files.now role known) result) }
     ensures counts { Counts (S.read_faults store.old) (S.read_faults store.new) result }
+    ensures calls { Calls (S.calls store.old) (S.calls store.new) 1 }
     ensures kinds { IfErr result IsFileCause }
 {
     match store.read_file(alloc, files.name_of(role), role.most_bytes()) {

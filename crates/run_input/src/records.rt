@@ -1,9 +1,11 @@
-ghost use Rattle.std.specs.Prelude.{◌≡◌, ℕ, ◌≤◌, ◌<◌, ◌-◌, ◌^◌, [], Ok, Some, true, false, IfOk, IfErr, IfSome, OnOk, length};
+ghost use Rattle.std.specs.Prelude.{◌≡◌, ℕ, ◌≤◌, ◌<◌, ◌-◌, ◌^◌, [], Ok, None, Some, IsSome, IfOk, IfErr, IfSome, OnOk, length};
+ghost use Rattle.find_records.specs.Record.{AreOf};
+ghost use Rattle.find_records.specs.declared.format.Format.{Format};
 ghost use Rattle.run_faults.specs.Causes.{Counts, Gives, IsInputCause};
 ghost use Rattle.tree_model.specs.Entries.{tree_of};
-ghost use Rattle.run_input.specs.Records.{entries_for, entries_from, entries_of, input_for, records_refusal};
+ghost use Rattle.run_input.specs.Records.{AreTaken, entries_for, entries_from, entries_of, input_for, records_refusal};
 
-use find_records::{RecordLimits, Records, RecordsFault, read_records};
+use find_records::{Format, RecordLimits, Records, RecordsFault, read_records};
 use input_output::Source;
 use run_faults::{Cause, LimitKind};
 use std::alloc::Global;
@@ -21,6 +23,8 @@ fn tree_from(alloc: Global, records: Records) -> Result<Tree, Cause>
     ensures counts { (count : ℕ) → Counts count count result }
     ensures kinds { IfErr result IsInputCause }
     ensures few { IfOk result (λ tree. length tree ≤ length records) }
+    ensures of_format { IfOk result (λ tree. (format : Format) → AreOf format records
+        → AreOf format tree) }
 {
     match Tree::new(alloc, records) {
         Ok(tree) => Ok(tree),
@@ -58,46 +62,52 @@ fn no_entries(alloc: Global) -> Result<Tree, Cause>
     tree_from(alloc, Records::new(alloc))
 }
 
-/// Reads the input to its end, as the tree of its records.
+/// Reads the input to its end, as the tree of its records of a format.
 ///
 /// The error is a failed read, a limit that is passed, the first record that is none, or the first
 /// two of one path.
 #[tactic(auto, unfolding(crate::specs::Records::entries_of))]
-pub fn read_tree<I: Source>(alloc: Global, input: &mut I) -> Result<Tree, Cause>
-    ensures answer { IfSome (I.left input.old) (λ bytes. Gives (entries_of bytes) result) }
+pub fn read_tree<I: Source>(alloc: Global, format: Format, input: &mut I) -> Result<Tree, Cause>
+    ensures answer { IfSome (I.left input.old) (λ bytes. Gives (entries_of format bytes) result) }
     ensures ended { OnOk result (IfSome (I.left input.old) (λ bytes. I.left input.new ≡ Some [])) }
     ensures counts { Counts (I.faults input.old) (I.faults input.new) result }
     ensures kinds { IfErr result IsInputCause }
     ensures few { IfOk result (λ tree. length tree ≤ MOST_RECORDS) }
+    ensures of_format { IfOk result (λ tree. AreOf format tree) }
 {
     let limits = RecordLimits {
         records: MOST_RECORDS,
         bytes: MOST_RECORD_BYTES,
     };
-    match read_records(alloc, input, limits) {
+    match read_records(alloc, input, format, limits) {
         Ok(records) => tree_from(alloc, records),
         Err(fault) => Err(refusal(fault)),
     }
 }
 
-/// Reads the records of a tool that takes them, as a tree. One that takes none leaves the input
-/// alone, and has the tree of no records.
+/// Reads the records of a tool that takes those of a format, as a tree. One that takes none leaves the
+/// input alone, and has the tree of no records.
 ///
 /// The error is a failed read, a limit that is passed, the first record that is none, or the first
 /// two of one path.
 #[tactic(auto, unfolding(crate::specs::Records::entries_for))]
-pub fn read_entries<I: Source>(alloc: Global, takes: bool, input: &mut I) -> Result<Tree, Cause>
-    ensures answer { IfSome (input_for takes (I.left input.old)) (λ bytes.
-        Gives (entries_for takes bytes) result) }
-    ensures ended { OnOk result (takes ≡ true
+pub fn read_entries<I: Source>(
+    alloc: Global,
+    records: Option<Format>,
+    input: &mut I,
+) -> Result<Tree, Cause>
+    ensures answer { IfSome (input_for records (I.left input.old)) (λ bytes.
+        Gives (entries_for records bytes) result) }
+    ensures ended { OnOk result (IsSome records
         → IfSome (I.left input.old) (λ bytes. I.left input.new ≡ Some [])) }
-    ensures untouched { takes ≡ false → input.new ≡ input.old }
+    ensures untouched { records ≡ None → input.new ≡ input.old }
     ensures counts { Counts (I.faults input.old) (I.faults input.new) result }
     ensures kinds { IfErr result IsInputCause }
     ensures few { IfOk result (λ tree. length tree ≤ MOST_RECORDS) }
+    ensures of_format { IfOk result (λ tree. AreTaken records tree) }
 {
-    if takes {
-        return read_tree(alloc, input);
+    match records {
+        Some(format) => read_tree(alloc, format, input),
+        None => no_entries(alloc),
     }
-    no_entries(alloc)
 }

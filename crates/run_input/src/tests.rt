@@ -1,5 +1,6 @@
 use crate::{read_entries, read_part};
 use file_roles::{FileList, FileRole, Part};
+use find_records::Format;
 use input_output::{MemSource, MemStore};
 use label_base::{Bytes, Name, OutOfMemory, Row};
 use std::alloc::Global;
@@ -11,8 +12,8 @@ fn input_of(alloc: Global, records: &[u8]) -> Result<MemSource, OutOfMemory> {
 }
 
 // How many entries are read, or none where they are refused.
-fn count_of(alloc: Global, takes: bool, input: &mut MemSource) -> Option<u32> {
-    match read_entries(alloc, takes, input) {
+fn count_of(alloc: Global, records: Option<Format>, input: &mut MemSource) -> Option<u32> {
+    match read_entries(alloc, records, input) {
         Ok(tree) => Some(tree.len()),
         Err(_) => None,
     }
@@ -21,18 +22,21 @@ fn count_of(alloc: Global, takes: bool, input: &mut MemSource) -> Option<u32> {
 // How many entries are read of these records, and how many of their bytes are left.
 fn read_by(
     alloc: Global,
-    takes: bool,
+    format: Option<Format>,
     records: &[u8],
 ) -> Result<(Option<u32>, usize), OutOfMemory> {
     let mut input = input_of(alloc, records)?;
-    let count = count_of(alloc, takes, &mut input);
+    let count = count_of(alloc, format, &mut input);
     Ok((count, input.left().len()))
 }
 
 #[test]
 fn records_are_read_to_their_end(rt: HostRuntime) -> Result<(), Fail> {
     let records = b"d 1 2 ? /\0f 1 5 ? /a\0";
-    assert_eq!(rt; read_by(rt.alloc(), true, records)?, (Some(2), 0));
+    assert_eq!(rt;
+        read_by(rt.alloc(), Some(Format::One), records)?,
+        (Some(2), 0)
+    );
     Ok(())
 }
 

@@ -3,9 +3,11 @@ use Rattle.std.specs.Prelude.{ℕ, List, [], ◌∷◌, ◌++◌, Result, Ok, No
 use Rattle.std.specs.FinMap as map_of
 use Rattle.input_output.specs.Store.{Files}
 use Rattle.file_roles.specs.declared.list.NamedFile.{NamedFile}
+use Rattle.find_records.specs.declared.format.Format.TheVariants.{One}
 use Rattle.label_rules.specs.declared.rules.Rules.{Rules}
 use Rattle.run_faults.specs.Causes.{and_then}
 use Rattle.run_faults.specs.declared.cause.Cause.{Cause}
+use Rattle.run_input.specs.Files.{FilesSay, just}
 use Rattle.run_input.specs.Records.{entries_of}
 use Rattle.run_endings.specs.declared.ending.Ending.{Ending}
 use Rattle.policy_files.specs.Names.{policy_names, types_name}
@@ -27,9 +29,13 @@ own_names = policy_names 0 OWN_FILE.now ++ types_name ∷ []
 -- what is written of a sample of so many files, by its rules
 unfoldable pub answered_for : Rules → ℕ → Result Ending Cause
 answered_for rules count =
-    and_then (entries_of (sample_records count)) (λ entries. Ok (sample_ending rules entries))
+    and_then (entries_of One (sample_records count)) (λ entries. Ok (sample_ending rules entries))
+
+-- what its own file says, for which no file of the store is opened
+abbrev pub own_rules : FilesSay Rules
+own_rules = just (rules_for own_names own_files).says
 
 -- neither the store nor the input is looked at
 abbrev pub sample_plan : SampleWords → Plan
-sample_plan words = plan_by [] false false None (λ files. rules_for own_names own_files)
+sample_plan words = plan_by [] None false None (λ files. own_rules)
     (λ rules entries. answered_for rules words.count)

@@ -1,9 +1,10 @@
 ghost use Rattle.std.specs.Prelude.{◌≡◌, ℕ, ◌<◌, ◌≤◌, ◌^◌, IfErr, IfOk, None, length, option_map};
-ghost use Rattle.policy_files.specs.Rules.{rules_for};
 ghost use Rattle.run_faults.specs.Causes.{Counts, Gives, IsFileCause, IsInputCause};
+ghost use Rattle.find_records.specs.Record.{AreOf};
+ghost use Rattle.find_records.specs.declared.format.Format.TheVariants.{One};
 ghost use Rattle.run_input.specs.Records.{entries_of};
 ghost use Rattle.run_input.specs.declared.records.TheConstants.{MOST_RECORDS};
-ghost use Rattle.sample_tree.specs.Plan.{answered_for, own_files, own_names};
+ghost use Rattle.sample_tree.specs.Plan.{answered_for, own_files, own_names, own_rules};
 ghost use Rattle.sample_tree.specs.Sample.{sample_records};
 ghost use Rattle.tool_runs.specs.Stages.{saved_name};
 
@@ -11,6 +12,7 @@ use crate::records::{SPECS, sample_records};
 use crate::walks::sample_ending;
 use crate::words::SampleWords;
 use file_roles::FileList;
+use find_records::Format;
 use input_output::{Store, SureSource, SureStore};
 use label_base::OutOfMemory;
 use label_rules::Rules;
@@ -50,7 +52,7 @@ fn own_list(alloc: Global) -> Result<FileList, OutOfMemory>
 #[tactic(auto, using(run_input::proofs::CountLemmas::calm_counts))]
 fn read_listed(alloc: Global, list: &FileList) -> Result<Rules, Cause>
     requires { list.now ≡ own_names }
-    ensures answer { Gives (rules_for own_names own_files) result }
+    ensures answer { Gives own_rules.says result }
     ensures counts { (count : ℕ) → Counts count count result }
     ensures kinds { IfErr result IsFileCause }
 {
@@ -60,7 +62,7 @@ fn read_listed(alloc: Global, list: &FileList) -> Result<Rules, Cause>
 
 // Reads the files of a sample, by the readers of any others.
 fn read_own_files(alloc: Global) -> Result<Rules, Cause>
-    ensures answer { Gives (rules_for own_names own_files) result }
+    ensures answer { Gives own_rules.says result }
     ensures counts { (count : ℕ) → Counts count count result }
     ensures kinds { IfErr result IsFileCause }
 {
@@ -71,14 +73,15 @@ fn read_own_files(alloc: Global) -> Result<Rules, Cause>
 // Reads the records of a sample, by the reader of any others.
 #[tactic(auto, using(run_input::proofs::CountLemmas::calm_counts))]
 fn read_own_records(alloc: Global, count: u32) -> Result<Tree, Cause>
-    ensures answer { Gives (entries_of (sample_records count)) result }
+    ensures answer { Gives (entries_of One (sample_records count)) result }
     ensures counts { (count : ℕ) → Counts count count result }
     ensures kinds { IfErr result IsInputCause }
     ensures few { IfOk result (λ tree. length tree ≤ MOST_RECORDS) }
+    ensures of_format { IfOk result (λ tree. AreOf One tree) }
 {
     let records = sample_records(alloc, count)?;
     let mut source = SureSource::new(records, PIECE);
-    read_tree(alloc, &mut source)
+    read_tree(alloc, Format::One, &mut source)
 }
 
 // What a sample of so many files writes, by its rules.
@@ -95,19 +98,19 @@ fn answer_for(alloc: Global, rules: &Rules, count: u32) -> Result<Ending, Cause>
 
 impl Tool for SampleWords {
     ghost use Rattle.std.specs.Prelude.{[], None, false};
-    ghost use Rattle.sample_tree.specs.Plan.{answered_for, own_files, own_names};
+    ghost use Rattle.sample_tree.specs.Plan.{answered_for, own_rules};
 
     type Found = Rules;
 
     ghost reads = { λ words. [] };
 
-    ghost takes_records = { λ words. false };
+    ghost records = { λ words. None };
 
     ghost is_soft = { λ words. false };
 
     ghost output = { λ words. None };
 
-    ghost files_say = { λ words files. rules_for own_names own_files };
+    ghost files_say = { λ words files. own_rules };
 
     ghost IsFit = { λ words. Unit {0} };
 
@@ -117,8 +120,8 @@ impl Tool for SampleWords {
         Ok(FileList::new(alloc))
     }
 
-    fn does_take_records(&self) -> bool {
-        false
+    fn record_format(&self) -> Option<Format> {
+        None
     }
 
     fn has_soft_errors(&self) -> bool {

@@ -10,3 +10,4 @@ pub mod TableLemmas
 pub mod TrailLemmas
 pub mod CarryLemmas
 pub mod ChainLemmas
+pub mod Sending

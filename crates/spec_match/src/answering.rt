@@ -1,5 +1,4 @@
 ghost use Rattle.std.specs.Prelude.{◌≡◌, ◌<◌, ℕ, Bool, List, length, map};
-ghost use Rattle.label_base.specs.Kind.{kind_number};
 ghost use Rattle.pattern_match.specs.States.{AreStatesOf, StandsFor};
 ghost use Rattle.spec_match.specs.Alive.{alive_at, list_of};
 ghost use Rattle.spec_match.specs.Listed.{IsListed};
@@ -10,23 +9,8 @@ ghost use Rattle.spec_match.specs.Stepping.{AreOwnLists};
 
 use crate::lists::Lists;
 use crate::rule::Rule;
-use label_base::{Asked, EntryKind};
+use label_base::Asked;
 use pattern_match::States;
-
-fn kind_number(kind: EntryKind) -> usize
-    ensures { result ≡ kind_number kind }
-{
-    match kind {
-        EntryKind::Regular => 0,
-        EntryKind::Directory => 1,
-        EntryKind::Link => 2,
-        EntryKind::Pipe => 3,
-        EntryKind::Socket => 4,
-        EntryKind::Block => 5,
-        EntryKind::Char => 6,
-        EntryKind::Other => 7,
-    }
-}
 
 /// A number below nine for what is asked.
 pub fn asked_number(asked: Asked) -> usize
@@ -35,7 +19,7 @@ pub fn asked_number(asked: Asked) -> usize
 {
     match asked {
         Asked::Any => 0,
-        Asked::Of(kind) => kind_number(kind) + 1,
+        Asked::Of(kind) => kind.number() + 1,
     }
 }
 

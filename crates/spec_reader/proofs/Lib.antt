@@ -1,1 +1,2 @@
 pub mod SpecsMeant
+pub mod Sending

@@ -1,4 +1,3 @@
 pub mod SpecGrammar
 pub mod SpecLines
 pub mod SpecValue
-pub mod TypeField

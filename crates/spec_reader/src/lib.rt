@@ -5,13 +5,11 @@ mod line;
 mod reading;
 mod spec;
 mod spec_fault;
-mod type_fields;
 
 pub use line::NO_CONTEXT;
 pub use reading::{read_specs, specs_follow_grammar};
 pub use spec::{Decision, Spec};
 pub use spec_fault::{SpecFault, SpecWhy};
-pub use type_fields::type_field;
 
 #[cfg(test)]
 mod tests;

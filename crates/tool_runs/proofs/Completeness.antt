@@ -18,8 +18,8 @@ use Rattle.tool_runs.specs.Run.{Ends, FileFailed, InputFailed, LosesDump, LosesR
 whole_line : {O : Type 0} (written : O → Option (List ℕ)) (faults : O → ℕ) (old new : O)
     (line : List ℕ) → (Rose (faults old) (faults new) → ⊥)
     → LineOrFront written faults old new line → Appends (written old) (written new) line
-whole_line written faults old new line calm (inl whole) = whole
-whole_line written faults old new line calm (inr front) = absurd (calm front.1)
+whole_line written faults old new line calm (inl whole) = whole.0
+whole_line written faults old new line calm (inr front) = absurd (calm front.2)
 
 module _ {S O : Type 0} (files : S → Option Files) (written : O → Option (List ℕ)) (store_now : S)
     (out out_now : O) (asked : Result Plan Usage) (known : Files) (meant : Result Ending Cause)
@@ -72,13 +72,14 @@ module _ {S O : Type 0} (files : S → Option Files) (written : O → Option (Li
   completes cause is ends line same no_read no_write =
       inl (refused cause is ends (line (λ written. written)) (same (λ written. written)))
 
-module _ {S I O : Type 0} (files : S → Option Files) (read_faults write_faults : S → ℕ)
+module _ {S I O : Type 0} (files : S → Option Files) (calls : S → Option ℕ)
+    (read_faults write_faults : S → ℕ)
     (left : I → Option (List ℕ)) (input_faults : I → ℕ) (written : O → Option (List ℕ))
     (out_faults : O → ℕ) (asked : Result Plan Usage) (store store_now : S) (input input_now : I)
     (out out_now : O) where
   pub complete : (status : ℕ) (cause : Cause)
       → status ≡ status_of (is_soft_in asked) cause
-      → Run files read_faults write_faults left input_faults written out_faults asked store
+      → Run files calls read_faults write_faults left input_faults written out_faults asked store
       store_now input input_now out out_now cause
       → Complete files read_faults write_faults left input_faults written out_faults asked store
       store_now input input_now out out_now status cause

@@ -1,27 +1,29 @@
 -- What the parts of a run say, as far as its end follows from that.
-use Rattle.std.proofs.Common.{◌≡◌, ◌∙◌, ap, sym, subst, refl, cond, ℕ, ◌≤◌, arith, inl, inr, List}
+use Rattle.std.proofs.Common.{◌≡◌, ◌∙◌, ap, sym, subst, refl, cond, ℕ, ◌+◌, ◌≤◌, arith, inl, inr, List}
 use Rattle.std.specs.Prelude.{Bool, true, false, Option, Some, None, Result, Ok, Err, is_some, IfSome, option_map}
 use Rattle.std.specs.FinMap as map
 use Rattle.std.specs.FinMap.{get-insert, get-remove, same_map, nat_cmp-IsAntisymmetric, slice_cmp-IsAntisymmetric}
 use Rattle.std.specs.Ordering.{eq_by_cmp, nat_cmp}
 use Rattle.std.specs.Cmp.Lexicographic.{slice_cmp, nat_list_cmp_total}
-use Rattle.input_output.specs.Store.{Files}
+use Rattle.input_output.specs.Store.{Calls, Files}
 use Rattle.input_output.specs.declared.store.SaveFault.{SaveFault}
 use Rattle.input_output.specs.declared.store.SaveFault.TheVariants as save
 use Rattle.find_records.specs.Record.{Record}
-use Rattle.run_faults.specs.Causes.{and_then, CauseCounts, Explained, IsFileCause, IsInputCause, IsReadingCause, IsWritten}
+use Rattle.find_records.specs.declared.format.Format.{Format}
+use Rattle.run_faults.specs.Causes.{and_then, CauseCounts, Explained, IsFileCause, IsInputCause, IsReadingCause, IsReported, IsWritten}
 use Rattle.run_faults.specs.declared.cause.Cause.{Cause}
 use Rattle.run_faults.specs.declared.cause.Cause.TheVariants.{Done, RecordRefused, Unended, Doubled, Limit, WalkErrors, Differs, ReadFault, WriteFault, OutOfMemory}
 use Rattle.run_faults.specs.declared.cause.LimitKind.TheVariants.{File, Specs, Records, RecordBytes}
+use Rattle.run_input.specs.Files.{CallsUpTo, CauseOpens}
 use Rattle.run_input.specs.Records.{entries_for}
-use Rattle.run_input.proofs.ReadsLemmas.{explained_next}
-use Rattle.run_endings.specs.Endings.{Saves, cause_of}
+use Rattle.run_input.proofs.ReadsLemmas.{explained_next, no_calls, up_to_more}
+use Rattle.run_endings.specs.Endings.{LineOrFront, Saves, cause_of, writes_of}
 use Rattle.run_endings.specs.declared.ending.End.{End}
 use Rattle.run_endings.specs.declared.ending.End.TheVariants as ends
 use Rattle.run_endings.specs.declared.ending.Ending.{Ending}
 use Rattle.run_endings.specs.declared.ending.Saved.{Saved}
 use Rattle.tool_runs.specs.Plan.{answer_by, refusal_in}
-use Rattle.tool_runs.specs.Run.{Ends, FilesDecide, OthersStay, Reports, files_with}
+use Rattle.tool_runs.specs.Run.{CallsMade, Ends, FilesDecide, OthersStay, Reports, files_with}
 use Rattle.tool_runs.specs.Stages.{saved_name}
 
 -- ---- options
@@ -110,7 +112,7 @@ ends_explained files written store out out_now known meant WriteFault unwritten 
     absurd (unwritten tt)
 ends_explained files written store out out_now known meant cause unwritten is = is
 
-module _ {R : Type 0} (takes : Bool) (read : Files → Result R Cause)
+module _ {R : Type 0} (takes : Option Format) (read : Files → Result R Cause)
     (answered : R → List Record → Result Ending Cause) (known : Files) (bytes : List ℕ) where
   pub file_explains : (cause : Cause) → Explained (read known) cause
       → Explained (answer_by takes read answered known bytes) cause
@@ -156,6 +158,78 @@ counts_later before now cause counts = omega (arith, counts)
 pub never_read : (cause : Cause) → CauseCounts 0 0 cause → cause ≡ ReadFault → ⊥
 never_read ReadFault counts is = absurd (omega (arith, counts.1))
 never_read cause counts is = absurd (cc)
+
+-- ---- calls of the store
+
+pub still_up_to : {S : Type 0} (calls : S → Option ℕ) (store store_now : S) (most : ℕ)
+    → store_now ≡ store → CallsUpTo (calls store) (calls store_now) most
+still_up_to calls store store_now most still =
+    subst (λ (now : Option ℕ). CallsUpTo (calls store) now most) (sym (ap calls still))
+    (0, omega arith, no_calls (calls store))
+
+pub all_up_to : (old now : Option ℕ) (opened writes : ℕ) → Calls old now opened
+    → CallsUpTo old now (opened + writes)
+all_up_to old now opened writes made = (opened, omega arith, made)
+
+pub exactly : (old now : Option ℕ) (made : ℕ) → Calls old now made → CallsUpTo old now made
+exactly old now made calls = (made, omega arith, calls)
+
+-- what reading files leaves, whatever comes of it
+pub cause_up_to : (old now : Option ℕ) (opened writes : ℕ) (cause : Cause)
+    → CauseOpens old now opened cause → CallsUpTo old now (opened + writes)
+cause_up_to old now opened writes ReadFault opens =
+    up_to_more old now opened (opened + writes) (omega arith) opens
+cause_up_to old now opened writes OutOfMemory opens =
+    up_to_more old now opened (opened + writes) (omega arith) opens
+cause_up_to old now opened writes cause opens = all_up_to old now opened writes opens
+
+pub file_calls : (old now : Option ℕ) (opened writes : ℕ) (cause : Cause) → IsFileCause cause
+    → CauseOpens old now opened cause → CallsMade old now opened writes cause
+file_calls old now opened writes Done kind opens = absurd kind
+file_calls old now opened writes (WalkErrors count) kind opens = absurd kind
+file_calls old now opened writes (Differs count) kind opens = absurd kind
+file_calls old now opened writes WriteFault kind opens = absurd kind
+file_calls old now opened writes ReadFault kind opens = opens
+file_calls old now opened writes OutOfMemory kind opens =
+    cause_up_to old now opened writes OutOfMemory opens
+file_calls old now opened writes cause kind opens = opens
+
+pub input_calls : (old now : Option ℕ) (opened writes : ℕ) (cause : Cause) → IsInputCause cause
+    → Calls old now opened → CallsMade old now opened writes cause
+input_calls old now opened writes Done kind made = absurd kind
+input_calls old now opened writes (WalkErrors count) kind made = absurd kind
+input_calls old now opened writes (Differs count) kind made = absurd kind
+input_calls old now opened writes WriteFault kind made = absurd kind
+input_calls old now opened writes ReadFault kind made = (opened, omega arith, made)
+input_calls old now opened writes OutOfMemory kind made = all_up_to old now opened writes made
+input_calls old now opened writes cause kind made = made
+
+pub written_calls : (old now : Option ℕ) (opened writes : ℕ) (cause : Cause) → IsWritten cause
+    → Calls old now (opened + writes) → CallsMade old now opened writes cause
+written_calls old now opened writes Done kind made = made
+written_calls old now opened writes (WalkErrors count) kind made = made
+written_calls old now opened writes (Differs count) kind made = made
+written_calls old now opened writes WriteFault kind made = made
+written_calls old now opened writes cause kind made = absurd kind
+
+pub writes_named : (saved : Option Saved) → writes_of saved ≡ writes_of (option_map saved_name saved)
+writes_named None = refl
+writes_named (Some saved) = refl
+
+pub none_named : (saved : Option Saved) → option_map saved_name saved ≡ None → saved ≡ None
+none_named None is = refl
+none_named (Some saved) is = absurd (cc)
+
+-- ---- counts of the sink
+
+pub line_later : {O : Type 0} (written : O → Option (List ℕ)) (faults : O → ℕ) (old new : O)
+    (line : List ℕ) → LineOrFront written faults old new line → faults old ≤ faults new
+line_later written faults old new line (inl whole) = omega (arith, whole.1)
+line_later written faults old new line (inr front) = front.1
+
+pub reported_written : (cause : Cause) → IsReported cause → IsWritten cause
+reported_written WriteFault reported = tt
+reported_written cause reported = reported
 
 -- ---- what is saved
 

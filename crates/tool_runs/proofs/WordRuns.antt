@@ -8,6 +8,7 @@ use Rattle.label_base.specs.declared.fault.Fault.TheVariants as faults
 use Rattle.input_output.specs.Store.{Files}
 use Rattle.file_roles.specs.declared.list.NamedFile.{NamedFile}
 use Rattle.find_records.specs.Record.{Record}
+use Rattle.find_records.specs.declared.format.Format.{Format}
 use Rattle.tool_words.specs.declared.usage.Usage.{Usage}
 use Rattle.tool_words.specs.declared.usage.UsageWhy.{UsageWhy}
 use Rattle.run_faults.specs.Causes.{Explained, IsWritten, words_cause}
@@ -15,24 +16,26 @@ use Rattle.run_faults.specs.Faults.{fault_line}
 use Rattle.run_faults.specs.declared.cause.Cause.{Cause}
 use Rattle.run_faults.specs.declared.cause.Cause.TheVariants as causes
 use Rattle.run_faults.specs.declared.cause.Cause.TheVariants.{ReadFault, OutOfMemory}
+use Rattle.run_input.specs.Files.{FilesSay}
 use Rattle.run_input.proofs.ReadsLemmas.{all_some}
 use Rattle.run_endings.specs.Endings.{LineOrFront}
 use Rattle.run_endings.specs.declared.ending.Ending.{Ending}
 use Rattle.tool_runs.specs.Plan.{Plan, plan_by, planned}
 use Rattle.tool_runs.specs.Run.{Run}
 use Rattle.tool_runs.proofs.MemoryRuns.{given_up_early}
-use Rattle.tool_runs.proofs.PartLemmas.{ends_explained}
+use Rattle.tool_runs.proofs.PartLemmas.{ends_explained, line_later, reported_written}
 
 same_usage : (a b : Usage) → a.index ≡ b.index → a.why ≡ b.why → a ≡ b
 same_usage a b index why =
     ap (λ (i : ℕ). record { index = i; why = a.why }) index
     ∙ ap (λ (w : UsageWhy). record { index = b.index; why = w }) why
 
-module _ {S I O : Type 0} (files : S → Option Files) (read_faults write_faults : S → ℕ)
+module _ {S I O : Type 0} (files : S → Option Files) (calls : S → Option ℕ)
+    (read_faults write_faults : S → ℕ)
     (left : I → Option (List ℕ)) (input_faults : I → ℕ) (written : O → Option (List ℕ))
     (out_faults : O → ℕ) (store : S) (input : I) (out out_now : O) where
   abbrev Ended : Result Plan Usage → Cause → Type 0
-  Ended asked = Run files read_faults write_faults left input_faults written out_faults asked
+  Ended asked = Run files calls read_faults write_faults left input_faults written out_faults asked
       store store input input out out_now
 
   abbrev Line : Cause → Type 0
@@ -50,6 +53,8 @@ module _ {S I O : Type 0} (files : S → Option Files) (read_faults write_faults
         only_wrong_words = λ other is. ap Err (only other is);
         no_records = tt;
         files_decide = tt;
+        calls_made = tt;
+        no_files = tt;
         is_meant = all_some (files store) (λ known.
             ends_explained files written store out out_now known
             (Err (causes.Usage wrong.index wrong.why)) cause unwritten explained);
@@ -64,6 +69,8 @@ module _ {S I O : Type 0} (files : S → Option Files) (read_faults write_faults
         write_counts = omega arith;
         no_read_failed = λ _. (refl, refl);
         no_write_failed = λ _. refl;
+        sink_counts = line_later written out_faults out out_now _ line;
+        no_report_failed = λ reported. absurd (unwritten (reported_written cause reported));
       }
     where
       all_known : (found : Option Files) → IfSome found (λ known. found ≡ Some known)
@@ -76,8 +83,8 @@ module _ {S I O : Type 0} (files : S → Option Files) (read_faults write_faults
       refused_words wrong (causes.Usage wrong.index wrong.why) (inl refl) (λ written. written)
       (λ is. absurd (cc)) refl (λ other is. same_usage wrong other (cc) (cc)) line
 
-  module _ {W R : Type 0} (reads : W → List NamedFile) (takes soft : W → Bool)
-      (output : W → Option (List ℕ)) (read : W → Files → Result R Cause)
+  module _ {W R : Type 0} (reads : W → List NamedFile) (takes : W → Option Format) (soft : W → Bool)
+      (output : W → Option (List ℕ)) (read : W → Files → FilesSay R)
       (answered : W → R → List Record → Result Ending Cause) where
     abbrev plan : W → Plan
     plan w = plan_by (reads w) (takes w) (soft w) (output w) (read w) (answered w)
@@ -89,7 +96,7 @@ module _ {S I O : Type 0} (files : S → Option Files) (read_faults write_faults
         (λ written. written) (λ is. absurd (cc)) tt (λ other is. absurd (cc))
         (subst Line is line))
     no_memory (Ok w) cause is line =
-        given_up_early files read_faults write_faults left input_faults written out_faults
+        given_up_early files calls read_faults write_faults left input_faults written out_faults
         (reads w) (takes w) (soft w) (output w) (read w) (answered w) store store input input out
         out_now cause is refl refl (subst Line is line)
 
@@ -114,19 +121,20 @@ module _ {S I O : Type 0} (files : S → Option Files) (read_faults write_faults
         subst (Ended (planned plan meant)) (sym same)
         (ended_by_words meant fault given explains is line)
 
-module _ {S I O W : Type 0} (files : S → Option Files) (read_faults write_faults : S → ℕ)
+module _ {S I O W : Type 0} (files : S → Option Files) (calls : S → Option ℕ)
+    (read_faults write_faults : S → ℕ)
     (left : I → Option (List ℕ)) (input_faults : I → ℕ) (written : O → Option (List ℕ))
     (out_faults : O → ℕ) (store store_now : S) (input input_now : I) (out out_now : O)
     (plan : W → Plan) where
   -- a tool was run, and its cause handed on
   pub ended_tool : (meant : Result W Usage) (w : W) (given cause : Cause) → cause ≡ given
       → meant ≡ Ok w
-      → Run files read_faults write_faults left input_faults written out_faults (Ok (plan w))
+      → Run files calls read_faults write_faults left input_faults written out_faults (Ok (plan w))
       store store_now input input_now out out_now given
-      → Run files read_faults write_faults left input_faults written out_faults
+      → Run files calls read_faults write_faults left input_faults written out_faults
       (planned plan meant) store store_now input input_now out out_now cause
   ended_tool meant w given cause same is ran =
-      subst (λ (k : Cause). Run files read_faults write_faults left input_faults written out_faults
+      subst (λ (k : Cause). Run files calls read_faults write_faults left input_faults written out_faults
       (planned plan meant) store store_now input input_now out out_now k) (sym same)
-      (subst (λ (m : Result W Usage). Run files read_faults write_faults left input_faults written
+      (subst (λ (m : Result W Usage). Run files calls read_faults write_faults left input_faults written
       out_faults (planned plan m) store store_now input input_now out out_now given) (sym is) ran)

@@ -1,14 +1,15 @@
 -- What a run of a tool says and does, over any store, input and sink.
-use Rattle.std.specs.Prelude.{◌≡◌, ℕ, ◌≤◌, true, false, List, [], Option, Some, None, is_some, Result, Ok, Err, IsOk, IfErr, IfOk, IfSome, ◌⊎◌}
+use Rattle.std.specs.Prelude.{◌≡◌, ℕ, ◌+◌, ◌≤◌, true, List, [], Option, Some, None, is_some, IsSome, Result, Ok, Err, IsOk, IfErr, IfOk, IfSome, ◌⊎◌}
 use Rattle.std.specs.FinMap as map
 use Rattle.std.specs.Io.KnownBytes.{Appends}
 use Rattle.input_output.specs.Sink.{AppendsFront}
 use Rattle.input_output.specs.Source.{Rose}
-use Rattle.input_output.specs.Store.{Files}
+use Rattle.input_output.specs.Store.{Calls, Files}
 use Rattle.tool_words.specs.declared.usage.Usage.{Usage}
 use Rattle.tool_runs.specs.Plan.{Plan, answer_in, input_in, output_in, reads_in}
-use Rattle.run_faults.specs.Causes.{Explained, IsFileCause, IsReadingCause, IsWritten}
-use Rattle.run_endings.specs.Endings.{LineOrFront, cause_of}
+use Rattle.run_faults.specs.Causes.{Explained, IsFileCause, IsReadingCause, IsReported, IsWritten}
+use Rattle.run_endings.specs.Endings.{LineOrFront, cause_of, writes_of}
+use Rattle.run_input.specs.Files.{CallsUpTo}
 use Rattle.run_faults.specs.Faults.{fault_line}
 use Rattle.run_faults.specs.declared.cause.Cause.{Cause}
 use Rattle.run_faults.specs.declared.cause.Cause.TheVariants as causes
@@ -81,6 +82,18 @@ Ends files written store out out_now known meant cause = Explained meant cause
 
 -- ---- failed reads and writes
 
+-- The calls of the store: each file that is to be opened is, in its turn, and no other, and one is
+-- written where that is asked for. A failed read, in the store or later, comes at a file that is to be
+-- opened, or behind all of them: no file before it is refused.
+abbrev pub CallsMade : Option ℕ → Option ℕ → (opened writes : ℕ) → Cause → Type 0
+CallsMade old now opened writes ReadFault = CallsUpTo old now opened
+CallsMade old now opened writes OutOfMemory = CallsUpTo old now (opened + writes)
+CallsMade old now opened writes WriteFault = Calls old now (opened + writes)
+CallsMade old now opened writes Done = Calls old now (opened + writes)
+CallsMade old now opened writes (WalkErrors count) = Calls old now (opened + writes)
+CallsMade old now opened writes (Differs count) = Calls old now (opened + writes)
+CallsMade old now opened writes cause = Calls old now opened
+
 -- a read of a file failed, before the input was touched
 abbrev pub FileFailed : ℕ → ℕ → Type 0 → Type 0
 FileFailed store store_now untouched = Rose store store_now × untouched
@@ -111,7 +124,8 @@ pub record LosesReport {S O : Type 0} (files : S → Option Files) (written : O 
 
 -- A run: what its words ask for, or the first wrong one, and the store, the input and the sink before
 -- and after it, as far as they are known.
-pub record Run {S I O : Type 0} (files : S → Option Files) (read_faults write_faults : S → ℕ)
+pub record Run {S I O : Type 0} (files : S → Option Files) (calls : S → Option ℕ)
+    (read_faults write_faults : S → ℕ)
     (left : I → Option (List ℕ)) (input_faults : I → ℕ)
     (written : O → Option (List ℕ)) (out_faults : O → ℕ)
     (asked : Result Plan Usage) (store store_now : S) (input input_now : I) (out out_now : O)
@@ -122,11 +136,17 @@ pub record Run {S I O : Type 0} (files : S → Option Files) (read_faults write_
   pub only_wrong_words : (wrong : Usage)
       → cause ≡ causes.Usage wrong.index wrong.why → asked ≡ Err wrong
   -- A command that takes no records leaves the input alone.
-  pub no_records : IfOk asked (λ plan. plan.takes_records ≡ false → input_now ≡ input)
+  pub no_records : IfOk asked (λ plan. plan.records ≡ None → input_now ≡ input)
   -- A refused file is known as such, before the input is touched. Any later end means that all
   -- files are accepted.
   pub files_decide : IfOk asked (λ plan. IfSome (files store) (λ known.
       FilesDecide (plan.refused known) cause (input_now ≡ input)))
+  -- The files that are opened are those that are meant to be, up to the first refusal, and one more
+  -- call of the store writes, where that is asked for. A run that reads and writes no file leaves
+  -- the store as it was.
+  pub calls_made : IfOk asked (λ plan. IfSome (files store) (λ known.
+      CallsMade (calls store) (calls store_now) (plan.opened known) (writes_of plan.output) cause))
+  pub no_files : IfOk asked (λ plan. plan.reads ≡ [] → plan.output ≡ None → store_now ≡ store)
   -- The end is the one that is meant: after a report the sink gained it and the store's files have
   -- the dump.
   pub is_meant : IfSome (files store) (λ known. IfSome (input_in asked (left input)) (λ bytes.
@@ -139,7 +159,7 @@ pub record Run {S I O : Type 0} (files : S → Option Files) (read_faults write_
   pub fault_line_written : (IsWritten cause → ⊥)
       → LineOrFront written out_faults out out_now (fault_line (reads_in asked) cause)
   -- Where dump or report are written, the records were read to their end.
-  pub all_read : IsWritten cause → IfOk asked (λ plan. plan.takes_records ≡ true
+  pub all_read : IsWritten cause → IfOk asked (λ plan. IsSome plan.records
       → IfSome (left input) (λ bytes. left input_now ≡ Some []))
   -- A read failed in the store with the input untouched, or in the input with all files accepted.
   pub read_failed : cause ≡ ReadFault
@@ -160,3 +180,6 @@ pub record Run {S I O : Type 0} (files : S → Option Files) (read_faults write_
   pub no_read_failed : (IsReadingCause cause → ⊥)
       → (read_faults store_now ≡ read_faults store) × (input_faults input_now ≡ input_faults input)
   pub no_write_failed : (cause ≡ WriteFault → ⊥) → write_faults store_now ≡ write_faults store
+  -- So does that of the sink, and after a whole report it is as before.
+  pub sink_counts : out_faults out ≤ out_faults out_now
+  pub no_report_failed : IsReported cause → out_faults out_now ≡ out_faults out

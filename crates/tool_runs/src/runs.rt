@@ -1,8 +1,9 @@
-ghost use Rattle.std.specs.Prelude.{◌≡◌, ◌<◌, ◌^◌, IfOk, Ok, Result, length};
+ghost use Rattle.std.specs.Prelude.{◌≡◌, ◌<◌, ◌^◌, [], IfOk, Ok, Result, length};
 ghost use Rattle.label_base.specs.Answers.{Answers, cause_of};
 ghost use Rattle.tool_words.specs.declared.usage.Usage.{Usage};
 ghost use Rattle.run_faults.specs.Faults.{status_of};
 ghost use Rattle.run_input.specs.Files.{Reads};
+ghost use Rattle.run_input.specs.Records.{AreTaken};
 ghost use Rattle.tool_runs.specs.Plan.{is_soft_in, plan_by, planned};
 ghost use Rattle.tool_runs.specs.Run.{Run};
 ghost use Rattle.tool_runs.specs.Stages.{Ended};
@@ -31,8 +32,9 @@ fn end_run<T: Tool, S: Store, O: Sink>(
 ) -> Cause
     requires fit { T.IsFit tool.now }
     requires tree { length tree.now < 2 ^ 31 }
+    requires of_format { AreTaken (T.records tool.now) tree.now }
     requires list { list.now ≡ T.reads tool.now }
-    ensures { Ended S.files S.read_faults S.write_faults O.written O.faults (T.reads tool.now)
+    ensures { Ended S.files S.calls S.read_faults S.write_faults O.written O.faults (T.reads tool.now)
         (T.output tool.now) (T.answered tool.now found.now tree.now) store.old store.new
         out.old out.new result }
 {
@@ -60,14 +62,15 @@ fn run_found<T: Tool, S: Store, I: Source, O: Sink>(
     requires fit { T.IsFit tool.now }
     requires list { list.now ≡ T.reads tool.now }
     ensures { (before : S)
-        → Reads S.files S.read_faults S.write_faults (T.files_say tool.now) before store.old
+        → Reads S.files S.calls S.read_faults S.write_faults (T.files_say tool.now) before store.old
         (Ok found.now)
-        → Run S.files S.read_faults S.write_faults I.left I.faults O.written O.faults
-        (Ok (plan_by (T.reads tool.now) (T.takes_records tool.now) (T.is_soft tool.now)
+        → (T.reads tool.now ≡ [] → store.old ≡ before)
+        → Run S.files S.calls S.read_faults S.write_faults I.left I.faults O.written O.faults
+        (Ok (plan_by (T.reads tool.now) (T.records tool.now) (T.is_soft tool.now)
         (T.output tool.now) (T.files_say tool.now) (T.answered tool.now)))
         before store.new input.old input.new out.old out.new result }
 {
-    let tree = match read_entries(alloc, tool.does_take_records(), input) {
+    let tree = match read_entries(alloc, tool.record_format(), input) {
         Ok(tree) => tree,
         Err(refusal) => return refuse(alloc, list, refusal, out),
     };
@@ -85,8 +88,8 @@ fn run_listed<T: Tool, S: Store, I: Source, O: Sink>(
 ) -> Cause
     requires fit { T.IsFit tool.now }
     requires list { list.now ≡ T.reads tool.now }
-    ensures { Run S.files S.read_faults S.write_faults I.left I.faults O.written O.faults
-        (Ok (plan_by (T.reads tool.now) (T.takes_records tool.now) (T.is_soft tool.now)
+    ensures { Run S.files S.calls S.read_faults S.write_faults I.left I.faults O.written O.faults
+        (Ok (plan_by (T.reads tool.now) (T.records tool.now) (T.is_soft tool.now)
         (T.output tool.now) (T.files_say tool.now) (T.answered tool.now)))
         store.old store.new input.old input.new out.old out.new result }
 {
@@ -106,8 +109,8 @@ fn run_tool<T: Tool, S: Store, I: Source, O: Sink>(
     out: &mut O,
 ) -> Cause
     requires fit { T.IsFit tool.now }
-    ensures { Run S.files S.read_faults S.write_faults I.left I.faults O.written O.faults
-        (Ok (plan_by (T.reads tool.now) (T.takes_records tool.now) (T.is_soft tool.now)
+    ensures { Run S.files S.calls S.read_faults S.write_faults I.left I.faults O.written O.faults
+        (Ok (plan_by (T.reads tool.now) (T.records tool.now) (T.is_soft tool.now)
         (T.output tool.now) (T.files_say tool.now) (T.answered tool.now)))
         store.old store.new input.old input.new out.old out.new result }
 {
@@ -131,11 +134,11 @@ pub fn run_words<T: Tool + Drop, S: Store, I: Source, O: Sink>(
     requires fit { IfOk words (λ tool. T.IsFit tool) }
     ensures status { (meant : Result T Usage) → Answers (λ tool. tool) cause_of words meant
         → result.status ≡ status_of (is_soft_in (planned (λ tool. plan_by (T.reads tool)
-        (T.takes_records tool) (T.is_soft tool) (T.output tool) (T.files_say tool) (T.answered tool))
+        (T.records tool) (T.is_soft tool) (T.output tool) (T.files_say tool) (T.answered tool))
         meant)) result.cause }
     ensures run { (meant : Result T Usage) → Answers (λ tool. tool) cause_of words meant
-        → Run S.files S.read_faults S.write_faults I.left I.faults O.written O.faults
-        (planned (λ tool. plan_by (T.reads tool) (T.takes_records tool) (T.is_soft tool)
+        → Run S.files S.calls S.read_faults S.write_faults I.left I.faults O.written O.faults
+        (planned (λ tool. plan_by (T.reads tool) (T.records tool) (T.is_soft tool)
         (T.output tool) (T.files_say tool) (T.answered tool)) meant)
         store.old store.new input.old input.new out.old out.new result.cause }
 {

@@ -50,7 +50,7 @@ fn dump_in(alloc: Global, bytes: &Bytes) -> Result<Dump, Cause>
 
 // Reads the file of the stored digests.
 fn read_dump<S: Store>(alloc: Global, list: &FileList, store: &mut S) -> Result<Dump, Cause>
-    ensures { Reads S.files S.read_faults S.write_faults (stored_dump list.now)
+    ensures { Reads S.files S.calls S.read_faults S.write_faults (stored_dump list.now)
         store.old store.new result }
 {
     let role = FileRole {
@@ -68,7 +68,7 @@ fn read_stored<S: Store>(
     list: &FileList,
     store: &mut S,
 ) -> Result<Dump, Cause>
-    ensures { Reads S.files S.read_faults S.write_faults (stored_for words.now list.now)
+    ensures { Reads S.files S.calls S.read_faults S.write_faults (stored_for words.now list.now)
         store.old store.new result }
 {
     match &words.kept {
@@ -88,7 +88,7 @@ pub fn read_found<S: Store>(
     list: &FileList,
     store: &mut S,
 ) -> Result<RelabelFiles, Cause>
-    ensures { Reads S.files S.read_faults S.write_faults (found_for words.now list.now)
+    ensures { Reads S.files S.calls S.read_faults S.write_faults (found_for words.now list.now)
         store.old store.new result }
 {
     let rules = read_rules(alloc, list, store)?;

@@ -5,6 +5,7 @@ use crate::answer::answer_of;
 use crate::found::{RelabelFiles, read_found};
 use crate::words::RelabelWords;
 use file_roles::{FileList, FileRole, Part};
+use find_records::Format;
 use input_output::Store;
 use label_base::{Name, OutOfMemory};
 use policy_files::{add_policy, add_types};
@@ -28,7 +29,8 @@ fn add_stored(alloc: Global, stored: &Option<Name>, list: &mut FileList) -> Resu
 }
 
 impl Tool for RelabelWords {
-    ghost use Rattle.std.specs.Prelude.{◌<◌, ◌^◌, Ok, length, true};
+    ghost use Rattle.std.specs.Prelude.{◌<◌, ◌^◌, Ok, Some, length};
+    ghost use Rattle.find_records.specs.declared.format.Format.TheVariants.{One};
     ghost use Rattle.tree_relabelling.specs.Answer.{answer_of};
     ghost use Rattle.tree_relabelling.specs.Found.{found_for};
     ghost use Rattle.tree_relabelling.specs.Plan.{relabel_names};
@@ -37,7 +39,7 @@ impl Tool for RelabelWords {
 
     ghost reads = { relabel_names };
 
-    ghost takes_records = { λ words. true };
+    ghost records = { λ words. Some One };
 
     ghost is_soft = { λ words. words.soft_errors };
 
@@ -57,8 +59,8 @@ impl Tool for RelabelWords {
         Ok(list)
     }
 
-    fn does_take_records(&self) -> bool {
-        true
+    fn record_format(&self) -> Option<Format> {
+        Some(Format::One)
     }
 
     fn has_soft_errors(&self) -> bool {

@@ -3,4 +3,4 @@ use Rattle.relabel_program.proofs.runs.plain.Goals as goal
 
 pub returns-clause-complete : goal.returns-clause-complete
 returns-clause-complete g c =
-    complete _ _ _ _ _ _ _ _ _ _ _ _ _ _ _ _ c.run_asked.ensures.status c.run_asked.ensures.run
+    complete _ _ _ _ _ _ _ _ _ _ _ _ _ _ _ _ _ c.run_asked.ensures.status c.run_asked.ensures.run

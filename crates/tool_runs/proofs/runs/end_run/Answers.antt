@@ -19,7 +19,8 @@ pub returns-in-Ok-save : goal.returns-in-Ok-save
 returns-in-Ok-save g c =
     let saved = c.in-Ok-save.ensures in
     let made = c.in-Ok.ensures in
-    saves_file c.in-Ok.ending made.meant made.saved saved.files saved.counts saved.reads
+    saves_file c.in-Ok.ending made.meant made.saved saved.files saved.calls saved.unasked
+    saved.counts saved.reads
     c.finish.ensures
 
 pub returns-in-Err-Failed : goal.returns-in-Err-Failed
@@ -27,7 +28,8 @@ returns-in-Err-Failed g c =
     let files = rw c.in-Err-Failed.field-0-is at c.in-Err-Failed.ensures.files in
     let counts = rw c.in-Err-Failed.field-0-is at c.in-Err-Failed.ensures.counts in
     let made = c.in-Ok.ensures in
-    loses_file c.in-Ok.ending c.lose_dump.ensures.cause made.meant made.saved files counts
+    loses_file c.in-Ok.ending c.lose_dump.ensures.cause made.meant made.saved files
+    c.in-Err-Failed.ensures.calls c.in-Err-Failed.ensures.unasked counts
     c.in-Err-Failed.ensures.reads (c.lose_dump.ensures.line (g.T.Tool.reads c.args.tool.now))
 
 pub returns : goal.returns
@@ -35,6 +37,7 @@ returns g c =
     let files = rw c.in-Err-OutOfMemory.field-0-is at c.in-Err-OutOfMemory.ensures.files in
     let counts = rw c.in-Err-OutOfMemory.field-0-is at c.in-Err-OutOfMemory.ensures.counts in
     let made = c.in-Ok.ensures in
-    saves_nothing c.in-Ok.ending c.give_up.ensures.cause made.meant made.saved files counts
+    saves_nothing c.in-Ok.ending c.give_up.ensures.cause made.meant made.saved files
+    c.in-Err-OutOfMemory.ensures.calls c.in-Err-OutOfMemory.ensures.unasked counts
     c.in-Err-OutOfMemory.ensures.reads
     (c.give_up.ensures.line (g.T.Tool.reads c.args.tool.now))

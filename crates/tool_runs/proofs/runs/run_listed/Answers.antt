@@ -4,9 +4,10 @@ use Rattle.tool_runs.proofs.runs.run_listed.Goals as goal
 
 pub returns-in-Err : goal.returns-in-Err
 returns-in-Err g c =
-    ended_by_file _ _ _ _ _ _ _ _ _ _ _ _ _ _ _ _ _ _ _ c.in-Err.refusal c.refuse.result
-    c.args.list.now c.refuse.ensures.cause c.requires.list c.in-Err.ensures refl
+    ended_by_file _ _ _ _ _ _ _ _ _ _ _ _ _ _ _ _ _ _ _ _ c.in-Err.refusal c.refuse.result
+    c.args.list.now c.refuse.ensures.cause c.requires.list c.in-Err.ensures.reads
+    c.in-Err.ensures.unread refl
     c.refuse.ensures.line
 
 pub returns : goal.returns
-returns g c = c.run_found.ensures _ c.in-Ok.ensures
+returns g c = c.run_found.ensures _ c.in-Ok.ensures.reads c.in-Ok.ensures.unread
