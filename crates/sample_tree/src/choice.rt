@@ -2,6 +2,7 @@ ghost use Rattle.std.specs.Prelude.{◌≡◌, IfOk};
 ghost use Rattle.sample_tree.specs.Choice.{sample_choice, sample_options};
 
 use file_paths::NormPath;
+use find_records::Format;
 use label_base::{OutOfMemory, Row};
 use relabel_core::Options;
 use std::alloc::Global;
@@ -34,5 +35,6 @@ pub fn sample_options() -> Options
         warn_unmatched: false,
         strict_links: false,
         ignore_absent: false,
+        format: Format::One,
     }
 }
