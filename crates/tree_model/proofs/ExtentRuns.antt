@@ -6,7 +6,7 @@ use Rattle.label_base.specs.Bounded.{all_below, implies}
 use Rattle.label_base.proofs.BoundedLemmas.{all_from, all_same}
 use Rattle.find_records.specs.Record.{Record}
 use Rattle.tree_model.specs.Extents.{EndsFrom, entry_at, extent_of, in_extent}
-use Rattle.tree_model.specs.Groups.{closed_at, group_of}
+use Rattle.tree_model.specs.Groups.{group_of, holds_groups}
 use Rattle.tree_model.specs.LiveLists.{stays_in}
 use Rattle.tree_model.specs.RunLists.{AreEnds, closed_run, in_run}
 use Rattle.tree_model.specs.Selection.{admits, stays_on}
@@ -98,8 +98,8 @@ module _ (entries : List Record) (up : ByPath entries) (ends : List ℕ) (kept :
       ap₂ (λ a b. a && b) (run_is o e l m) (stays_is o e l m)
       ∙ sym (ap₂ (λ a b. in_extent entries o e && ((a || (o == e)) && (not b || stays_on entries o e))) r d)
 
-  -- a closed run is a closed extent
-  pub closed_is : (d : ℕ) → d < length entries → closed_run (groups_of entries) ends d ≡ closed_at entries d
+  -- a closed run is an extent that holds all its groups
+  pub closed_is : (d : ℕ) → d < length entries → closed_run (groups_of entries) ends d ≡ holds_groups entries d
   closed_is d l =
       let groups = groups_of entries in
       ap (λ n. all_below n (λ e. implies (in_run ends d e) (all_below n (λ x. implies (get_or groups x 0 == get_or groups e 0) (in_run ends d x))))) (count_groups entries)

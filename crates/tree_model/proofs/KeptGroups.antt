@@ -3,10 +3,11 @@ use Rattle.std.proofs.Common.{◌≡◌, ◌∙◌, ap, ap₂, sym, refl, subst,
 use Rattle.std.proofs.lemmas.Bool.{cases_lt}
 use Rattle.find_records.specs.Record.{Record}
 use Rattle.std.specs.Prelude.{Some, slice_get}
+use Rattle.tree_model.specs.Counted.{AreClosedFrom}
 use Rattle.tree_model.specs.Extents.{EndsFrom, entry_at}
 use Rattle.tree_model.specs.GroupLists.{AreGroups, AreStarts, groups_behind, names_at, names_below}
 use Rattle.tree_model.specs.Groups.{group_of, groups_in, label_at, label_in, names_in}
-use Rattle.tree_model.specs.Kept.{KeepsGroups}
+use Rattle.tree_model.specs.Kept.{ListsGroups}
 use Rattle.tree_model.specs.Links.{inode_of}
 use Rattle.tree_model.specs.RunLists.{AreClosed}
 use Rattle.tree_model.specs.Tree.{ByPath}
@@ -32,19 +33,24 @@ are_groups entries groups count few h n =
       few = omega (arith, few, sized entries groups h);
     }
 
-pub kept_groups : (entries : List Record) (ends groups names starts : List ℕ) (closed : List Bool) (count : ℕ) → ByPath entries → EndsFrom 0 entries ends
-    → groups ≡ groups_behind [] (map inode_of entries) → count ≡ groups_in entries → names ≡ names_below groups count → AreStarts groups (count + 1) starts → AreClosed groups ends 0 closed
-    → KeepsGroups entries count groups names starts closed
-kept_groups entries ends groups names starts closed count up kept h n names_is starts_is closed_is_told =
+pub lists_groups : (entries : List Record) (groups names starts : List ℕ) (count : ℕ) → groups ≡ groups_behind [] (map inode_of entries) → count ≡ groups_in entries → names ≡ names_below groups count
+    → AreStarts groups (count + 1) starts → ListsGroups entries groups names starts
+lists_groups entries groups names starts count h n names_is starts_is = record {
+  groups_are = h;
+  names_are = names_is ∙ ap (names_below groups) n;
+  starts_are = subst (λ k. AreStarts groups (k + 1) starts) n starts_is;
+}
+
+-- which extents hold all their groups
+pub groups_held : (entries : List Record) (ends groups : List ℕ) (closed : List Bool) → ByPath entries → EndsFrom 0 entries ends → groups ≡ groups_behind [] (map inode_of entries)
+    → AreClosed groups ends 0 closed → AreClosedFrom entries (length entries) closed
+groups_held entries ends groups closed up kept h told =
     let same : groups_of entries ≡ groups = own entries ∙ sym h in
-    let flags : AreClosed (groups_of entries) ends 0 closed = subst (λ gs. AreClosed gs ends 0 closed) (sym same) closed_is_told in
+    let flags : AreClosed (groups_of entries) ends 0 closed = subst (λ gs. AreClosed gs ends 0 closed) (sym same) told in
     record {
-      total_is = n;
-      groups_are = h;
-      names_are = names_is ∙ ap (names_below groups) n;
-      starts_are = subst (λ k. AreStarts groups (k + 1) starts) n starts_is;
-      count = flags.sized ∙ count_groups entries;
-      closed_are = λ d l. flags.flags d (omega arith) (omega (arith, l, count_groups entries)) ∙ closed_is entries up ends kept d l;
+      sized = flags.sized ∙ count_groups entries;
+      before = λ d a l. flags.flags d (omega arith) (omega (arith, l, count_groups entries)) ∙ closed_is entries up ends kept d l;
+      behind = λ d a l. absurd (omega (arith, a, l));
     }
 
 -- the entries of one group stand together among those of all
@@ -99,7 +105,7 @@ part_of groups names starts count g from to h r l f t =
           ∙ take_front mine s.rest,
     )
 
-module _ (entries : List Record) (total : ℕ) (groups names starts : List ℕ) (closed : List Bool) (kept : KeepsGroups entries total groups names starts closed) where
+module _ (entries : List Record) (groups names starts : List ℕ) (kept : ListsGroups entries groups names starts) where
   same_groups : groups_of entries ≡ groups
   same_groups = own entries ∙ sym kept.groups_are
 
@@ -128,17 +134,17 @@ pub record IsPart (entries : List Record) (names starts : List ℕ) (g : ℕ) : 
   pub within : get_or starts (g + 1) 0 ≤ length names
   pub value : take (get_or starts (g + 1) 0 - get_or starts g 0) (drop (get_or starts g 0) names) ≡ names_in entries g
 
-part_here : (entries : List Record) (total : ℕ) (groups names starts : List ℕ) (closed : List Bool) → KeepsGroups entries total groups names starts closed → (g : ℕ) → g < groups_in entries → IsPart entries names starts g
-part_here entries total groups names starts closed kept g l =
-    let t = names_told entries total groups names starts closed kept g (get_or starts g 0) (get_or starts (g + 1) 0) l refl refl in
+pub part_here : (entries : List Record) (groups names starts : List ℕ) → ListsGroups entries groups names starts → (g : ℕ) → g < groups_in entries → IsPart entries names starts g
+part_here entries groups names starts kept g l =
+    let t = names_told entries groups names starts kept g (get_or starts g 0) (get_or starts (g + 1) 0) l refl refl in
     record { known = omega (arith, l, kept.starts_are.sized); order = t.0; within = t.1; value = t.2 }
 
-pub part_is : (entries now : List Record) (total : ℕ) (groups names starts names' starts' : List ℕ) (closed : List Bool) → entries ≡ now → names' ≡ names → starts' ≡ starts
-    → KeepsGroups entries total groups names starts closed → (g : ℕ) → g < groups_in now → IsPart now names' starts' g
-part_is entries now total groups names starts names' starts' closed same n s kept g l =
+pub part_is : (entries now : List Record) (groups names starts names' starts' : List ℕ) → entries ≡ now → names' ≡ names → starts' ≡ starts
+    → ListsGroups entries groups names starts → (g : ℕ) → g < groups_in now → IsPart now names' starts' g
+part_is entries now groups names starts names' starts' same n s kept g l =
     subst (λ ns. IsPart now ns starts' g) (sym n)
     (subst (λ ss. IsPart now names ss g) (sym s)
-    (part_here now total groups names starts closed (subst (λ es. KeepsGroups es total groups names starts closed) same kept) g l))
+    (part_here now groups names starts (subst (λ es. ListsGroups es groups names starts) same kept) g l))
 
 -- the label of the first entry is the group's
 pub label_first : (entries : List Record) (g first : ℕ) (names : List ℕ) (r : Record) → g < groups_in entries → names ≡ names_in entries g → first ≡ get_or names 0 0 → slice_get entries first ≡ Some r

@@ -18,7 +18,7 @@ use Rattle.find_records.specs.Record.{Record}
 use Rattle.tree_model.specs.Entries.{same_path}
 use Rattle.tree_model.specs.Extents.{entry_at, extent_of, in_extent, is_above, is_directory, one_behind, parent_of}
 use Rattle.tree_model.specs.GroupLists.{AreStarts, groups_behind, names_below}
-use Rattle.tree_model.specs.Groups.{closed_at, group_of, groups_in, inodes_behind, inodes_of}
+use Rattle.tree_model.specs.Groups.{closed_at, group_of, groups_in, has_names, is_met, inodes_behind, inodes_of}
 use Rattle.tree_model.specs.Jobs.{directories_in}
 use Rattle.tree_model.specs.Kept.{IsKept}
 use Rattle.tree_model.specs.Labelled.{DifferInLabels, labelled, labelled_at}
@@ -82,12 +82,12 @@ abbrev admitted_if : Bool → Bool → Bool → Bool → Bool
 admitted_if inside chosen one_device stays = inside && (chosen && (not one_device || stays))
 
 module _ (old new : List Record) (count : length new ≡ length old) (paths : (e : ℕ) → (entry_at new e).path ≡ (entry_at old e).path) (kinds : (e : ℕ) → (entry_at new e).kind ≡ (entry_at old e).kind)
-    (inodes : (e : ℕ) → inode_of (entry_at new e) ≡ inode_of (entry_at old e)) where
+    (inodes : (e : ℕ) → inode_of (entry_at new e) ≡ inode_of (entry_at old e)) (links : (e : ℕ) → (entry_at new e).links ≡ (entry_at old e).links) where
   insides : in_extent new ≡ in_extent old
   insides = fun_ext (λ d. fun_ext (λ e i. at_or_below (paths e i) (paths d i)))
 
   directories : (d : ℕ) → is_directory new d ≡ is_directory old d
-  directories d = ap (λ k. is_directory (record { kind = k; device = 0; inode = 0; label = Absent; path = [] } ∷ []) 0) (kinds d)
+  directories d = ap (λ k. is_directory (record { kind = k; device = 0; inode = 0; links = None; label = Absent; path = [] } ∷ []) 0) (kinds d)
 
   aboves : is_above new ≡ is_above old
   aboves = fun_ext (λ e. fun_ext (λ d i. directories d i && strictly_below (paths e i) (paths d i)))
@@ -120,8 +120,13 @@ module _ (old new : List Record) (count : length new ≡ length old) (paths : (e
   own_directories : directories_in new ≡ directories_in old
   own_directories = let same : is_directory new ≡ is_directory old = fun_ext directories in λ i. filter (same i) (all_numbers (count i))
 
+  names : (e : ℕ) → has_names new e ≡ has_names old e
+  names e i = directories e i || is_met (links e i) (length (filter (λ x. groups x i == groups e i) (all_numbers (count i))))
+
   closed : closed_at new ≡ closed_at old
-  closed = fun_ext (λ d i. all_below (count i) (λ e. implies (insides i d e) (all_below (count i) (λ x. implies (groups x i == groups e i) (insides i d x)))))
+  closed = fun_ext (λ d i.
+      all_below (count i) (λ e. implies (insides i d e) (all_below (count i) (λ x. implies (groups x i == groups e i) (insides i d x))))
+      && all_below (count i) (λ e. implies (insides i d e) (names e i)))
 
   founds : (path : Path) → find_in path new ≡ find_in path old
   founds path =
@@ -163,6 +168,7 @@ module _ (old new : List Record) (count : length new ≡ length old) (paths : (e
     count = count;
     paths = paths;
     kinds = kinds;
+    links = links;
     directories = directories;
     found = founds;
     parents = parents;
@@ -183,11 +189,13 @@ module _ (old new : List Record) (count : length new ≡ length old) (paths : (e
     };
     groups_are = record {
       total_is = t ∙ k.groups_are.total_is ∙ ap length (sym own_inodes);
-      groups_are = g ∙ k.groups_are.groups_are ∙ ap (groups_behind []) (sym (all_same inode_of inodes));
-      names_are = n ∙ k.groups_are.names_are ∙ sym (λ i. names_below (g i) (length (own_inodes i)));
-      starts_are = subst (λ gs. AreStarts gs (groups_in new + 1) has.starts.items) (sym g)
-          (subst (λ m. AreStarts had.group_of.items (m + 1) has.starts.items) (ap length (sym own_inodes))
-          (subst (AreStarts had.group_of.items (groups_in old + 1)) (sym s) k.groups_are.starts_are));
+      lists = record {
+        groups_are = g ∙ k.groups_are.lists.groups_are ∙ ap (groups_behind []) (sym (all_same inode_of inodes));
+        names_are = n ∙ k.groups_are.lists.names_are ∙ sym (λ i. names_below (g i) (length (own_inodes i)));
+        starts_are = subst (λ gs. AreStarts gs (groups_in new + 1) has.starts.items) (sym g)
+            (subst (λ m. AreStarts had.group_of.items (m + 1) has.starts.items) (ap length (sym own_inodes))
+            (subst (AreStarts had.group_of.items (groups_in old + 1)) (sym s) k.groups_are.lists.starts_are));
+      };
       count = ap length c ∙ k.groups_are.count ∙ sym count;
       closed_are = λ d l. ap (λ fs. get_or fs d false) c ∙ k.groups_are.closed_are d (omega (arith, l, count)) ∙ sym (ap (λ f. f d) closed);
     };
@@ -207,16 +215,16 @@ module _ (labels : List Label) (numbers : List ℕ) (entries : List Record) (cou
 
   pub with_tree : IsTree entries → IsTree new
   with_tree tree = record {
-    by_path = rises entries new (with_count labels numbers entries counted) (with_part (λ r. r.path) (λ l r. refl)) (with_part (λ r. r.kind) (λ l r. refl)) (with_part inode_of (λ l r. refl)) tree.by_path;
+    by_path = rises entries new (with_count labels numbers entries counted) (with_part (λ r. r.path) (λ l r. refl)) (with_part (λ r. r.kind) (λ l r. refl)) (with_part inode_of (λ l r. refl)) (with_part (λ r. r.links) (λ l r. refl)) tree.by_path;
     few = omega (arith, with_count labels numbers entries counted, tree.few);
   }
 
   pub with_differ : DifferInLabels entries new
-  with_differ = differ entries new (with_count labels numbers entries counted) (with_part (λ r. r.path) (λ l r. refl)) (with_part (λ r. r.kind) (λ l r. refl)) (with_part inode_of (λ l r. refl))
+  with_differ = differ entries new (with_count labels numbers entries counted) (with_part (λ r. r.path) (λ l r. refl)) (with_part (λ r. r.kind) (λ l r. refl)) (with_part inode_of (λ l r. refl)) (with_part (λ r. r.links) (λ l r. refl))
 
   pub with_kept : (ends ends' : List ℕ) (had has : Groups) (dirs dirs' : List ℕ) → ends' ≡ ends → dirs' ≡ dirs → has.total ≡ had.total → has.group_of.items ≡ had.group_of.items → has.names.items ≡ had.names.items
       → has.starts.items ≡ had.starts.items → has.closed.items ≡ had.closed.items → IsKept entries ends had dirs → IsKept new ends' has dirs'
-  with_kept = kept_too entries new (with_count labels numbers entries counted) (with_part (λ r. r.path) (λ l r. refl)) (with_part (λ r. r.kind) (λ l r. refl)) (with_part inode_of (λ l r. refl))
+  with_kept = kept_too entries new (with_count labels numbers entries counted) (with_part (λ r. r.path) (λ l r. refl)) (with_part (λ r. r.kind) (λ l r. refl)) (with_part inode_of (λ l r. refl)) (with_part (λ r. r.links) (λ l r. refl))
 
 -- numbers below a bound are places
 pub are_places : (count : ℕ) (numbers : List ℕ) → ((e : ℕ) → e < length numbers → get_or numbers e 0 < count) → ArePlaces count numbers

@@ -11,6 +11,9 @@ pub mod AboveLemmas
 pub mod ExtentLemmas
 pub mod ClosedLemmas
 pub mod LiveLemmas
+pub mod CountedLemmas
+pub mod FormatLemmas
+pub mod Sending
 pub mod MarkLemmas
 pub mod ExtentRuns
 pub mod ExcludeLemmas

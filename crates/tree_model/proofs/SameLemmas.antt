@@ -15,7 +15,7 @@ use Rattle.context_syntax.specs.Label.{same_label}
 use Rattle.context_syntax.specs.declared.label.Label.{Label}
 use Rattle.context_syntax.specs.declared.label.Label.TheVariants.{Absent, Odd, Is}
 use Rattle.find_records.specs.Record.{Record}
-use Rattle.tree_model.specs.Entries.{same_path, same_record, conflict}
+use Rattle.tree_model.specs.Entries.{same_links, same_path, same_record, conflict}
 
 pub path_exact : (a b : Path) → same_path a b ≡ true → a ≡ b
 path_exact a b h = (pointwise_decides bytes_decides a b).0 h
@@ -84,22 +84,34 @@ label_same Absent = refl
 label_same (Odd x) = (bytes_decides x x).1 refl
 label_same (Is x) = context_same x
 
+links_exact : (a b : Option ℕ) → same_links a b ≡ true → a ≡ b
+links_exact None None h = refl
+links_exact None (Some y) h = cc
+links_exact (Some x) None h = cc
+links_exact (Some x) (Some y) h = ap Some (eqb-true x y h)
+
+links_same : (a : Option ℕ) → same_links a a ≡ true
+links_same None = refl
+links_same (Some x) = eq-eqb x x refl
+
 pub record_exact : (a b : Record) → same_record a b ≡ true → a ≡ b
 record_exact a b h =
-    let p = and_parts ((a.inode == b.inode) && (a.device == b.device) && same_kind a.kind b.kind && same_label a.label b.label) (same_path a.path b.path) h in
-    let q = and_parts ((a.inode == b.inode) && (a.device == b.device) && same_kind a.kind b.kind) (same_label a.label b.label) p.0 in
-    let r = and_parts ((a.inode == b.inode) && (a.device == b.device)) (same_kind a.kind b.kind) q.0 in
+    let p = and_parts ((a.inode == b.inode) && (a.device == b.device) && same_kind a.kind b.kind && same_links a.links b.links && same_label a.label b.label) (same_path a.path b.path) h in
+    let q = and_parts ((a.inode == b.inode) && (a.device == b.device) && same_kind a.kind b.kind && same_links a.links b.links) (same_label a.label b.label) p.0 in
+    let t = and_parts ((a.inode == b.inode) && (a.device == b.device) && same_kind a.kind b.kind) (same_links a.links b.links) q.0 in
+    let r = and_parts ((a.inode == b.inode) && (a.device == b.device)) (same_kind a.kind b.kind) t.0 in
     let s = and_parts (a.inode == b.inode) (a.device == b.device) r.0 in
     let inode = eqb-true a.inode b.inode s.0 in
     let device = eqb-true a.device b.device s.1 in
     let kind = kind_exact a.kind b.kind r.1 in
+    let links = links_exact a.links b.links t.1 in
     let label = label_exact a.label b.label q.1 in
     let path = path_exact a.path b.path p.1 in
-    λ i. record { kind = kind i; device = device i; inode = inode i; label = label i; path = path i }
+    λ i. record { kind = kind i; device = device i; inode = inode i; links = links i; label = label i; path = path i }
 
 pub record_same : (a : Record) → same_record a a ≡ true
 record_same a =
-    and_from _ _ (and_from _ _ (and_from _ _ (and_from _ _ (eq-eqb a.inode a.inode refl) (eq-eqb a.device a.device refl)) (eq-eqb (kind_number a.kind) (kind_number a.kind) refl)) (label_same a.label)) (path_same a.path a.path refl)
+    and_from _ _ (and_from _ _ (and_from _ _ (and_from _ _ (and_from _ _ (eq-eqb a.inode a.inode refl) (eq-eqb a.device a.device refl)) (eq-eqb (kind_number a.kind) (kind_number a.kind) refl)) (links_same a.links)) (label_same a.label)) (path_same a.path a.path refl)
 
 pub conflict_itself : (a : Record) → conflict a a ≡ false
 conflict_itself a = rw (record_same a, path_same a.path a.path refl) refl

@@ -2,6 +2,7 @@
 -- paths.
 use Rattle.std.specs.Prelude.{ℕ, ◌+◌, Bool, ◌&&◌, ◌==◌, not, List, [], ◌∷◌, ◌++◌, length, Option, Some, None, Result, Ok, Err, if◌then◌else◌}
 use Rattle.std.specs.List.{list_any}
+use Rattle.std.specs.Option.{option_eq}
 use Rattle.std.specs.Cmp.Lexicographic.{pointwise}
 use Rattle.std.specs.declared.cmp.Ordering.{Ordering}
 use Rattle.std.specs.declared.cmp.Ordering.TheVariants.{Less, Equal, Greater}
@@ -14,13 +15,16 @@ use Rattle.find_records.specs.Record.{Record}
 abbrev pub same_path : Path → Path → Bool
 same_path = pointwise same_bytes
 
+abbrev pub same_links : Option ℕ → Option ℕ → Bool
+same_links = option_eq (λ a b. a == b)
+
 -- equal in every field
 abbrev pub same_record : Record → Record → Bool
 same_record a b =
     (a.inode == b.inode) && (a.device == b.device) && same_kind a.kind b.kind
-    && same_label a.label b.label && same_path a.path b.path
+    && same_links a.links b.links && same_label a.label b.label && same_path a.path b.path
 
--- one path, and another kind, device, inode or label
+-- one path, and another kind, device, inode, link count or label
 abbrev pub conflict : Record → Record → Bool
 conflict a b = same_path a.path b.path && not (same_record a b)
 
@@ -30,7 +34,7 @@ first_from n path [] = n
 first_from n path (r ∷ rs) = if same_path r.path path then n else first_from (n + 1) path rs
 
 -- with these records before: the first number with its path, and the number, of the first record whose
--- path an earlier one has with another kind, device, inode or label
+-- path an earlier one has with another kind, device, inode, link count or label
 abbrev pub doubled_after : List Record → List Record → Option (ℕ × ℕ)
 doubled_after earlier [] = None
 doubled_after earlier (r ∷ rs) =

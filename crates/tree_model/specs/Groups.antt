@@ -1,11 +1,11 @@
 -- Groups: the entries of one device and one inode. They are numbered by their first entries.
-use Rattle.std.specs.Prelude.{ℕ, Bool, ◌==◌, List, [], ◌∷◌, ◌++◌, length, map, filter, Option, Some, None, if◌then◌else◌}
+use Rattle.std.specs.Prelude.{ℕ, Bool, true, ◌==◌, ◌&&◌, ◌||◌, nat_le, List, [], ◌∷◌, ◌++◌, length, map, filter, Option, Some, None, if◌then◌else◌}
 use Rattle.std.specs.List.{list_any, position_or_len}
 use Rattle.label_base.specs.Bounded.{all_below, all_numbers, least_below, implies}
 use Rattle.context_syntax.specs.declared.label.Label.{Label}
 use Rattle.context_syntax.specs.declared.label.Label.TheVariants.{Absent}
 use Rattle.find_records.specs.Record.{Record}
-use Rattle.tree_model.specs.Extents.{entry_at, in_extent}
+use Rattle.tree_model.specs.Extents.{entry_at, in_extent, is_directory}
 use Rattle.tree_model.specs.Links.{inode_of, same_inode}
 
 -- one inode more behind the others, unless it is there
@@ -43,8 +43,29 @@ abbrev pub label_in : List Record → ℕ → Label
 label_in entries g = label_at entries (least_below (length entries) (λ e. group_of entries e == g))
 
 -- every group that has an entry at or below d has all its entries there
-abbrev pub closed_at : List Record → ℕ → Bool
-closed_at entries d =
+abbrev pub holds_groups : List Record → ℕ → Bool
+holds_groups entries d =
     all_below (length entries) (λ e. implies (in_extent entries d e)
     (all_below (length entries) (λ x.
     implies (group_of entries x == group_of entries e) (in_extent entries d x))))
+
+-- the link count, where there is one, tells of no more names than these
+abbrev pub is_met : Option ℕ → ℕ → Bool
+is_met None names = true
+is_met (Some links) names = nat_le links names
+
+-- the group of the entry has at least as many entries as the entry's link count; that of a directory
+-- counts no names
+abbrev pub has_names : List Record → ℕ → Bool
+has_names entries e =
+    is_directory entries e
+    || is_met (entry_at entries e).links (length (names_in entries (group_of entries e)))
+
+-- no entry at or below d has a name that isn't among the entries
+abbrev pub holds_names : List Record → ℕ → Bool
+holds_names entries d =
+    all_below (length entries) (λ e. implies (in_extent entries d e) (has_names entries e))
+
+-- all names of what lies at or below d lie there
+abbrev pub closed_at : List Record → ℕ → Bool
+closed_at entries d = holds_groups entries d && holds_names entries d

@@ -9,14 +9,17 @@ use Rattle.tree_model.specs.Links.{inode_of}
 use Rattle.tree_model.specs.Tree.{ByPath}
 use Rattle.tree_model.specs.declared.groups.Groups.{Groups}
 
--- how many groups there are, the group of each entry, the entries group by group, where those of each
--- begin, and which extents are closed
-pub record KeepsGroups (entries : List Record) (total : ℕ) (groups names starts : List ℕ)
-    (closed : List Bool) : Type 0 where
-  pub total_is : total ≡ groups_in entries
+-- the group of each entry, the entries group by group, and where those of each begin
+pub record ListsGroups (entries : List Record) (groups names starts : List ℕ) : Type 0 where
   pub groups_are : groups ≡ groups_behind [] (map inode_of entries)
   pub names_are : names ≡ names_below groups (groups_in entries)
   pub starts_are : AreStarts groups (groups_in entries + 1) starts
+
+-- how many groups there are, their lists, and which extents are closed
+pub record KeepsGroups (entries : List Record) (total : ℕ) (groups names starts : List ℕ)
+    (closed : List Bool) : Type 0 where
+  pub total_is : total ≡ groups_in entries
+  pub lists : ListsGroups entries groups names starts
   pub count : length closed ≡ length entries
   pub closed_are : (d : ℕ) → d < length entries → get_or closed d false ≡ closed_at entries d
 

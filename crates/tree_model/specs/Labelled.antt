@@ -27,6 +27,7 @@ pub record DifferInLabels (old new : List Record) : Type 0 where
   pub count : length new ≡ length old
   pub paths : (e : ℕ) → (entry_at new e).path ≡ (entry_at old e).path
   pub kinds : (e : ℕ) → (entry_at new e).kind ≡ (entry_at old e).kind
+  pub links : (e : ℕ) → (entry_at new e).links ≡ (entry_at old e).links
   pub directories : (e : ℕ) → is_directory new e ≡ is_directory old e
   pub found : (path : Path) → find_in path new ≡ find_in path old
   pub parents : (e : ℕ) → parent_of new e ≡ parent_of old e

@@ -1,3 +1,4 @@
+pub mod Counted
 pub mod Entries
 pub mod Numbered
 pub mod Runs

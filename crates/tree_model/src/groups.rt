@@ -1,6 +1,7 @@
-ghost use Rattle.std.specs.Prelude.{◌≡◌, ◌+◌, ◌-◌, ◌<◌, ◌≤◌, ◌^◌, ◌++◌, [], false, length, take, drop, map, get_or, IfOk, OnOk};
+ghost use Rattle.std.specs.Prelude.{◌≡◌, ◌+◌, ◌-◌, ◌<◌, ◌≤◌, ◌^◌, ◌++◌, ◌||◌, [], false, is_some, length, take, drop, map, get_or, IfOk, OnOk};
 ghost use Rattle.std.specs.List.{position_or_len};
 ghost use Rattle.tree_model.specs.GroupLists.{AreGroups, AreHeads, AreNext, AreStarts, groups_behind, names_at, names_below, next_at};
+ghost use Rattle.tree_model.specs.Counted.{AreUncounted};
 ghost use Rattle.tree_model.specs.Groups.{groups_in, with_inode};
 ghost use Rattle.tree_model.specs.Kept.{KeepsGroups};
 ghost use Rattle.tree_model.specs.Links.{inode_of, same_inode};
@@ -8,6 +9,7 @@ ghost use Rattle.tree_model.specs.Extents.{EndsFrom};
 ghost use Rattle.tree_model.specs.Tree.{ByPath};
 
 use crate::closed::closed_by;
+use crate::counted::clear_counted;
 use crate::sorted::Sorted;
 use indexmap::IndexSet;
 use label_base::OutOfMemory;
@@ -21,6 +23,8 @@ pub type Inode = (u64, u64);
 pub struct Numbering {
     pub group_of: Vec<u32>,
     pub count: u32,
+    /// Whether an entry has a link count.
+    pub counted: bool,
 }
 
 // The number of an inode, which is added behind the others if it is new.
@@ -33,6 +37,13 @@ fn number_of(seen: &mut IndexSet<Inode>, inode: Inode) -> Result<usize, OutOfMem
     Ok(number)
 }
 
+// Whether a link count was seen, or this is one.
+fn is_counted(counted: bool, links: Option<u64>) -> bool
+    ensures { result ≡ (counted || is_some links) }
+{
+    counted || links.is_some()
+}
+
 /// Numbers the groups by their first entries.
 pub fn number_groups(alloc: Global, sorted: &Sorted) -> Result<Numbering, OutOfMemory>
     ensures groups { IfOk result (λ numbering.
@@ -42,17 +53,22 @@ pub fn number_groups(alloc: Global, sorted: &Sorted) -> Result<Numbering, OutOfM
         length numbering.group_of.items ≡ length sorted.now) }
     ensures inside { IfOk result (λ numbering.
         AreGroups numbering.count numbering.group_of.items) }
+    ensures counted { IfOk result (λ numbering.
+        numbering.counted ≡ false → AreUncounted sorted.now) }
 {
     let mut group_of = Vec::with_capacity(alloc, sorted.len() as usize)?;
     let mut seen = IndexSet::with_capacity(alloc, sorted.len() as usize)?;
+    let mut counted = false;
     'entries: for e in 0..sorted.len() {
         let entry = sorted.entry(e);
         let group = number_of(&mut seen, (entry.device, entry.inode))?;
         group_of.push(group as u32)?;
+        counted = is_counted(counted, entry.links);
     }
     Ok(Numbering {
         group_of,
         count: seen.len() as u32,
+        counted,
     })
 }
 
@@ -238,19 +254,21 @@ pub fn make_groups(
     requires count { numbering.count ≡ groups_in sorted.now }
     requires sized { length numbering.group_of.items ≡ length sorted.now }
     requires inside { AreGroups numbering.count numbering.group_of.items }
+    requires counted { numbering.counted ≡ false → AreUncounted sorted.now }
     requires ends { EndsFrom 0 sorted.now ends.now }
     ensures { IfOk result (λ groups. KeepsGroups sorted.now groups.total
         groups.group_of.items groups.names.items groups.starts.items groups.closed.items) }
 {
     let _count = sorted.len();
     let chains = make_chains(alloc, numbering.group_of.as_slice(), numbering.count)?;
-    let closed = closed_by(
+    let mut closed = closed_by(
         alloc,
         numbering.group_of.as_slice(),
         ends,
         chains.first.as_slice(),
     )?;
     let kept = list_names(alloc, &chains, numbering.group_of.as_slice())?;
+    clear_counted(sorted, &numbering, &kept, ends, &mut closed);
     Ok(Groups {
         total: numbering.count,
         group_of: numbering.group_of,

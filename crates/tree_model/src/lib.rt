@@ -6,6 +6,7 @@ mod admit;
 mod building;
 mod choice;
 mod closed;
+mod counted;
 mod exclude;
 mod extents;
 mod fault;

@@ -19,6 +19,7 @@ pub fn is_same_record(a: &Entry<'_>, b: &Entry<'_>) -> bool
     a.inode == b.inode
         && a.device == b.device
         && is_same_kind(a.kind, b.kind)
+        && a.links == b.links
         && *a.label == *b.label
         && a.path.is_same(&b.path)
 }

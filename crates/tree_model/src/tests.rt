@@ -14,6 +14,7 @@ fn told<'a>(kind: EntryKind, inode: u64, path: &'a [u8]) -> Told<'a> {
         kind,
         device: 1,
         inode,
+        links: None,
         label: b"u:r:a_t:s0".as_slice(),
         path,
     }
@@ -220,6 +221,60 @@ fn tells_groups(rt: HostRuntime) -> Result<(), Fail> {
     Ok(())
 }
 
+// The same, with a link count.
+fn counted<'a>(told: Told<'a>, links: u64) -> Told<'a> {
+    let mut counted = told;
+    counted.links = Some(links);
+    counted
+}
+
+// A directory with a file, where each has a link count.
+fn counted_tree(alloc: Global, links: u64) -> Result<Tree, TreeFault> {
+    let all = [
+        counted(directory(2, b"/"), 3),
+        counted(directory(3, b"/a"), 2),
+        counted(file(5, b"/a/x"), links),
+        counted(file(6, b"/y"), 1),
+    ];
+    tree_from(alloc, all.as_slice())
+}
+
+#[test]
+fn a_name_outside_leaves_an_extent_open(rt: HostRuntime) -> Result<(), Fail> {
+    let tree = counted_tree(rt.alloc(), 2)?;
+    assert!(rt; has_closed(&tree, [false, false, false, true].as_slice()));
+    Ok(())
+}
+
+#[test]
+fn the_count_of_a_directory_is_not_asked_for(rt: HostRuntime) -> Result<(), Fail> {
+    let tree = counted_tree(rt.alloc(), 1)?;
+    assert!(rt; has_closed(&tree, [true, true, true, true].as_slice()));
+    Ok(())
+}
+
+#[test]
+fn more_names_than_are_counted_do_no_harm(rt: HostRuntime) -> Result<(), Fail> {
+    let all = [
+        counted(directory(2, b"/"), 2),
+        counted(file(5, b"/x"), 1),
+        counted(file(5, b"/y"), 1),
+    ];
+    let tree = tree_from(rt.alloc(), all.as_slice())?;
+    assert!(rt; has_closed(&tree, [true, false, false].as_slice()));
+    Ok(())
+}
+
+#[test]
+fn other_link_counts_contradict(rt: HostRuntime) {
+    let all = [
+        counted(file(5, b"/a"), 2),
+        counted(file(5, b"/a"), 2),
+        counted(file(5, b"/a"), 1),
+    ];
+    assert!(rt; is_doubled(rt.alloc(), all.as_slice(), 1, 3));
+}
+
 // Whether an entry's group has a context for its label.
 fn has_context(tree: &Tree, e: u32) -> bool {
     e < tree.len() && matches!(tree.label(tree.group(e)), Label::Is(_))
@@ -248,8 +303,9 @@ fn unlabelled(alloc: Global, all: &[Told<'_>]) -> Result<Tree, TreeFault> {
 
 #[test]
 fn takes_other_labels(rt: HostRuntime) -> Result<(), Fail> {
-    let all = [file(5, b"/a"), file(5, b"/b")];
+    let all = [file(5, b"/a"), counted(file(5, b"/b"), 2)];
     let tree = unlabelled(rt.alloc(), all.as_slice())?;
+    assert!(rt; tree.len() == 2 && tree.entry(1).links == Some(2));
     assert!(rt; has_inodes(&tree, [5, 5].as_slice()));
     assert!(rt; !has_context(&tree, 0) && !has_context(&tree, 1));
     Ok(())

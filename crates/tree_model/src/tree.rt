@@ -3,7 +3,8 @@ ghost use Rattle.std.specs.List.{Contains};
 ghost use Rattle.label_base.specs.Answers.{Answers};
 ghost use Rattle.file_paths.specs.PathRef.{path_of};
 ghost use Rattle.find_records.specs.Entry.{entry_of};
-ghost use Rattle.find_records.specs.Record.{Record};
+ghost use Rattle.find_records.specs.Record.{AreOf, Record};
+ghost use Rattle.find_records.specs.declared.format.Format.{Format};
 ghost use Rattle.tree_model.specs.Entries.{tree_of};
 ghost use Rattle.tree_model.specs.Extents.{extent_of, in_extent, is_directory, parent_of};
 ghost use Rattle.tree_model.specs.Groups.{closed_at, group_of, groups_in, label_in, names_in};
@@ -55,7 +56,8 @@ impl Drop for Tree {
 
 impl Model for Tree {
     ghost use Rattle.std.specs.Prelude.{List};
-    ghost use Rattle.find_records.specs.Record.{Record};
+    ghost use Rattle.find_records.specs.Record.{AreOf, Record};
+    ghost use Rattle.find_records.specs.declared.format.Format.{Format};
     ghost use Rattle.tree_model.specs.Kept.{IsKept};
 
     ghost Value = { List Record };
@@ -101,6 +103,8 @@ impl Tree {
         requires { length records < 2 ^ 32 }
         ensures answer { Answers (λ tree. tree) tree_cause result (tree_of records) }
         ensures by_path { IfOk result (λ tree. ByPath tree) }
+        ensures of_format { IfOk result (λ tree. (format : Format)
+            → AreOf format records → AreOf format tree) }
         ensures same { IfOk result (λ tree. (r : Record) → Contains tree r ↔ Contains records r) }
     {
         let sorted = Sorted::new(alloc, records)?;
@@ -230,7 +234,9 @@ impl Tree {
         self.entry(first).label
     }
 
-    /// Whether all entries of the groups that have one at or below an entry are at or below it.
+    /// Whether all entries of the groups that have one at or below an entry are at or below it, and no
+    /// link count there tells of more names than its group has entries. That of a directory counts no
+    /// names, and isn't asked for.
     pub fn closed(&self, d: u32) -> bool
         requires { d < length self.now }
         ensures { result ≡ closed_at self.now d }

@@ -4,6 +4,7 @@ use Rattle.find_records.specs.Entry.{entry_of}
 use Rattle.tree_model.specs.Groups.{with_inode}
 use Rattle.tree_model.specs.Links.{inode_of, same_inode}
 use Rattle.tree_model.proofs.NumberingLemmas.{groups_next, seen_next, few_next, group_fits, groups_over, inode_read, inodes_count, seen_over}
+use Rattle.tree_model.proofs.CountedLemmas.{none_next}
 use Rattle.tree_model.proofs.KeptGroups.{are_groups, sized}
 use Rattle.tree_model.proofs.groups.number_groups.Goals as goal
 
@@ -24,6 +25,7 @@ entries-preserved c =
       groups = groups_next (map inode_of c.args.sorted.now) c.entries.e c.in_ok-group.group c.entries.seen.keys _ c.entries.group_of.items _ _ within number keys (search rules) c.entries.invariant.groups;
       seen = seen_next (map inode_of c.args.sorted.now) c.entries.e c.entries.seen.keys _ _ within keys c.entries.invariant.seen;
       few = few_next (map inode_of c.args.sorted.now) c.entries.e c.entries.seen.keys _ keys c.entries.invariant.few;
+      none = none_next c.args.sorted.now c.entries.e (entry_of c.entry-entry.result) c.entries.counted _ c.entry-entry.ensures c.is_counted-counted.ensures c.entries.invariant.none;
     }
 
 pub returns-clause-groups : goal.returns-clause-groups
@@ -39,3 +41,6 @@ returns-clause-inside c =
     are_groups c.args.sorted.now c.entries.group_of.items c.len-3.result (omega (arith, c.len.ensures))
     (groups_over (map inode_of c.args.sorted.now) c.entries.e c.entries.seen.keys c.entries.group_of.items _ over c.entries.invariant.groups)
     (c.len-3.ensures.len ∙ ap length (seen_over (map inode_of c.args.sorted.now) c.entries.e c.entries.seen.keys _ over c.entries.invariant.seen))
+
+pub returns-clause-counted : goal.returns-clause-counted
+returns-clause-counted c = λ lacks k l. c.entries.invariant.none lacks k (omega (arith, l, c.len-e-end.ensures))

@@ -10,7 +10,7 @@ value : (c : goal.After-drop-jobs-2) → shape_value c.in_ok-all_parents.field-0
 value c = shape_is c.args.sorted.now _ _ _ _ c.in_ok-all_parents.ensures c.in_ok-all_homes.ensures
     (c.in_ok-row_of.ensures ∙ c.as_slice-3.ensures.value
     ∙ told_all (group_of c.args.sorted.now) (length c.args.sorted.now) c.args.groups.now.group_of.items
-    (group_count c.args.sorted.now _ _ _ _ _ c.requires.groups) (group_told c.args.sorted.now _ _ _ _ _ c.requires.groups))
+    (group_count c.args.sorted.now _ _ _ c.requires.groups.lists) (group_told c.args.sorted.now _ _ _ c.requires.groups.lists))
     c.requires.groups.total_is
 
 pub returns-clause-value : goal.returns-clause-value
