@@ -61,6 +61,7 @@ struct counts {
     size_t next, labels, digests, gone, replaced, refused;
 };
 
+static bool has_links; /* the records have link counts */
 static uint64_t secret;
 static struct record *records;
 static uint32_t *slots; /* of each hash the number of a record, from 1 */
@@ -200,10 +201,10 @@ static bool read_number(char **at, uint64_t *number)
     return *at > first && *(*at)++ == ' ';
 }
 
-/* Reads a record of find's format '%y %D %i %Z %p', which ends at a NUL. */
+/* Reads a record of find's format '%y %D %i %Z %p', or '%y %D %i %n %Z %p', which ends at a NUL. */
 static bool read_record(char *at, char *end, struct record *record)
 {
-    uint64_t device, inode;
+    uint64_t device, inode, links;
 
     record->is_unread = false;
     record->kind = kind_of(at[0]);
@@ -211,6 +212,8 @@ static bool read_record(char *at, char *end, struct record *record)
         return false;
     at += 2;
     if (!read_number(&at, &device) || !read_number(&at, &inode))
+        return false;
+    if (has_links && !read_number(&at, &links))
         return false;
     record->device = device;
     record->inode = inode;
@@ -744,8 +747,9 @@ static int apply(void)
 }
 
 static const char usage[] =
-    "usage: relabel-apply [-j N] [-r ROOT] [-u NAMES] [-l LIST] RECORDS DUMP\n"
+    "usage: relabel-apply [-2] [-j N] [-r ROOT] [-u NAMES] [-l LIST] RECORDS DUMP\n"
     "Sets the attributes of the dump that relabel wrote from these records.\n"
+    "  -2        the records have link counts, as relabel reads them by its -2\n"
     "  -j N      N workers at once, 1 to 256 (1)\n"
     "  -r ROOT   the names are as seen from within ROOT\n"
     "  -l LIST   a file that gets the names that weren't set, each on a line\n"
@@ -768,8 +772,9 @@ int main(int count, char **words)
     char *after;
     int letter;
 
-    while ((letter = getopt_long(count, words, "j:r:u:l:h", names, NULL)) != -1) {
+    while ((letter = getopt_long(count, words, "2j:r:u:l:h", names, NULL)) != -1) {
         switch (letter) {
+        case '2': has_links = true; break;
         case 'j':
             jobs = (int)strtol(optarg, &after, 10);
             if (*optarg < '0' || *optarg > '9' || *after || jobs < 1 || jobs > MOST_WORKERS)

@@ -1,5 +1,5 @@
 -- Equal bytes of listings tell equal listings.
-use Rattle.std.proofs.Common.{◌≡◌, ◌∙◌, ap, ap₂, sym, refl, subst, ℕ, ◌<◌, ◌^◌, ◌+◌, ◌*◌, ◌-◌, ◌==◌, rules, Bool, true, false, ◌&&◌, not, List, [], ◌∷◌, ◌++◌, length, Option, Some, None, decimal, append_assoc, arith}
+use Rattle.std.proofs.Common.{◌≡◌, ◌∙◌, ap, ap₂, sym, refl, subst, ℕ, ◌<◌, ◌^◌, ◌+◌, ◌*◌, ◌-◌, ◌==◌, rules, Bool, true, false, ◌&&◌, not, List, [], ◌∷◌, ◌++◌, length, Option, Some, None, decimal, get_or, append_assoc, arith}
 use Rattle.std.specs.Char.{is_ascii_digit}
 use Rattle.std.specs.List.{flat_map, list_all, AllByRecursion}
 use Rattle.std.proofs.lemmas.Bool.{and_parts, or_from, or_parts}
@@ -11,6 +11,8 @@ use Rattle.file_paths.specs.Path.{Path, are_names, is_name, is_name_byte, path_n
 use Rattle.file_paths.proofs.PathLemmas.{names_back}
 use Rattle.label_base.specs.declared.kind.EntryKind.{EntryKind}
 use Rattle.label_base.specs.declared.kind.EntryKind.TheVariants.{Regular, Directory, Link, Pipe, Socket, Block, Char, Other}
+use Rattle.find_records.specs.declared.format.Format.{Format}
+use Rattle.find_records.specs.declared.format.Format.TheVariants.{One, Two}
 use Rattle.context_syntax.specs.Context.{ContextValue, IsContext, context_of, context_text, is_range, is_range_byte, is_word, is_word_byte, range_text}
 use Rattle.context_syntax.proofs.Spelling.{read_back}
 use Rattle.path_subs.specs.Subs.{SubValue}
@@ -19,9 +21,8 @@ use Rattle.label_base.specs.Kind.{field_kind}
 use Rattle.spec_reader.specs.declared.spec.Decision.TheVariants.{Leave, Give}
 use Rattle.spec_reader.specs.declared.spec.Decision.{Decision}
 use Rattle.dir_digest.specs.Listing.{Line, Listing}
-use Rattle.dir_digest.specs.ListingBytes.{AreCounted, AreTypes, Fields, IsDecision, IsLine, IsListing, IsSub, counted, decision_field, field_bytes, fields_of, has_nul, kind_field, line_fields, listing_bytes, mode_fields, name_field, shared_fields, sub_fields}
+use Rattle.dir_digest.specs.ListingBytes.{AreCounted, AreTypes, Fields, IsDecision, IsLine, IsListing, IsSub, counted, decision_field, field_bytes, fields_of, has_nul, kind_field, line_fields, listing_bytes, listing_mark, mode_fields, name_field, shared_fields, sub_fields}
 use Rattle.dir_digest.specs.Spelled.{ended}
-use Rattle.dir_digest.specs.declared.fields.TheConstants.{LISTING_MARK}
 
 pub head_is : {X : Type 0} (x y : X) (xs ys : List X) → x ∷ xs ≡ y ∷ ys → x ≡ y
 head_is x y xs ys e = cc
@@ -109,6 +110,10 @@ kind_no_nul (Some Block) = refl
 kind_no_nul (Some Char) = refl
 kind_no_nul (Some Other) = refl
 
+mark_no_nul : (format : Format) → NoNul (listing_mark format)
+mark_no_nul One = refl
+mark_no_nul Two = refl
+
 decision_no_nul : (d : Decision) → IsDecision d → NoNul (decision_field d)
 decision_no_nul Leave h = refl
 decision_no_nul (Give context) h = context_no_nul context h
@@ -149,7 +154,7 @@ mode_clean false types h = (refl, counted_clean IsWord name_field (λ name w. (w
 listing_clean : (l : Listing) → IsListing l → AreClean (fields_of l)
 unfolding fields_of
 listing_clean l h = (
-  refl,
+  mark_no_nul l.format,
   (
     path_no_nul l.path h.path,
     clean_behind (shared_fields l.force l.types l.first l.second) (counted line_fields l.lines)
@@ -283,27 +288,38 @@ mode_tells false false types others r s m n e =
     (tail_is (84 ∷ []) (84 ∷ []) (counted name_field types ++ r) (counted name_field others ++ s) e) in
     record { force = refl; types_are = both.0; rest = both.1 }
 
+-- marks differ in their last byte
+marks_differ : listing_mark One ≡ listing_mark Two → ⊥
+marks_differ e = (let last : 49 ≡ 50 = ap (λ mark. get_or mark 16 0) e in omega (arith, last))
+
+mark_same : (a b : Format) → listing_mark a ≡ listing_mark b → a ≡ b
+mark_same One One e = refl
+mark_same One Two e = absurd (marks_differ e)
+mark_same Two One e = absurd (marks_differ (sym e))
+mark_same Two Two e = refl
+
 -- the fields in front of others, each list behind the one before
 abbrev in_turn : Listing → Fields
 in_turn l = mode_fields l.force l.types ++ (counted sub_fields l.first ++ (counted sub_fields l.second ++ counted line_fields l.lines))
 
-turned : (l : Listing) → fields_of l ≡ LISTING_MARK.now ∷ path_text l.path ∷ in_turn l
+turned : (l : Listing) → fields_of l ≡ listing_mark l.format ∷ path_text l.path ∷ in_turn l
 unfolding fields_of
 turned l =
     let mode = mode_fields l.force l.types in
     let first = counted sub_fields l.first in
     let second = counted sub_fields l.second in
     let lines = counted line_fields l.lines in
-    ap (λ rest. LISTING_MARK.now ∷ path_text l.path ∷ rest)
+    ap (λ rest. listing_mark l.format ∷ path_text l.path ∷ rest)
     (append_assoc mode (first ++ second) lines ∙ ap (λ rest. mode ++ rest) (append_assoc first second lines))
 
 -- equal bytes tell equal listings
 pub listing_same : (a b : Listing) → IsListing a → IsListing b → listing_bytes a ≡ listing_bytes b → a ≡ b
 unfolding listing_bytes
 listing_same a b m n e =
-    let e0 : LISTING_MARK.now ∷ path_text a.path ∷ in_turn a ≡ LISTING_MARK.now ∷ path_text b.path ∷ in_turn b =
+    let e0 : listing_mark a.format ∷ path_text a.path ∷ in_turn a ≡ listing_mark b.format ∷ path_text b.path ∷ in_turn b =
     sym (turned a) ∙ fields_same (fields_of a) (fields_of b) (listing_clean a m) (listing_clean b n) e ∙ turned b in
-    let e1 = tail_is LISTING_MARK.now LISTING_MARK.now (path_text a.path ∷ in_turn a) (path_text b.path ∷ in_turn b) e0 in
+    let format = mark_same a.format b.format (head_is (listing_mark a.format) (listing_mark b.format) (path_text a.path ∷ in_turn a) (path_text b.path ∷ in_turn b) e0) in
+    let e1 = tail_is (listing_mark a.format) (listing_mark b.format) (path_text a.path ∷ in_turn a) (path_text b.path ∷ in_turn b) e0 in
     let path = path_same a.path b.path m.path n.path (head_is (path_text a.path) (path_text b.path) (in_turn a) (in_turn b) e1) in
     let subs_a = counted sub_fields a.first ++ (counted sub_fields a.second ++ counted line_fields a.lines) in
     let subs_b = counted sub_fields b.first ++ (counted sub_fields b.second ++ counted line_fields b.lines) in
@@ -312,4 +328,4 @@ listing_same a b m n e =
     let first = counted_tells IsSub sub_fields sub_tells a.first b.first (counted sub_fields a.second ++ counted line_fields a.lines) (counted sub_fields b.second ++ counted line_fields b.lines) m.first n.first mode.rest in
     let second = counted_tells IsSub sub_fields sub_tells a.second b.second (counted line_fields a.lines) (counted line_fields b.lines) m.second n.second first.1 in
     let lines = counted_tells IsLine line_fields line_tells a.lines b.lines [] [] m.lines n.lines (ap (λ fields. fields ++ []) second.1) in
-    (λ i. record { path = path i; force = mode.force i; types = mode.types_are i; first = first.0 i; second = second.0 i; lines = lines.0 i })
+    (λ i. record { format = format i; path = path i; force = mode.force i; types = mode.types_are i; first = first.0 i; second = second.0 i; lines = lines.0 i })

@@ -9,10 +9,9 @@ use Rattle.path_subs.specs.Subs.{plain, substituted}
 use Rattle.spec_reader.specs.SpecValue.{SpecValue}
 use Rattle.spec_match.specs.Relevant.{can_decide, relevant_at}
 use Rattle.dir_digest.specs.Listing.{line_of, relevant}
-use Rattle.dir_digest.specs.ListingBytes.{counted, field_bytes, fields_of, line_fields, listing_bytes, mode_fields, shared_fields, sub_fields}
+use Rattle.dir_digest.specs.ListingBytes.{counted, field_bytes, fields_of, line_fields, listing_bytes, listing_mark, mode_fields, shared_fields, sub_fields}
 use Rattle.dir_digest.specs.Spelled.{ended, itself, spec_bytes, specs_bytes, texts_at}
 use Rattle.dir_digest.specs.Terms.{Terms, listing_on}
-use Rattle.dir_digest.specs.declared.fields.TheConstants.{LISTING_MARK}
 
 -- fields behind others
 fields_behind : (first rest : List (List ℕ)) → field_bytes (first ++ rest) ≡ field_bytes first ++ field_bytes rest
@@ -112,7 +111,7 @@ mode_listed false types = refl
 -- a listing from its pieces
 pub listing_pieces : (t : Terms) (dir path : Path) (shared : List ℕ) → path ≡ substituted t.first t.second dir
     → shared ≡ field_bytes (shared_fields t.force t.types t.first t.second)
-    → ((ended LISTING_MARK.now ++ ended (path_text path)) ++ shared) ++ specs_bytes (relevant t.first t.second t.specs dir) ≡ listing_bytes (listing_on t dir)
+    → ((ended (listing_mark t.format) ++ ended (path_text path)) ++ shared) ++ specs_bytes (relevant t.first t.second t.specs dir) ≡ listing_bytes (listing_on t dir)
 unfolding listing_bytes fields_of
 listing_pieces t dir path shared p s =
     let specs = specs_bytes (relevant t.first t.second t.specs dir) in
@@ -122,9 +121,9 @@ listing_pieces t dir path shared p s =
     ap₂ (λ a b. a ++ b) (s ∙ ap (λ fields. field_bytes (fields ++ subs)) (sym (mode_listed t.force t.types)))
     (sym (lines_counted (relevant t.first t.second t.specs dir)))
     ∙ sym (fields_behind (shared_fields t.force (cond t.force [] t.types) t.first t.second) lines) in
-    append_assoc (ended LISTING_MARK.now ++ ended (path_text path)) shared specs
-    ∙ append_assoc (ended LISTING_MARK.now) (ended (path_text path)) (shared ++ specs)
-    ∙ ap₂ (λ top rest. ended LISTING_MARK.now ++ (ended (path_text top) ++ rest)) p listed
+    append_assoc (ended (listing_mark t.format) ++ ended (path_text path)) shared specs
+    ∙ append_assoc (ended (listing_mark t.format)) (ended (path_text path)) (shared ++ specs)
+    ∙ ap₂ (λ top rest. ended (listing_mark t.format) ++ (ended (path_text top) ++ rest)) p listed
 
 -- one specification more is spelled
 pub map_next : {X Y : Type 0} (f : X → Y) (xs : List X) (i : ℕ) (y : Y) → Some y ≡ option_map f (slice_get xs i)

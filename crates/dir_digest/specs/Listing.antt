@@ -1,8 +1,10 @@
 -- What decides the labels at and below a directory, as far as it can be told without the tree: the
--- path that is looked up, the options, the substitutions and the specifications.
+-- path that is looked up, the options, the substitutions and the specifications; and the format of
+-- the records, which says what is known of names outside them.
 use Rattle.std.specs.Prelude.{ℕ, Bool, List, [], Option, filter, map, if◌then◌else◌}
 use Rattle.file_paths.specs.Path.{Path}
 use Rattle.label_base.specs.declared.kind.EntryKind.{EntryKind}
+use Rattle.find_records.specs.declared.format.Format.{Format}
 use Rattle.path_subs.specs.Subs.{SubValue, plain, substituted}
 use Rattle.spec_reader.specs.SpecValue.{SpecValue}
 use Rattle.spec_reader.specs.declared.spec.Decision.{Decision}
@@ -14,9 +16,10 @@ pub record Line : Type 0 where
   pub kind : Option EntryKind
   pub decision : Decision
 
--- path: the substituted path of the directory. force: labels are given whole, so that customizable
+-- format: that of the records. path: the substituted path of the directory. force: labels are given whole, so that customizable
 -- types count for nothing and aren't listed. first, second: the lines of the substitution files.
 pub record Listing : Type 0 where
+  pub format : Format
   pub path : Path
   pub force : Bool
   pub types : List (List ℕ)
@@ -37,10 +40,11 @@ relevant first second specs path =
     else specs
 
 -- the listing of a directory
-abbrev pub listing_of : (force : Bool) → (types : List (List ℕ)) → (first second : List SubValue)
-    → (specs : List SpecValue) → Path → Listing
-listing_of force types first second specs path =
+abbrev pub listing_of : Format → (force : Bool) → (types : List (List ℕ))
+    → (first second : List SubValue) → (specs : List SpecValue) → Path → Listing
+listing_of format force types first second specs path =
     record {
+      format = format;
       path = substituted first second path;
       force = force;
       types = if force then [] else types;

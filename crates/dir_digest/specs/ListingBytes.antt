@@ -4,6 +4,8 @@ use Rattle.std.specs.List.{AllByRecursion, flat_map, list_all, list_any}
 use Rattle.file_paths.specs.Path.{are_names, path_text}
 use Rattle.label_base.specs.Kind.{names_of}
 use Rattle.label_base.specs.declared.kind.EntryKind.{EntryKind}
+use Rattle.find_records.specs.declared.format.Format.{Format}
+use Rattle.find_records.specs.declared.format.Format.TheVariants.{One, Two}
 use Rattle.context_syntax.specs.Context.{IsContext, context_text, is_word}
 use Rattle.path_subs.specs.Subs.{SubValue}
 use Rattle.spec_reader.specs.SpecValue.{is_spec_kind}
@@ -11,7 +13,7 @@ use Rattle.spec_reader.specs.declared.line.TheConstants.{NO_CONTEXT}
 use Rattle.spec_reader.specs.declared.spec.Decision.{Decision}
 use Rattle.spec_reader.specs.declared.spec.Decision.TheVariants.{Give, Leave}
 use Rattle.dir_digest.specs.Listing.{Line, Listing}
-use Rattle.dir_digest.specs.declared.fields.TheConstants.{LISTING_MARK, FORCE_FIELD, TYPE_FIELD}
+use Rattle.dir_digest.specs.declared.fields.TheConstants.{FORCE_FIELD, MARK_ONE, MARK_TWO, TYPE_FIELD}
 
 abbrev pub Fields : Type 0
 Fields = List (List ℕ)
@@ -22,6 +24,11 @@ counted fields_of xs = decimal (length xs) ∷ flat_map fields_of xs
 
 abbrev pub name_field : List ℕ → Fields
 name_field name = name ∷ []
+
+-- the mark of the format
+abbrev pub listing_mark : Format → List ℕ
+listing_mark One = MARK_ONE.now
+listing_mark Two = MARK_TWO.now
 
 -- the mode, and where labels change by type alone the customizable types
 abbrev pub mode_fields : (force : Bool) → (types : Fields) → Fields
@@ -51,7 +58,7 @@ shared_fields force types first second =
 
 unfoldable pub fields_of : Listing → Fields
 fields_of l =
-    LISTING_MARK.now ∷ path_text l.path
+    listing_mark l.format ∷ path_text l.path
     ∷ (shared_fields l.force l.types l.first l.second ++ counted line_fields l.lines)
 
 -- each field with a NUL behind it

@@ -2,6 +2,7 @@
 use Rattle.std.specs.Prelude.{◌≡◌, ℕ, ◌<◌, ◌^◌, Bool, true, false, List, length}
 use Rattle.std.specs.List.{list_all}
 use Rattle.file_paths.specs.Path.{Path}
+use Rattle.find_records.specs.declared.format.Format.{Format}
 use Rattle.context_syntax.specs.Context.{is_word}
 use Rattle.context_syntax.specs.TypeNames.{NameSet, in_order}
 use Rattle.path_subs.specs.Subs.{SubValue}
@@ -13,9 +14,10 @@ use Rattle.dir_digest.specs.ListingBytes.{AreCounted, IsDecision, IsSub}
 use Rattle.dir_digest.specs.declared.mode.Mode.{Mode}
 use Rattle.dir_digest.specs.declared.mode.Mode.TheVariants.{Whole, KindOnly}
 
--- whether labels are given whole, the customizable types in byte order, the lines of the two
+-- the format of the records, whether labels are given whole, the customizable types in byte order, the lines of the two
 -- substitution files, and the specifications
 pub record Terms : Type 0 where
+  pub format : Format
   pub force : Bool
   pub types : List (List ℕ)
   pub first : List SubValue
@@ -26,8 +28,9 @@ abbrev pub is_whole : Mode → Bool
 is_whole Whole = true
 is_whole KindOnly = false
 
-abbrev pub terms_of : Mode → NameSet → Subs → List SpecValue → Terms
-terms_of mode types subs specs = record {
+abbrev pub terms_of : Format → Mode → NameSet → Subs → List SpecValue → Terms
+terms_of format mode types subs specs = record {
+  format = format;
   force = is_whole mode;
   types = in_order types;
   first = subs.first;
@@ -37,11 +40,11 @@ terms_of mode types subs specs = record {
 
 -- the listing of a directory on these terms
 abbrev pub listing_on : Terms → Path → Listing
-listing_on t path = listing_of t.force t.types t.first t.second t.specs path
+listing_on t path = listing_of t.format t.force t.types t.first t.second t.specs path
 
 -- its digest
 abbrev pub digest_on : Terms → Path → List ℕ
-digest_on t path = digest_at t.force t.types t.first t.second t.specs path
+digest_on t path = digest_at t.format t.force t.types t.first t.second t.specs path
 
 -- a specification that was read: its pattern is what its text reads as, and its context is one
 pub record IsRead (spec : SpecValue) : Type 0 where

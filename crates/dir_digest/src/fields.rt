@@ -1,19 +1,23 @@
 ghost use Rattle.std.specs.Prelude.{◌≡◌, ◌++◌, ◌∷◌, [], OnOk, decimal};
 ghost use Rattle.context_syntax.specs.Context.{IsContext, context_text};
 ghost use Rattle.context_syntax.specs.TypeNames.{in_order};
-ghost use Rattle.dir_digest.specs.ListingBytes.{AreCounted, IsDecision, IsSub, counted, decision_field, field_bytes, kind_field, mode_fields, name_field, shared_fields, sub_fields};
+ghost use Rattle.dir_digest.specs.ListingBytes.{AreCounted, IsDecision, IsSub, counted, decision_field, field_bytes, kind_field, listing_mark, mode_fields, name_field, shared_fields, sub_fields};
 ghost use Rattle.dir_digest.specs.Spelled.{spec_bytes};
 ghost use Rattle.dir_digest.specs.Terms.{IsRead, is_whole};
 
 use crate::mode::Mode;
 use context_syntax::{Context, ContextRef, TypeNames};
+use find_records::Format;
 use label_base::{Bytes, EntryKind, OutOfMemory};
 use path_subs::{Sub, Subs};
 use spec_reader::{Decision, NO_CONTEXT, Spec};
 use std::alloc::Global;
 
-// The first field of every listing.
-pub(crate) const LISTING_MARK: &[u8] = b"relabel-listing-1";
+// The first field of a listing for records without link counts.
+const MARK_ONE: &[u8] = b"relabel-listing-1";
+
+// The first field of a listing for records with link counts.
+const MARK_TWO: &[u8] = b"relabel-listing-2";
 
 // The mode in which labels are given whole.
 const FORCE_FIELD: &[u8] = b"F";
@@ -29,6 +33,16 @@ pub(crate) fn add_field(field: &[u8], to: &mut Bytes) -> Result<(), OutOfMemory>
 {
     to.push(field)?;
     to.push_byte(0)
+}
+
+/// The first field of a listing.
+pub(crate) fn listing_mark(format: Format) -> &'static [u8]
+    ensures { result.now ≡ listing_mark format }
+{
+    match format {
+        Format::One => MARK_ONE,
+        Format::Two => MARK_TWO,
+    }
 }
 
 /// Adds a number in decimal digits as a field.

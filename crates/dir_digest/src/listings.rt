@@ -10,11 +10,12 @@ ghost use Rattle.dir_digest.specs.ListingBytes.{AreCounted, IsSub, field_bytes, 
 ghost use Rattle.dir_digest.specs.Spelled.{AreSpelled, ended, itself, spec_bytes, specs_bytes, texts_at};
 ghost use Rattle.dir_digest.specs.Terms.{AreRead, IsRead, is_whole, terms_of};
 
-use crate::fields::{LISTING_MARK, add_count, add_field, add_shared, add_spec};
+use crate::fields::{add_count, add_field, add_shared, add_spec, listing_mark};
 use crate::mode::Mode;
 use crate::twenty_bytes::Digest;
 use context_syntax::TypeNames;
 use file_paths::PathRef;
+use find_records::Format;
 use label_base::{Bytes, OutOfMemory, Row};
 use path_subs::Subs;
 use sha1::Sha1;
@@ -24,6 +25,7 @@ use std::alloc::Global;
 /// What makes the listings of directories. All that they have in common is spelled once, so that a listing costs no
 /// more than the specifications that are relevant for its own directory.
 pub struct Listings<'a> {
+    format: Format,
     mode: Mode,
     types: &'a TypeNames,
     subs: &'a Subs,
@@ -32,13 +34,14 @@ pub struct Listings<'a> {
     shared: Bytes,
     // The fields of each specification.
     specs: Row<Bytes>,
-    ghost spelled: { AreSpelled (terms_of mode types.now subs.now rules.now) shared specs },
+    ghost spelled: { AreSpelled (terms_of format mode types.now subs.now rules.now) shared specs },
 }
 
 // By hand: one call for an owner, where a derived drop is a step for each field.
 impl Drop for Listings<'_> {
     fn drop(self) {
         let Listings {
+            format: _,
             mode: _,
             types: _,
             subs: _,
@@ -133,19 +136,21 @@ impl<'a> Listings<'a> {
     /// keep what accepted files are, so that the laws on listings hold of these.
     pub fn new(
         alloc: Global,
+        format: Format,
         mode: Mode,
         types: &'a TypeNames,
         subs: &'a Subs,
         rules: &'a RuleSet,
     ) -> Result<Listings<'a>, OutOfMemory>
         ensures terms { IfOk result (λ listings.
-            terms_in listings ≡ terms_of mode types.now subs.now rules.now) }
+            terms_in listings ≡ terms_of format mode types.now subs.now rules.now) }
         ensures read { IfOk result (λ listings. AreRead (terms_in listings)) }
     {
         let _names = types.sorted().len();
         let shared = shared_of(alloc, mode, types, subs)?;
         let specs = specs_of(alloc, rules)?;
         Ok(Listings {
+            format,
             mode,
             types,
             subs,
@@ -197,7 +202,7 @@ impl<'a> Listings<'a> {
             ≡ listing_bytes (listing_on (terms_in self.now) (path_of dir.now))) }
     {
         to.clear();
-        add_field(LISTING_MARK, to)?;
+        add_field(listing_mark(self.format), to)?;
         add_field(path.as_text(), to)?;
         to.push(self.shared.as_slice())?;
         self.add_relevant(alloc, dir, path, scratch, to)
@@ -206,7 +211,7 @@ impl<'a> Listings<'a> {
     /// Writes the listing of a directory in place of what a buffer had. After want of memory the buffer has a front
     /// of it.
     ///
-    /// The listing is fields, each with a NUL behind it: a mark of the format; the directory's substituted path; the
+    /// The listing is fields, each with a NUL behind it: a mark of the records' format; the directory's substituted path; the
     /// mode, `F` or `T`; behind `T` the number of the customizable types and each of them, in byte order; the number
     /// of lines of file_contexts.subs, and the source and the target of each; the same of file_contexts.subs_dist;
     /// and the number of the relevant specifications, and of each its text, its type field and what it decides.
@@ -258,17 +263,18 @@ impl<'a> Listings<'a> {
 pub fn listing(
     alloc: Global,
     dir: &PathRef<'_>,
+    format: Format,
     mode: Mode,
     types: &TypeNames,
     subs: &Subs,
     rules: &RuleSet,
 ) -> Result<Bytes, OutOfMemory>
     ensures { IfOk result (λ bytes. bytes ≡ listing_bytes
-        (listing_of (is_whole mode) (in_order types.now) subs.now.first subs.now.second rules.now
+        (listing_of format (is_whole mode) (in_order types.now) subs.now.first subs.now.second rules.now
         (path_of dir.now))) }
 {
     let mut scratch = Scratch::new(alloc, rules)?;
-    let listings = Listings::new(alloc, mode, types, subs, rules)?;
+    let listings = Listings::new(alloc, format, mode, types, subs, rules)?;
     let mut bytes = Bytes::new(alloc);
     listings.write(alloc, &mut scratch, dir, &mut bytes)?;
     Ok(bytes)
@@ -279,15 +285,16 @@ pub fn listing(
 pub fn digest(
     alloc: Global,
     dir: &PathRef<'_>,
+    format: Format,
     mode: Mode,
     types: &TypeNames,
     subs: &Subs,
     rules: &RuleSet,
 ) -> Result<Digest, OutOfMemory>
-    ensures { IfOk result (λ digest. digest ≡ digest_at (is_whole mode) (in_order types.now)
+    ensures { IfOk result (λ digest. digest ≡ digest_at format (is_whole mode) (in_order types.now)
         subs.now.first subs.now.second rules.now (path_of dir.now)) }
 {
-    let bytes = listing(alloc, dir, mode, types, subs, rules)?;
+    let bytes = listing(alloc, dir, format, mode, types, subs, rules)?;
     Ok(Digest {
         bytes: Sha1::digest(bytes.as_slice()),
     })

@@ -7,6 +7,7 @@ use crate::{
 use context_syntax::{TypeNames, read_customizable};
 use file_paths::NormPath;
 use file_roles::Part;
+use find_records::Format;
 use label_base::Bytes;
 use path_subs::{SubList, Subs, read_subs};
 use sha1::Sha1;
@@ -51,7 +52,7 @@ fn listing_at(
     rules: &RuleSet,
 ) -> Result<Bytes, Fail> {
     let types = types_of(alloc)?;
-    Ok(listing(alloc, &dir.path(), mode, &types, subs, rules)?)
+    Ok(listing(alloc, &dir.path(), Format::One, mode, &types, subs, rules)?)
 }
 
 fn listing_by(
@@ -97,25 +98,57 @@ fn listed(
     listing_with(alloc, dir, mode, first, second, &rules)
 }
 
-fn plain_listing(alloc: Global, dir: &NormPath, rules: &RuleSet) -> Result<Bytes, Fail> {
+fn plain_listing(
+    alloc: Global,
+    dir: &NormPath,
+    format: Format,
+    rules: &RuleSet,
+) -> Result<Bytes, Fail> {
     let subs = subs_of(alloc, b"", b"")?;
     let types = TypeNames::new(alloc);
-    Ok(listing(alloc, &dir.path(), Mode::KindOnly, &types, &subs, rules)?)
+    Ok(listing(
+        alloc,
+        &dir.path(),
+        format,
+        Mode::KindOnly,
+        &types,
+        &subs,
+        rules,
+    )?)
 }
 
 fn plain_digest(alloc: Global, dir: &NormPath, rules: &RuleSet) -> Result<Digest, Fail> {
     let subs = subs_of(alloc, b"", b"")?;
     let types = TypeNames::new(alloc);
-    Ok(digest(alloc, &dir.path(), Mode::KindOnly, &types, &subs, rules)?)
+    Ok(digest(
+        alloc,
+        &dir.path(),
+        Format::One,
+        Mode::KindOnly,
+        &types,
+        &subs,
+        rules,
+    )?)
 }
 
 #[test]
 fn a_directory_is_listed(rt: HostRuntime) -> Result<(), Fail> {
     let dir = NormPath::read(rt.alloc(), b"/srv")?;
-    let bytes = plain_listing(rt.alloc(), &dir, &rules_of(rt.alloc(), SRV)?)?;
+    let bytes = plain_listing(rt.alloc(), &dir, Format::One, &rules_of(rt.alloc(), SRV)?)?;
     assert_eq!(rt;
         bytes.as_slice(),
         b"relabel-listing-1\0/srv\0T\x000\x000\x000\x001\0/srv(/.*)?\0\0system_u:object_r:var_t:s0\0".as_slice()
+    );
+    Ok(())
+}
+
+#[test]
+fn a_listing_tells_the_records_format(rt: HostRuntime) -> Result<(), Fail> {
+    let dir = NormPath::read(rt.alloc(), b"/srv")?;
+    let bytes = plain_listing(rt.alloc(), &dir, Format::Two, &rules_of(rt.alloc(), SRV)?)?;
+    assert_eq!(rt;
+        bytes.as_slice(),
+        b"relabel-listing-2\0/srv\0T\x000\x000\x000\x001\0/srv(/.*)?\0\0system_u:object_r:var_t:s0\0".as_slice()
     );
     Ok(())
 }

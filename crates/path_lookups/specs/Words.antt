@@ -6,13 +6,19 @@ use Rattle.tool_words.specs.Words.{has_flag, has_operand, items_read, kind_given
 use Rattle.tool_words.specs.declared.usage.Usage.{Usage}
 use Rattle.tool_words.specs.declared.usage.UsageWhy.TheVariants.{MissingOperand}
 use Rattle.policy_files.specs.declared.names.TheConstants.{DEFAULT_BASE}
+use Rattle.find_records.specs.declared.format.Format.{Format}
+use Rattle.find_records.specs.declared.format.Format.TheVariants as format
 use Rattle.path_lookups.specs.Letters.{matchpathcon}
-use Rattle.path_lookups.specs.declared.letters.TheConstants.{ASKED, BARE, BASE, VERIFY}
+use Rattle.path_lookups.specs.declared.letters.TheConstants.{ASKED, BARE, BASE, LINK_COUNTS, VERIFY}
 use Rattle.path_lookups.specs.declared.words.LookupWords.{LookupWords}
 
 -- the file of specifications
 abbrev pub base_of : List Item → List ℕ
 base_of items = unwrap_or (value_of BASE items) DEFAULT_BASE.now
+
+-- the records have link counts where the words say so
+abbrev pub format_of : List Item → Format
+format_of items = if has_flag LINK_COUNTS items then format.Two else format.One
 
 abbrev pub asked_by : List Item → LookupWords
 asked_by items = record {
@@ -21,6 +27,7 @@ asked_by items = record {
   bare = has_flag BARE items;
   verify = has_flag VERIFY items;
   paths = operand_paths items;
+  format = format_of items;
 }
 
 -- what is missing at the end of so many words: a path

@@ -3,6 +3,9 @@ ghost use Rattle.path_lookups.specs.Letters.{matchpathcon};
 
 use tool_words::{Form, Letter, Others, Takes, ToolLetters};
 
+/// The records have link counts.
+pub const LINK_COUNTS: u8 = b'2';
+
 /// Nothing: names of contexts aren't translated anyway.
 pub const NO_TRANSLATION: u8 = b'N';
 
@@ -20,6 +23,10 @@ pub const BARE: u8 = b'n';
 
 // The options of matchpathcon(8).
 const LETTERS: &[Letter] = &[
+    Letter {
+        letter: LINK_COUNTS,
+        takes: Takes::Flag,
+    },
     Letter {
         letter: NO_TRANSLATION,
         takes: Takes::Flag,

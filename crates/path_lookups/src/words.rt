@@ -1,10 +1,11 @@
 ghost use Rattle.std.specs.Prelude.{◌≡◌, ◌<◌, ◌+◌, ◌^◌, IfOk, length};
 ghost use Rattle.label_base.specs.Answers.{Answers, cause_of};
 ghost use Rattle.tool_words.specs.Words.{operand_paths, word_texts};
-ghost use Rattle.path_lookups.specs.Words.{asked_by, asked_in, base_of, end_wrong, lookup_words};
+ghost use Rattle.path_lookups.specs.Words.{asked_by, asked_in, base_of, end_wrong, format_of, lookup_words};
 
-use crate::letters::{ASKED, BARE, BASE, VERIFY, matchpathcon};
+use crate::letters::{ASKED, BARE, BASE, LINK_COUNTS, VERIFY, matchpathcon};
 use file_paths::NormPath;
+use find_records::Format;
 use label_base::{EntryKind, Fault, Name, OutOfMemory, Row};
 use policy_files::DEFAULT_BASE;
 use std::alloc::Global;
@@ -25,6 +26,8 @@ pub struct LookupWords {
     pub verify: bool,
     /// The paths, in the order of the words.
     pub paths: Row<NormPath>,
+    /// The format of the records, where they are read.
+    pub format: Format,
 }
 
 // By hand: one call for an owner, where a derived drop is a step for each field.
@@ -36,6 +39,7 @@ impl Drop for LookupWords {
             bare: _,
             verify: _,
             paths: _,
+            format: _,
         } = self;
     }
 }
@@ -49,6 +53,17 @@ fn base_of(alloc: Global, items: &[Item<'_>]) -> Result<Name, OutOfMemory>
     }
 }
 
+// The format of the records.
+fn format_of(items: &[Item<'_>]) -> Format
+    ensures { result ≡ format_of items.now }
+{
+    if has_flag(LINK_COUNTS, items) {
+        Format::Two
+    } else {
+        Format::One
+    }
+}
+
 // What the words ask for, where nothing is wrong with them.
 fn asked_by(alloc: Global, items: &[Item<'_>]) -> Result<LookupWords, OutOfMemory>
     ensures { IfOk result (λ words. words ≡ asked_by items.now) }
@@ -58,6 +73,7 @@ fn asked_by(alloc: Global, items: &[Item<'_>]) -> Result<LookupWords, OutOfMemor
         asked: kind_of(ASKED, items),
         bare: has_flag(BARE, items),
         verify: has_flag(VERIFY, items),
+        format: format_of(items),
         paths: operands(alloc, items)?,
     })
 }

@@ -6,6 +6,7 @@ use Rattle.label_rules.specs.declared.rules.Rules.{Rules}
 
 abbrev pub terms_by : Rules → Options → Terms
 terms_by rules options = record {
+  format = options.format;
   force = options.force;
   types = in_order rules.types;
   first = rules.subs.first;

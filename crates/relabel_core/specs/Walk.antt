@@ -53,8 +53,8 @@ is_live w e = get_or w.live e false
 -- the digest of a directory, from what can decide the labels at or below it
 unfoldable pub digest_now : Walk → ℕ → List ℕ
 digest_now w d =
-    digest_at w.options.force (in_order w.rules.types) w.rules.subs.first w.rules.subs.second
-    w.rules.rules (path_at w d)
+    digest_at w.options.format w.options.force (in_order w.rules.types) w.rules.subs.first
+    w.rules.subs.second w.rules.rules (path_at w d)
 
 -- a directory with all names of its inodes at or below it, and all that lies there asked for
 abbrev pub is_whole : Walk → ℕ → Bool

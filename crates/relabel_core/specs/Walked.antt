@@ -2,6 +2,7 @@
 use Rattle.std.specs.Prelude.{◌≡◌, ℕ, ◌<◌, ◌≤◌, ◌+◌, ◌^◌, List, [], length, map, get_or}
 use Rattle.label_base.specs.Bounded.{least_below}
 use Rattle.file_paths.specs.Path.{Path}
+use Rattle.relabel_core.specs.Formats.{AreOf}
 use Rattle.find_records.specs.Record.{Record}
 use Rattle.tree_model.specs.Groups.{groups_in}
 use Rattle.tree_model.specs.Selection.{SelectedValue, selected_by}
@@ -46,11 +47,12 @@ pub record IsFor (entries : List Record) (operands : List Path) (chosen : Select
   pub each_entry : length chosen.live ≡ length entries
   pub absent_few : length chosen.absent ≤ length operands
 
--- what is walked over goes together, in the order of paths, and is few enough to be numbered in 32
--- bits
+-- what is walked over goes together, in the order of paths, is of the format that the options tell,
+-- and is few enough to be numbered in 32 bits
 pub record IsFit (input : WalkInput) : Type 0 where
   pub by_path : ByPath input.tree.now
   pub selected : IsFor input.tree.now input.operands.now input.chosen.now
+  pub format : AreOf input.options.format input.tree.now
   pub few : length input.tree.now + length input.operands.now < 2 ^ 32
 
 -- what is found of all entries and groups, each at its position

@@ -1,5 +1,6 @@
 use crate::options::Options;
 use crate::test_walks::{Given, NOTHING, PLAIN, answer};
+use find_records::Format;
 use label_base::Bytes;
 use std::alloc::Global;
 use std::test::Fail;
@@ -25,6 +26,16 @@ const SRV: Given<'static> = Given {
 // Their digests.
 const SRV_DIGESTS: &[u8] =
     b"# file: /srv\nsecurity.sehash=0x2f409ad7b5704325f609fc499a6af2db7062c720\n\n# file: /srv/other\nsecurity.sehash=0xa0084f1d891eb1355975ea05799e8507dcde9544\n\n# file: /srv/sub\nsecurity.sehash=0x8c9c9fd4b3aa017aaa3acb63fc8b547cd50f05c1\n\n";
+
+// The same with link counts.
+const SRV_COUNTED: Given<'static> = Given {
+    records: b"d 1 30 4 u:r:var_t:s0 /srv\0d 1 33 2 u:r:var_t:s0 /srv/other\0d 1 31 2 u:r:var_t:s0 /srv/sub\0f 1 32 1 u:r:var_t:s0 /srv/sub/f\0",
+    options: Options {
+        format: Format::Two,
+        ..SKIPPING
+    },
+    ..SRV
+};
 
 // Two directories, and an inode with a name in each.
 const LINKED: Given<'static> = Given {
@@ -76,6 +87,50 @@ fn a_first_run_digests(rt: HostRuntime) -> Result<(), Fail> {
     assert_eq!(rt;
         text.as_slice(),
         b"# file: /srv\nsecurity.sehash=0x2f409ad7b5704325f609fc499a6af2db7062c720\n\n# file: /srv/other\nsecurity.sehash=0xa0084f1d891eb1355975ea05799e8507dcde9544\n\n# file: /srv/sub\nsecurity.sehash=0x8c9c9fd4b3aa017aaa3acb63fc8b547cd50f05c1\n\n".as_slice()
+    );
+    Ok(())
+}
+
+#[test]
+fn a_run_with_link_counts_digests(rt: HostRuntime) -> Result<(), Fail> {
+    let text = text(rt.alloc(), &SRV_COUNTED)?;
+    assert_eq!(rt;
+        text.as_slice(),
+        b"# file: /srv\nsecurity.sehash=0x09b9aa04dff4795bb9bc69c6a9232c2e26df35ba\n\n# file: /srv/other\nsecurity.sehash=0x74e04ad7999d56a5d30b0f4ae946db2dc0fa8287\n\n# file: /srv/sub\nsecurity.sehash=0x8a41eee7ca64ddbaf0ab184e6ae07fdfdf481a67\n\n".as_slice()
+    );
+    Ok(())
+}
+
+// The file has a second name, which no record has.
+#[test]
+fn a_name_outside_the_records_is_counted(rt: HostRuntime) -> Result<(), Fail> {
+    let text = text(
+        rt.alloc(),
+        &Given {
+            records: b"d 1 30 4 u:r:var_t:s0 /srv\0d 1 33 2 u:r:var_t:s0 /srv/other\0d 1 31 2 u:r:var_t:s0 /srv/sub\0f 1 32 2 u:r:var_t:s0 /srv/sub/f\0",
+            ..SRV_COUNTED
+        },
+    )?;
+    assert_eq!(rt;
+        text.as_slice(),
+        b"# file: /srv/other\nsecurity.sehash=0x74e04ad7999d56a5d30b0f4ae946db2dc0fa8287\n\n".as_slice()
+    );
+    Ok(())
+}
+
+// Nothing is skipped by the digests of a run without link counts.
+#[test]
+fn digests_without_link_counts_do_not_count(rt: HostRuntime) -> Result<(), Fail> {
+    let text = text(
+        rt.alloc(),
+        &Given {
+            kept: SRV_DIGESTS,
+            ..SRV_COUNTED
+        },
+    )?;
+    assert_eq!(rt;
+        text.as_slice(),
+        b"# file: /srv\nsecurity.sehash=0x09b9aa04dff4795bb9bc69c6a9232c2e26df35ba\n\n# file: /srv/other\nsecurity.sehash=0x74e04ad7999d56a5d30b0f4ae946db2dc0fa8287\n\n# file: /srv/sub\nsecurity.sehash=0x8a41eee7ca64ddbaf0ab184e6ae07fdfdf481a67\n\n".as_slice()
     );
     Ok(())
 }

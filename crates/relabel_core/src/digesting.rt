@@ -1,6 +1,7 @@
 ghost use Rattle.std.specs.Prelude.{◌≡◌, ◌<◌, IfOk};
 ghost use Rattle.dir_digest.specs.Listings.{terms_in};
 ghost use Rattle.dir_digest.specs.Terms.{is_whole};
+ghost use Rattle.relabel_core.specs.Formats.{AreOf};
 ghost use Rattle.spec_match.specs.Scratches.{IsScratchOf};
 ghost use Rattle.relabel_core.specs.Terms.{terms_by};
 ghost use Rattle.relabel_core.specs.Walk.{count, digest_now};
@@ -51,7 +52,14 @@ pub fn listings_by<'a>(
         terms_in listings ≡ terms_by rules.now options.now) }
 {
     let mode = mode_for(options.force);
-    Listings::new(alloc, mode, &rules.types, &rules.subs, &rules.rules)
+    Listings::new(
+        alloc,
+        options.format,
+        mode,
+        &rules.types,
+        &rules.subs,
+        &rules.rules,
+    )
 }
 
 /// The digest of a directory of a walk, from what can decide the labels at or below it. Every walk takes its digests from
@@ -65,6 +73,7 @@ pub fn digest_of(
     buffers: &mut Buffers,
 ) -> Result<Digest, OutOfMemory>
     requires entry { d < count (walk_of input.now) }
+    requires format { AreOf input.now.options.format input.now.tree.now }
     requires listings { terms_in listings.now ≡ terms_by input.now.rules.now input.now.options }
     requires own { IsScratchOf input.now.rules.now.rules buffers.old.scratch }
     ensures own { IsScratchOf input.now.rules.now.rules buffers.new.scratch }

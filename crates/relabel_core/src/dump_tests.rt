@@ -1,6 +1,7 @@
 use crate::Stored;
 use crate::options::Options;
 use crate::test_walks::{Given, NOTHING, PLAIN, answer, stored_of, tree_of};
+use find_records::Format;
 use label_base::{Bytes, OutOfMemory, Row};
 use std::alloc::Global;
 use std::test::Fail;
@@ -118,7 +119,7 @@ fn lengths_of(
     records: &[u8],
     dump: &[u8],
 ) -> Result<(Option<usize>, Option<usize>), Fail> {
-    let tree = tree_of(alloc, records)?;
+    let tree = tree_of(alloc, records, Format::One)?;
     stored_lengths(alloc, &tree, dump)
 }
 
@@ -142,7 +143,7 @@ fn nothing_listed(alloc: Global, tree: &Tree) -> Result<bool, OutOfMemory> {
 
 #[test]
 fn digests_are_listed(rt: HostRuntime) -> Result<(), Fail> {
-    let tree = tree_of(rt.alloc(), b"")?;
+    let tree = tree_of(rt.alloc(), b"", Format::One)?;
     assert!(rt; nothing_listed(rt.alloc(), &tree)?);
     Ok(())
 }

@@ -1,3 +1,5 @@
+use find_records::Format;
+
 /// How a tree is walked.
 #[derive(Clone, Copy, Debug)]
 pub struct Options {
@@ -18,4 +20,7 @@ pub struct Options {
     pub strict_links: bool,
     /// An operand without an entry is no error, and has no line.
     pub ignore_absent: bool,
+    /// Which fields the records of the tree have. With link counts, a directory has a digest only where all names of its
+    /// inodes are known to lie at or below it.
+    pub format: Format,
 }

@@ -1,5 +1,6 @@
 // The walks of the tests. Each helper has one value with a buffer and one `?`, since what has several takes long to prove.
-ghost use Rattle.std.specs.Prelude.{◌≡◌, ◌<◌};
+ghost use Rattle.std.specs.Prelude.{◌≡◌, ◌<◌, IfOk};
+ghost use Rattle.find_records.specs.Record.{AreOf};
 ghost use Rattle.relabel_core.specs.Walked.{IsFit};
 
 use crate::{
@@ -9,7 +10,7 @@ use crate::{
 use context_syntax::read_customizable;
 use file_paths::NormPath;
 use file_roles::Part;
-use find_records::{RecordLimits, read_records};
+use find_records::{Format, RecordLimits, read_records};
 use input_output::MemSource;
 use label_base::{Bytes, OutOfMemory, Row, Steps};
 use label_rules::{LabelAfter, Rules};
@@ -47,6 +48,7 @@ pub const PLAIN: Options = Options {
     warn_unmatched: false,
     strict_links: false,
     ignore_absent: false,
+    format: Format::One,
 };
 
 pub const NOTHING: Given<'static> = Given {
@@ -100,13 +102,15 @@ pub struct Answered {
 
 const TYPES: &[u8] = b"public_content_t\n";
 
-pub fn tree_of(alloc: Global, records: &[u8]) -> Result<Tree, Fail> {
+pub fn tree_of(alloc: Global, records: &[u8], format: Format) -> Result<Tree, Fail>
+    ensures { IfOk result (λ tree. AreOf format tree) }
+{
     let mut source = MemSource::new(Bytes::copy_of(alloc, records)?, 100, Row::new(alloc));
     let limits = RecordLimits {
         records: 9,
         bytes: 999,
     };
-    Ok(Tree::new(alloc, read_records(alloc, &mut source, limits)?)?)
+    Ok(Tree::new(alloc, read_records(alloc, &mut source, format, limits)?)?)
 }
 
 fn subs_of(alloc: Global) -> Result<Subs, Fail> {
@@ -289,7 +293,9 @@ fn answered_choice(
     rules: &Rules,
     stored: &Stored,
     choice: &Choice,
-) -> Result<Answered, OutOfMemory> {
+) -> Result<Answered, OutOfMemory>
+    requires { AreOf given.now.options.format tree.now }
+{
     let entries = tree.len();
     let operands = choice.operands.len();
     if entries > 99 {
@@ -312,7 +318,9 @@ fn answered_stored(
     tree: &Tree,
     rules: &Rules,
     stored: &Stored,
-) -> Result<Answered, Fail> {
+) -> Result<Answered, Fail>
+    requires { AreOf given.now.options.format tree.now }
+{
     let choice = choice_of(alloc, given)?;
     Ok(answered_choice(alloc, given, tree, rules, stored, &choice)?)
 }
@@ -322,18 +330,22 @@ fn answered_rules(
     given: &Given<'_>,
     tree: &Tree,
     rules: &Rules,
-) -> Result<Answered, Fail> {
+) -> Result<Answered, Fail>
+    requires { AreOf given.now.options.format tree.now }
+{
     let stored = stored_of(alloc, tree, given.kept)?;
     answered_stored(alloc, given, tree, rules, &stored)
 }
 
-fn answered_tree(alloc: Global, given: &Given<'_>, tree: &Tree) -> Result<Answered, Fail> {
+fn answered_tree(alloc: Global, given: &Given<'_>, tree: &Tree) -> Result<Answered, Fail>
+    requires { AreOf given.now.options.format tree.now }
+{
     let rules = rules_of(alloc, given.specs)?;
     answered_rules(alloc, given, tree, &rules)
 }
 
 // What a walk answers of which this is given.
 pub fn answer(alloc: Global, given: &Given<'_>) -> Result<Answered, Fail> {
-    let tree = tree_of(alloc, given.records)?;
+    let tree = tree_of(alloc, given.records, given.options.format)?;
     answered_tree(alloc, given, &tree)
 }

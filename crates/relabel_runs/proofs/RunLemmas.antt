@@ -1,11 +1,12 @@
 -- Runs over a tree as runs over an abstract one.
-use Rattle.std.proofs.Common.{◌≡◌, ◌∙◌, ap, ap₂, sym, refl, subst, ℕ, ◌<◌, Bool, true, false, ◌&&◌, List, [], ◌∷◌, ◌++◌, drop, length, map, inl, inr, IfOk, Result, Ok, Err, option_and_then}
+use Rattle.std.proofs.Common.{◌≡◌, ◌∙◌, ap, ap₂, sym, refl, subst, ℕ, ◌<◌, Bool, true, false, ◌&&◌, List, [], ◌∷◌, ◌++◌, drop, length, map, get_or, inl, inr, IfOk, Result, Ok, Err, option_and_then}
 use std.Path.{fun_ext}
 use Rattle.sha1.specs.Sha1.{sha1}
 use Rattle.std.proofs.lemmas.Slice.Eq.{bytes_eq-Decides}
 use Rattle.std.proofs.lemmas.List.{map_push}
 use Rattle.file_paths.proofs.PathMoves.{below_front}
 use Rattle.file_paths.specs.Path.{are_names, at_or_below}
+use Rattle.label_base.specs.Bounded.{all_below, implies}
 use Rattle.label_base.specs.Kind.{same_kind}
 use Rattle.label_base.specs.declared.kind.Asked.TheVariants.{Of}
 use Rattle.label_base.specs.declared.kind.EntryKind.TheVariants.{Directory}
@@ -15,45 +16,58 @@ use Rattle.dir_digest.specs.Terms.{AreRead}
 use Rattle.dir_digest.proofs.AlikeLemmas.{bytes_alike}
 use Rattle.find_records.specs.Record.{Record}
 use Rattle.tree_model.specs.Extents.{is_directory}
-use Rattle.tree_model.specs.Groups.{group_of}
+use Rattle.tree_model.specs.Groups.{closed_at, group_of}
 use Rattle.tree_model.specs.Selection.{selected_by, whole_at}
 use Rattle.skip_runs.specs.Relabel as runs
 use Rattle.skip_runs.specs.Skipping as skipping
 use Rattle.skip_runs.specs.Skipping.{IsLike}
 use Rattle.skip_runs.proofs.Runs.{like_after, one_more_keeps, skipping_keeps}
 use Rattle.relabel_core.specs.Answer.{walk_in}
-use Rattle.relabel_core.specs.Walk.{StoredDigests, Walk, skippable}
+use Rattle.relabel_core.specs.Walk.{StoredDigests, Walk, new_label, skippable}
 use Rattle.label_rules.specs.LookUp.{context_in}
 use Rattle.relabel_core.specs.Walked.{walk_for}
 use Rattle.relabel_core.specs.declared.walked.Walked.{Walked}
-use Rattle.relabel_runs.specs.Laws.{KeepsLabels, NoneSkipped, OneMoreRunKeepsLabels, SkippingKeepsLabels}
+use Rattle.relabel_runs.specs.Laws.{IsNow, KeepsLabels, NoneSkipped, OneMoreRunKeepsLabels, SkippingKeepsLabels}
 use Rattle.relabel_runs.specs.Premises.{AreRuns, HasRun, IsDigested, terms_in}
-use Rattle.relabel_runs.specs.Runs.{Run, State, after, end, end_off, labelled, not_skipping, walk_at}
+use Rattle.relabel_runs.specs.Runs.{IsBare, Run, State, after, end, end_off, labelled, not_skipping, read_as, walk_at}
 use Rattle.relabel_runs.proofs.DecideLemmas.{given_alike, given_settles}
-use Rattle.relabel_runs.proofs.LabelledLemmas.{count_same, group_same, kind_in, kinds_same, label_there, path_in, paths_same, selected_same}
+use Rattle.relabel_runs.proofs.AlikeLemmas.{AreAlike, count_same, group_same, kind_in, kinds_same, path_in, paths_same, selected_same}
+use Rattle.relabel_runs.proofs.ClosedLemmas.{closed_holds, closed_seen}
+use Rattle.relabel_runs.proofs.LabelledLemmas.{alike_read, alike_seen, label_there}
 use Rattle.relabel_runs.proofs.ToldLemmas.{context_told}
 use Rattle.relabel_runs.proofs.WalkLemmas.{as_decision, context_for, digest_after_same, kinds, label_same, run_by, run_of, state_of, tree_of}
 
 abbrev run_in : List Record → Run → runs.Run kinds
-run_in entries run = run_by (path_in entries) (kind_in entries) (selected_by run.choice entries).live run.rules run.options
+run_in entries run =
+    run_by (path_in entries) (kind_in entries) (selected_by run.choice entries).live (closed_at (read_as run.options.format entries)) run.rules run.options
 
 abbrev state_in : State → runs.State kinds
 state_in s = record { labels = s.labels; digests = s.digests }
 
 -- ---- a run over the tree in a state
 
-tree_same : (entries : List Record) (labels : ℕ → _) → tree_of (labelled entries labels) ≡ tree_of entries
-tree_same entries labels =
+tree_same : (a b : List Record) → AreAlike a b → tree_of a ≡ tree_of b
+tree_same a b alike =
     λ i. record {
-      count = count_same entries labels i;
-      group_of = λ e. group_same entries labels e i;
-      is_directory = λ d. same_kind (kinds_same entries labels i d) Directory;
-      in_extent = λ d e. at_or_below (paths_same entries labels i e) (paths_same entries labels i d);
+      count = count_same a b alike i;
+      group_of = λ e. group_same a b e alike i;
+      is_directory = λ d. same_kind (kinds_same a b alike i d) Directory;
+      in_extent = λ d e. at_or_below (paths_same a b alike i e) (paths_same a b alike i d);
     }
+
+-- the tree as a run sees it in a state
+abbrev seen : List Record → State → Run → List Record
+seen entries s run = labelled (read_as run.options.format entries) s.labels
+
+seen_alike : (entries : List Record) (s : State) (run : Run) → AreAlike (seen entries s run) entries
+seen_alike entries s run = alike_seen run.options.format entries s.labels
 
 run_same : (entries : List Record) (s : State) (run : Run) → run_of (walk_at entries s run) ≡ run_in entries run
 run_same entries s run =
-    λ i. run_by (paths_same entries s.labels i) (kinds_same entries s.labels i) (selected_same entries s.labels run.choice i) run.rules run.options
+    let here = seen entries s run in
+    let alike = seen_alike entries s run in
+    λ i. run_by (paths_same here entries alike i) (kinds_same here entries alike i) (selected_same here entries run.choice alike i)
+    (closed_seen (read_as run.options.format entries) s.labels i) run.rules run.options
 
 same_state : (a b : runs.State kinds) → ((g : ℕ) → a.labels g ≡ b.labels g) → ((d : ℕ) → a.digests d ≡ b.digests d) → a ≡ b
 same_state a b l d i = record { labels = λ g. l g i; digests = λ x. d x i }
@@ -62,14 +76,14 @@ after_same : (entries : List Record) (s : State) (run : Run)
     → state_in (after entries s run) ≡ runs.after (tree_of entries) (state_of (walk_at entries s run)) (run_in entries run)
 after_same entries s run =
     let w = walk_at entries s run in
-    let tree = tree_same entries s.labels in
+    let tree = tree_same (seen entries s run) entries (seen_alike entries s run) in
     let same = run_same entries s run in
     same_state (state_in (after entries s run)) (runs.after (tree_of entries) (state_of w) (run_in entries run))
     (λ g. label_same w g ∙ ap₂ (λ t r. (runs.after t (state_of w) r).labels g) tree same)
     (λ d. digest_after_same w d ∙ ap₂ (λ t r. (runs.after t (state_of w) r).digests d) tree same)
 
 like_now : (entries : List Record) (s : State) (run : Run) → IsLike (tree_of entries) (state_of (walk_at entries s run)) (state_in s)
-like_now entries s run = record { labels = λ e l. label_there entries s.labels e l; digests = λ d l y. refl }
+like_now entries s run = record { labels = λ e l. label_there run.options.format entries s.labels e l; digests = λ d l y. refl }
 
 like_through : {t : runs.Tree} {a b c : runs.State kinds} → IsLike t a b → IsLike t b c → IsLike t a c
 like_through h k =
@@ -168,8 +182,24 @@ agree_made entries list a b d all ma mb l e =
     (ap (λ (r : runs.Run kinds). r.listing d) ma.is ∙ e ∙ sym (ap (λ (r : runs.Run kinds). r.listing d) mb.is)) in
     subst (λ r. skipping.Agree (tree_of entries) a r d) mb.is (subst (λ r. skipping.Agree (tree_of entries) r (run_in entries mb.run) d) ma.is from)
 
+-- a directory is whole as the run's records tell it where it is so in the abstract run
+whole_read : (entries : List Record) (run : Run) (d : ℕ)
+    → whole_at (read_as run.options.format entries) (selected_by run.choice entries).live d ≡ runs.whole (tree_of entries) (run_in entries run) d
+whole_read entries run d =
+    let here = read_as run.options.format entries in
+    let alike = alike_read run.options.format entries in
+    let live = (selected_by run.choice entries).live in
+    ap₂ (λ n path. closed_at here d && all_below n (λ e. implies (at_or_below (path e) (path d)) (get_or live e false)))
+    (count_same here entries alike) (paths_same here entries alike)
+
 digested : (entries : List Record) (run : Run) (d : ℕ) → skipping.IsListed (tree_of entries) (run_in entries run) d → IsDigested entries run d
-digested entries run d h = record { inside = h.inside; digests = h.digests; directory = h.directory; whole = h.whole_in }
+digested entries run d h =
+    record {
+      inside = h.inside;
+      digests = h.digests;
+      directory = h.directory;
+      whole = whole_read entries run d ∙ h.whole_in;
+    }
 
 clash_made : (entries : List Record) (list : List Run) (a b : runs.Run kinds) (d e : ℕ) → AreRuns entries list → Made entries list a → Made entries list b
     → skipping.IsListed (tree_of entries) a d → skipping.IsListed (tree_of entries) b e → sha1 (a.listing d) ≡ sha1 (b.listing e) → a.listing d ≡ b.listing e
@@ -183,10 +213,18 @@ clash_made entries list a b d e all ma mb la lb h =
     (ap (λ (r : runs.Run kinds). sha1 (r.listing d)) ma.is ∙ h ∙ ap (λ (r : runs.Run kinds). sha1 (r.listing e)) (sym mb.is))
     ∙ ap here mb.is
 
+-- a directory that a run takes as closed holds its groups
+closed_made : (entries : List Record) (run : Run) (d : ℕ) → closed_at (read_as run.options.format entries) d ≡ true → skipping.HoldsGroups (tree_of entries) d
+closed_made entries run d h =
+    let here = read_as run.options.format entries in
+    subst (λ t. skipping.HoldsGroups t d) (tree_same here entries (alike_read run.options.format entries)) (closed_holds here d h)
+
 are_runs : (entries : List Record) (list : List Run) → AreRuns entries list → skipping.AreRuns (tree_of entries) (skipping.HasRun (map (run_in entries) list))
 are_runs entries list all =
     record {
       settle = λ r h. (let m = made entries list r h in subst (λ (r : runs.Run kinds). skipping.Settles r) m.is (run_settles entries m.run));
+      closed = λ r h d l directory closed.
+          (let m = made entries list r h in closed_made entries m.run d (ap (λ (r : runs.Run kinds). r.closed d) m.is ∙ closed));
       agree = λ a b ha hb d l directory e. agree_made entries list a b d all (made entries list a ha) (made entries list b hb) l e;
       no_clash = λ a b ha hb d e la lb h. clash_made entries list a b d e all (made entries list a ha) (made entries list b hb) la lb h;
     }
@@ -208,17 +246,39 @@ skipping_keeps_labels entries list all s bare e l =
     ∙ skipping_keeps kinds exact (tree_of entries) (map (run_in entries) list) (are_runs entries list all) (state_in s) bare (group_of entries e)
     ∙ sym (off_labels entries list s e l)
 
+one_more_over : (tree : List Record) (stored : StoredDigests) (run : Run) (list : List Run) → AreRuns tree (list ++ run ∷ [])
+    → (s : State) → IsBare s → IsNow (read_as run.options.format tree) stored (end tree s list)
+    → (e : ℕ) → e < length (read_as run.options.format tree)
+    → new_label (walk_for (read_as run.options.format tree) run.choice run.rules run.options stored) (group_of (read_as run.options.format tree) e)
+    ≡ (end_off tree s (list ++ run ∷ [])).labels (group_of (read_as run.options.format tree) e)
+one_more_over tree stored run list all s bare now e l =
+    let here = read_as run.options.format tree in
+    let alike = alike_read run.options.format tree in
+    let w = walk_for here run.choice run.rules run.options stored in
+    let more = map_push (run_in tree) list run in
+    let trees : tree_of here ≡ tree_of tree = tree_same here tree alike in
+    let run_is : run_of w ≡ run_in tree run =
+    λ i. run_by (paths_same here tree alike i) (kinds_same here tree alike i) (selected_same here tree run.choice alike i) (closed_at here) run.rules run.options in
+    let group : group_of here e ≡ group_of tree e = group_same here tree e alike in
+    let inside : e < length tree = subst (λ n. e < n) (count_same here tree alike) l in
+    let now_like : IsLike (tree_of here) (state_of w) (state_in (end tree s list)) = record { labels = now.labels; digests = now.digests } in
+    let like : IsLike (tree_of tree) (state_of w) (runs.after_all (tree_of tree) (state_in s) (map (run_in tree) list)) =
+    like_through (subst (λ t. IsLike t (state_of w) (state_in (end tree s list))) trees now_like)
+    (like_end tree list s (state_in s) (like_itself (tree_of tree) (state_in s))) in
+    label_same w (group_of here e)
+    ∙ ap₂ (λ t r. (runs.after t (state_of w) r).labels (group_of here e)) trees run_is
+    ∙ ap (λ g. (runs.after (tree_of tree) (state_of w) (run_in tree run)).labels g) group
+    ∙ one_more_keeps kinds exact (tree_of tree) (map (run_in tree) list) (run_in tree run)
+    (subst (λ rs. skipping.AreRuns (tree_of tree) (skipping.HasRun rs)) more (are_runs tree (list ++ run ∷ []) all)) (state_in s) bare (state_of w) like e inside
+    ∙ ap (λ rs. (runs.after_all_off (tree_of tree) (state_in s) rs).labels (group_of tree e)) (sym more)
+    ∙ sym (off_labels tree (list ++ run ∷ []) s e inside)
+    ∙ ap (end_off tree s (list ++ run ∷ [])).labels (sym group)
+
 pub one_more_run_keeps_labels : OneMoreRunKeepsLabels
-one_more_run_keeps_labels entries stored run list all s bare now e l =
-    let w = walk_for entries run.choice run.rules run.options stored in
-    let more = map_push (run_in entries) list run in
-    let like : IsLike (tree_of entries) (state_of w) (runs.after_all (tree_of entries) (state_in s) (map (run_in entries) list)) =
-    like_through (record { labels = now.labels; digests = now.digests }) (like_end entries list s (state_in s) (like_itself (tree_of entries) (state_in s))) in
-    label_same w (group_of entries e)
-    ∙ one_more_keeps kinds exact (tree_of entries) (map (run_in entries) list) (run_in entries run)
-    (subst (λ rs. skipping.AreRuns (tree_of entries) (skipping.HasRun rs)) more (are_runs entries (list ++ run ∷ []) all)) (state_in s) bare (state_of w) like e l
-    ∙ ap (λ rs. (runs.after_all_off (tree_of entries) (state_in s) rs).labels (group_of entries e)) (sym more)
-    ∙ sym (off_labels entries (list ++ run ∷ []) s e l)
+one_more_run_keeps_labels entries stored run tree seen list all s bare =
+    subst (λ entries. IsNow entries stored (end tree s list) → (e : ℕ) → e < length entries
+    → new_label (walk_for entries run.choice run.rules run.options stored) (group_of entries e) ≡ (end_off tree s (list ++ run ∷ [])).labels (group_of entries e))
+    (sym seen) (one_more_over tree stored run list all s bare)
 
 pub none_skipped : NoneSkipped
 unfolding skippable

@@ -16,7 +16,7 @@ use Rattle.dir_digest.specs.ListingBytes.{listing_bytes}
 use Rattle.dir_digest.specs.Terms.{listing_on}
 use Rattle.find_records.specs.Record.{Record}
 use Rattle.tree_model.specs.Extents.{entry_at, in_extent, is_directory}
-use Rattle.tree_model.specs.Groups.{group_of, label_in}
+use Rattle.tree_model.specs.Groups.{closed_at, group_of, label_in}
 use Rattle.tree_model.specs.Selection.{whole_at}
 use Rattle.relabel_core.specs.declared.options.Options.{Options}
 use Rattle.skip_runs.specs.Relabel as runs
@@ -27,7 +27,7 @@ use Rattle.relabel_core.specs.Walk.{Walk, can_win, count, deciding, digest_after
 use Rattle.label_rules.specs.LookUp.{given_at, index_asked, index_for}
 use Rattle.label_rules.specs.declared.rules.Rules.{Rules}
 use Rattle.relabel_runs.proofs.DecideLemmas.{given, label_given}
-use Rattle.relabel_runs.proofs.LabelledLemmas.{kind_in, path_in}
+use Rattle.relabel_runs.proofs.AlikeLemmas.{kind_in, path_in}
 
 -- labels and contexts as they are, listings by their bytes, and the digests of these
 abbrev pub kinds : Kinds
@@ -60,10 +60,11 @@ as_decision (Some context) = Give context
 abbrev pub context_for : Rules → Path → EntryKind → Option ContextValue
 context_for rules path kind = given_at rules.rules (index_asked rules path (Of kind))
 
-abbrev pub run_by : (path : ℕ → Path) (kind : ℕ → EntryKind) → (live : List Bool) → Rules → Options → runs.Run kinds
-run_by path kind live rules options =
+abbrev pub run_by : (path : ℕ → Path) (kind : ℕ → EntryKind) → (live : List Bool) → (closed : ℕ → Bool) → Rules → Options → runs.Run kinds
+run_by path kind live closed rules options =
     record {
       live = λ e. get_or live e false;
+      closed = closed;
       decision = λ e. as_decision (context_for rules (path e) (kind e));
       decide = λ label wanted. given (verdict_for label wanted options.force rules.types);
       listing = λ d. listing_bytes (listing_on (terms_by rules options) (path d));
@@ -73,7 +74,7 @@ run_by path kind live rules options =
     }
 
 abbrev pub run_of : Walk → runs.Run kinds
-run_of w = run_by (path_in w.entries) (kind_in w.entries) w.live w.rules w.options
+run_of w = run_by (path_in w.entries) (kind_in w.entries) w.live (closed_at w.entries) w.rules w.options
 
 abbrev pub state_of : Walk → runs.State kinds
 state_of w = record { labels = label_in w.entries; digests = w.stored }

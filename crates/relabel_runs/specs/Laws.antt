@@ -6,7 +6,7 @@ use Rattle.tree_model.specs.Groups.{group_of, label_in}
 use Rattle.relabel_core.specs.Walk.{StoredDigests, Walk, new_label, skippable}
 use Rattle.relabel_core.specs.Walked.{walk_for}
 use Rattle.relabel_runs.specs.Premises.{AreRuns}
-use Rattle.relabel_runs.specs.Runs.{IsBare, Run, State, end, end_off, not_skipping, walk_at}
+use Rattle.relabel_runs.specs.Runs.{IsBare, Run, State, end, end_off, not_skipping, read_as, walk_at}
 
 -- with skipping off, no directory is skipped
 abbrev pub NoneSkipped : Type 0
@@ -14,7 +14,8 @@ NoneSkipped =
     (entries : List Record) (s : State) (run : Run) (d : ℕ)
     → skippable (walk_at entries s (not_skipping run)) d ≡ false
 
--- From a state without digests, runs leave the labels that the same runs leave with skipping off.
+-- From a state without digests, runs leave the labels that the same runs leave with skipping off,
+-- whether or not they read link counts.
 abbrev pub SkippingKeepsLabels : Type 0
 SkippingKeepsLabels =
     (entries : List Record) (runs : List Run) → AreRuns entries runs
@@ -31,14 +32,16 @@ pub record IsNow (entries : List Record) (stored : StoredDigests) (s : State) : 
       → stored d ≡ s.digests d
 
 -- Whichever runs left the labels of the tree and these digests, if they began without digests: the
--- walk leaves the labels that all of them and this run leave with skipping off.
+-- walk leaves the labels that all of them and this run leave with skipping off. They ran over this
+-- tree; where this run reads no link counts, these may have been any.
 abbrev pub KeepsLabels : List Record → StoredDigests → Run → Walk → Type 0
 KeepsLabels entries stored run w =
-    (runs : List Run) → AreRuns entries (runs ++ run ∷ [])
-    → (s : State) → IsBare s → IsNow entries stored (end entries s runs)
+    (tree : List Record) → entries ≡ read_as run.options.format tree
+    → (runs : List Run) → AreRuns tree (runs ++ run ∷ [])
+    → (s : State) → IsBare s → IsNow entries stored (end tree s runs)
     → (e : ℕ) → e < length entries
     → new_label w (group_of entries e)
-    ≡ (end_off entries s (runs ++ run ∷ [])).labels (group_of entries e)
+    ≡ (end_off tree s (runs ++ run ∷ [])).labels (group_of entries e)
 
 -- One more run: so it is for its walk over the tree.
 abbrev pub OneMoreRunKeepsLabels : Type 0

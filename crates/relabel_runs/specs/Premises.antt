@@ -8,7 +8,7 @@ use Rattle.find_records.specs.Record.{Record}
 use Rattle.tree_model.specs.Extents.{entry_at, is_directory}
 use Rattle.tree_model.specs.Selection.{selected_by, whole_at}
 use Rattle.relabel_core.specs.Terms.{terms_by}
-use Rattle.relabel_runs.specs.Runs.{Run}
+use Rattle.relabel_runs.specs.Runs.{Run, read_as}
 
 -- the list has the run
 abbrev pub HasRun : List Run → Run → Type 0
@@ -23,13 +23,14 @@ terms_in run = terms_by run.rules run.options
 abbrev pub listing_in : Run → Path → List ℕ
 listing_in run path = listing_bytes (listing_on (terms_in run) path)
 
--- the run makes digests, and the directory is whole in it: all names of its inodes lie at or below
--- it, and all that lies there is asked for
+-- the run makes digests, and the directory is whole in it: as its records tell, all names of its
+-- inodes lie at or below it, and all that lies there is asked for
 pub record IsDigested (entries : List Record) (run : Run) (d : ℕ) : Type 0 where
   pub inside : d < length entries
   pub digests : (run.options.digests || run.options.ignore_digests) ≡ true
   pub directory : is_directory entries d ≡ true
-  pub whole : whole_at entries (selected_by run.choice entries).live d ≡ true
+  pub whole : whole_at (read_as run.options.format entries)
+      (selected_by run.choice entries).live d ≡ true
 
 -- among the listings that the runs digest, no two differ and have one digest
 abbrev pub NoClash : List Record → List Run → Type 0

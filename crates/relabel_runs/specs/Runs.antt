@@ -1,7 +1,9 @@
 -- Runs that relabel one tree, one after the other, and the state that they leave.
-use Rattle.std.specs.Prelude.{◌≡◌, ℕ, suc, ◌||◌, false, List, [], ◌∷◌, None, map}
+use Rattle.std.specs.Prelude.{◌≡◌, ℕ, suc, ◌||◌, false, List, [], ◌∷◌, Option, None, map}
 use Rattle.context_syntax.specs.declared.label.Label.{Label}
 use Rattle.find_records.specs.Record.{Record}
+use Rattle.find_records.specs.declared.format.Format.{Format}
+use Rattle.find_records.specs.declared.format.Format.TheVariants.{One, Two}
 use Rattle.tree_model.specs.Groups.{group_of}
 use Rattle.relabel_core.specs.declared.options.Options.{Options}
 use Rattle.tree_model.specs.declared.choice.Choice.{Choice}
@@ -9,14 +11,16 @@ use Rattle.relabel_core.specs.Walk.{StoredDigests, Walk, digest_after, new_label
 use Rattle.relabel_core.specs.Walked.{walk_for}
 use Rattle.label_rules.specs.declared.rules.Rules.{Rules}
 
--- a run: what decides labels, what it is asked for, and how it goes
+-- a run: what decides labels, what it is asked for, and how it goes; its options tell the format of
+-- its records
 pub record Run : Type 0 where
   pub rules : Rules
   pub choice : Choice
   pub options : Options
 
 -- What runs change of a tree: the label of each group, which are the names of one inode, and the
--- digest that is stored for each directory that has one. All else of the tree stays as it is.
+-- digest that is stored for each directory that has one. All else of the tree stays as it is, the
+-- link counts included.
 pub record State : Type 0 where
   pub labels : ℕ → Label
   pub digests : StoredDigests
@@ -30,10 +34,21 @@ labelled_from labels e (entry ∷ entries) =
 abbrev pub labelled : List Record → (ℕ → Label) → List Record
 labelled entries labels = labelled_from (λ e. labels (group_of entries e)) 0 entries
 
+-- what a record has of a link count: nothing where the format has none
+abbrev pub links_read : Format → Option ℕ → Option ℕ
+links_read One links = None
+links_read Two links = links
+
+-- the tree as records of a format tell it
+abbrev pub read_as : Format → List Record → List Record
+read_as format entries =
+    map (λ (entry : Record). record entry { links = links_read format entry.links }) entries
+
 -- the walk of a run over the tree in a state
 abbrev pub walk_at : List Record → State → Run → Walk
 walk_at entries s run =
-    walk_for (labelled entries s.labels) run.choice run.rules run.options s.digests
+    walk_for (labelled (read_as run.options.format entries) s.labels) run.choice run.rules
+    run.options s.digests
 
 -- the state after a run
 abbrev pub after : List Record → State → Run → State

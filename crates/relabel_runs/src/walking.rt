@@ -1,4 +1,5 @@
 ghost use Rattle.std.specs.Prelude.{◌≡◌, ◌+◌, ◌<◌, ◌^◌, IfOk, length};
+ghost use Rattle.find_records.specs.Record.{AreOf};
 ghost use Rattle.tree_model.specs.Selection.{selected_by};
 ghost use Rattle.relabel_core.specs.Answer.{walk_in};
 ghost use Rattle.relabel_core.specs.Stored.{digests_of};
@@ -25,6 +26,7 @@ pub fn next_walk<'a, L: Ledger>(
     steps: &mut Steps<L>,
 ) -> Result<Walked<'a>, OutOfMemory>
     requires chosen { chosen.now ≡ selected_by choice.now tree.now }
+    requires format { AreOf options.format tree.now }
     requires few { length tree.now + length choice.now.operands < 2 ^ 32 }
     ensures walk { IfOk result (λ walked. walk_in walked
         ≡ walk_for tree.now choice.now rules.now options (digests_of stored.now)) }

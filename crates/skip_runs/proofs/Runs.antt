@@ -26,7 +26,7 @@ None_yet : {K : Kinds} → Run K → Type 0
 None_yet r = ⊥
 
 kept_bare : {K : Kinds} (t : Tree) (s : State K) → IsBare s → Kept t None_yet s
-kept_bare t s bare d digest h n = absurd (bare_has (s.digests d) digest (bare d) h)
+kept_bare t s bare d digest l h n = absurd (bare_has (s.digests d) digest (bare d) h)
   where
     bare_has : {X : Type 0} (o : Option X) (x : X) → o ≡ None → o ≡ Some x → ⊥
     bare_has o x e f = cc

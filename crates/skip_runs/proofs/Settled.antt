@@ -1,10 +1,9 @@
 -- Directories that a run leaves as they are.
-use Rattle.std.proofs.Common.{◌≡◌, ◌∙◌, ap, sym, refl, subst, ℕ, ◌<◌, Bool, true, false, ◌==◌, ◌&&◌, Option, Some, None, unwrap_or, inl, inr, eqb-true, eq-eqb}
+use Rattle.std.proofs.Common.{◌≡◌, ◌∙◌, ap, sym, refl, subst, ℕ, ◌<◌, Bool, true, false, ◌==◌, ◌&&◌, Option, Some, None, unwrap_or, inl, inr, eqb-true}
 use Rattle.std.proofs.lemmas.Bool.{and_parts, and_left, and_right, cases_Bool}
-use Rattle.label_base.specs.Bounded.{all_below, implies}
-use Rattle.skip_runs.specs.Relabel.{Kinds, Tree, Run, closed, gives, context_of, can_win, winner, wanted_by, relabelled}
-use Rattle.skip_runs.specs.Skipping.{Settles, Agree}
-use Rattle.label_base.proofs.BoundedLemmas.{implies_at, all_at, least_same, least_none, least_case}
+use Rattle.skip_runs.specs.Relabel.{Kinds, Tree, Run, gives, context_of, can_win, winner, wanted_by, relabelled}
+use Rattle.skip_runs.specs.Skipping.{Agree, HoldsGroups, Settles}
+use Rattle.label_base.proofs.BoundedLemmas.{least_same, least_none, least_case}
 
 -- each entry
 abbrev pub every : ℕ → Bool
@@ -15,20 +14,11 @@ abbrev pub Keeps : {K : Kinds} → Run K → K.Label → Option K.Context → Ty
 Keeps r label None = Unit {0}
 Keeps r label (Some wanted) = r.decide label wanted ≡ None
 
--- The directory is closed, and for each group in it the run keeps the group's label where the context of the least name
+-- The directory holds its groups, and for each group in it the run keeps the group's label where the context of the least name
 -- that is decided to one is wanted.
 pub record Settled {K : Kinds} (t : Tree) (r : Run K) (labels : ℕ → K.Label) (d : ℕ) : Type 0 where
-  pub closed_is : closed t d ≡ true
+  pub holds : HoldsGroups t d
   pub keeps : (x : ℕ) → x < t.count → t.in_extent d x ≡ true → Keeps r (labels (t.group_of x)) (wanted_by r (winner t r every (t.group_of x)))
-
--- a group that meets a closed directory's extent lies in it
-pub closed_at : (t : Tree) (d e x : ℕ) → closed t d ≡ true → e < t.count → t.in_extent d e ≡ true → x < t.count → t.group_of x ≡ t.group_of e → t.in_extent d x ≡ true
-closed_at t d e x h le ie lx g =
-    let inner = implies_at (t.in_extent d e) (all_below t.count (λ x. implies (t.group_of x == t.group_of e) (t.in_extent d x)))
-    (all_at t.count (λ e. implies (t.in_extent d e) (all_below t.count (λ x. implies (t.group_of x == t.group_of e) (t.in_extent d x)))) e h le) ie in
-    implies_at (t.group_of x == t.group_of e) (t.in_extent d x)
-    (all_at t.count (λ x. implies (t.group_of x == t.group_of e) (t.in_extent d x)) x inner lx)
-    (eq-eqb (t.group_of x) (t.group_of e) g)
 
 -- what is kept doesn't change
 pub kept : {K : Kinds} (r : Run K) (label : K.Label) (o : Option K.Context) → Keeps r label o → relabelled r label o ≡ label
@@ -69,13 +59,13 @@ keeps_like : {K : Kinds} (a b : Run K) (label : K.Label) (o : Option K.Context)
 keeps_like a b label None d h = tt
 keeps_like a b label (Some wanted) d h = sym (d label wanted) ∙ h
 
--- what two runs that agree on a closed directory want for a group in it
-wanted_same : {K : Kinds} (t : Tree) (a b : Run K) (d x : ℕ) → closed t d ≡ true → x < t.count → t.in_extent d x ≡ true → Agree t a b d
+-- what two runs that agree on a directory that holds its groups want for a group in it
+wanted_same : {K : Kinds} (t : Tree) (a b : Run K) (d x : ℕ) → HoldsGroups t d → x < t.count → t.in_extent d x ≡ true → Agree t a b d
     → wanted_by a (winner t a every (t.group_of x)) ≡ wanted_by b (winner t b every (t.group_of x))
-wanted_same {K} t a b d x c l i agree =
+wanted_same {K} t a b d x holds l i agree =
     let g = t.group_of x in
     let inside : (e : ℕ) → e < t.count → (t.group_of e == g) ≡ true → t.in_extent d e ≡ true =
-    λ e le h. closed_at t d x e c l i le (eqb-true (t.group_of e) g h) in
+    λ e le h. holds x e l le i (eqb-true (t.group_of e) g h) in
     least_case t.count (can_win t a every g) (λ o. wanted_by a o ≡ wanted_by b o) refl
     (λ e le h. ap context_of (agree.decision e le (inside e le (and_parts (t.group_of e == g) (gives (a.decision e)) h).0)))
     ∙ ap (wanted_by b) (least_same t.count (can_win t a every g) (can_win t b every g)
@@ -88,9 +78,9 @@ wanted_same {K} t a b d x c l i agree =
 pub settled_like : {K : Kinds} (t : Tree) (a b : Run K) (labels : ℕ → K.Label) (d : ℕ) → Agree t a b d → Settled t a labels d → Settled t b labels d
 settled_like t a b labels d agree s =
     record {
-      closed_is = s.closed_is;
+      holds = s.holds;
       keeps = λ x l i.
-          subst (λ o. Keeps b (labels (t.group_of x)) o) (wanted_same t a b d x s.closed_is l i agree)
+          subst (λ o. Keeps b (labels (t.group_of x)) o) (wanted_same t a b d x s.holds l i agree)
           (keeps_like a b (labels (t.group_of x)) (wanted_by a (winner t a every (t.group_of x))) agree.decide (s.keeps x l i));
     }
 
@@ -99,6 +89,6 @@ pub settled_on : {K : Kinds} (t : Tree) (r : Run K) (labels labels' : ℕ → K.
     → ((x : ℕ) → x < t.count → t.in_extent d x ≡ true → labels (t.group_of x) ≡ labels' (t.group_of x)) → Settled t r labels d → Settled t r labels' d
 settled_on t r labels labels' d same s =
     record {
-      closed_is = s.closed_is;
+      holds = s.holds;
       keeps = λ x l i. subst (λ label. Keeps r label (wanted_by r (winner t r every (t.group_of x)))) (same x l i) (s.keeps x l i);
     }

@@ -3,10 +3,10 @@ use Rattle.std.proofs.Common.{◌≡◌, ◌∙◌, ap, sym, refl, subst, ℕ, �
 use Rattle.std.proofs.lemmas.Bool.{and_parts, and_right, and_from, or_left, cases_Bool, cond_both, not_from_true, not-true, not-false, false≢true}
 use Rattle.std.proofs.lemmas.Option.{same_Some}
 use Rattle.label_base.specs.Bounded.{all_below, any_below, implies}
-use Rattle.skip_runs.specs.Relabel.{Kinds, Tree, Run, State, closed, whole, digests_in, is_current, skippable, skipped, walked, winner, wanted_by, relabelled, new_label, changed, above_change, renewed, zeroed, new_digest, after, after_off}
-use Rattle.skip_runs.specs.Skipping.{AreExact, AreRuns}
+use Rattle.skip_runs.specs.Relabel.{Kinds, Tree, Run, State, whole, digests_in, is_current, skippable, skipped, walked, winner, wanted_by, relabelled, new_label, changed, above_change, renewed, zeroed, new_digest, after, after_off}
+use Rattle.skip_runs.specs.Skipping.{AreExact, AreRuns, HoldsGroups}
 use Rattle.label_base.proofs.BoundedLemmas.{implies_at, all_at, any_at, any_has, none_at, none_from}
-use Rattle.skip_runs.proofs.Settled.{every, Keeps, Settled, closed_at, kept, keeps_new, winner_same, no_winner, settled_like, settled_on}
+use Rattle.skip_runs.proofs.Settled.{every, Keeps, Settled, kept, keeps_new, winner_same, no_winner, settled_like, settled_on}
 
 -- an earlier run that stored this digest at the directory, which is settled under it now
 pub record Stored {K : Kinds} (t : Tree) (Past : Run K → Type 0) (labels : ℕ → K.Label) (d : ℕ) (digest : K.Digest) : Type 0 where
@@ -19,7 +19,7 @@ pub record Stored {K : Kinds} (t : Tree) (Past : Run K → Type 0) (labels : ℕ
 
 -- what is kept from run to run: each stored digest that isn't zero was stored by an earlier run
 abbrev pub Kept : {K : Kinds} → Tree → (Run K → Type 0) → State K → Type 0
-Kept {K} t Past s = (d : ℕ) (digest : K.Digest) → s.digests d ≡ Some digest → K.same_digest digest K.zero_digest ≡ false → Stored t Past s.labels d digest
+Kept {K} t Past s = (d : ℕ) (digest : K.Digest) → d < t.count → s.digests d ≡ Some digest → K.same_digest digest K.zero_digest ≡ false → Stored t Past s.labels d digest
 
 -- what the test of a stored digest tells
 record Current (K : Kinds) (stored : Option K.Digest) (listing : K.Listing) : Type 0 where
@@ -62,10 +62,10 @@ skippable_tells {K} t r s d h =
 live_in : {K : Kinds} (t : Tree) (r : Run K) (d e : ℕ) → whole t r d ≡ true → e < t.count → t.in_extent d e ≡ true → r.live e ≡ true
 live_in t r d e h l i =
     implies_at (t.in_extent d e) (r.live e)
-    (all_at t.count (λ e. implies (t.in_extent d e) (r.live e)) e (and_parts (closed t d) (all_below t.count (λ e. implies (t.in_extent d e) (r.live e))) h).1 l) i
+    (all_at t.count (λ e. implies (t.in_extent d e) (r.live e)) e (and_parts (r.closed d) (all_below t.count (λ e. implies (t.in_extent d e) (r.live e))) h).1 l) i
 
-closed_in : {K : Kinds} (t : Tree) (r : Run K) (d : ℕ) → whole t r d ≡ true → closed t d ≡ true
-closed_in t r d h = (and_parts (closed t d) (all_below t.count (λ e. implies (t.in_extent d e) (r.live e))) h).0
+closed_in : {K : Kinds} (t : Tree) (r : Run K) (d : ℕ) → whole t r d ≡ true → r.closed d ≡ true
+closed_in t r d h = (and_parts (r.closed d) (all_below t.count (λ e. implies (t.in_extent d e) (r.live e))) h).0
 
 -- a run with its past: what is known before it
 pub record Ready {K : Kinds} (t : Tree) (Among Past : Run K → Type 0) (r : Run K) (s : State K) : Type 0 where
@@ -75,11 +75,16 @@ pub record Ready {K : Kinds} (t : Tree) (Among Past : Run K → Type 0) (r : Run
   pub among : Among r
   pub kept_is : Kept t Past s
 
+-- a directory that is whole holds its groups
+holds_in : {K : Kinds} (t : Tree) (Among Past : Run K → Type 0) (r : Run K) (s : State K) (d : ℕ) → Ready t Among Past r s
+    → d < t.count → t.is_directory d ≡ true → whole t r d ≡ true → HoldsGroups t d
+holds_in t Among Past r s d ready l directory w = ready.runs.closed r ready.among d l directory (closed_in t r d w)
+
 -- a directory that is skipped is settled
 settled_from : {K : Kinds} (t : Tree) (Among Past : Run K → Type 0) (r : Run K) (s : State K) (d : ℕ) → Ready t Among Past r s → d < t.count → Skippable t r s d → Settled t r s.labels d
 settled_from {K} t Among Past r s d ready l k =
     let now = current_tells K ready.exact (s.digests d) (r.listing d) k.current in
-    let then = ready.kept_is d now.digest now.stored_is now.nonzero in
+    let then = ready.kept_is d now.digest l now.stored_is now.nonzero in
     let among = ready.past_among then.run then.past in
     let one = ready.runs.no_clash then.run r among ready.among d d
     (record { inside = l; directory = k.directory; digests = then.digests; whole_in = then.whole_in })
@@ -104,9 +109,9 @@ passed_from : {K : Kinds} (t : Tree) (Among Past : Run K → Type 0) (r : Run K)
     → e < t.count → d < t.count → skippable t r s d ≡ true → t.in_extent d e ≡ true → Passed t r s (t.group_of e)
 passed_from t Among Past r s e d ready le ld sk i =
     let k = skippable_tells t r s d sk in
-    let c = closed_in t r d k.whole_in in
+    let holds = holds_in t Among Past r s d ready ld k.directory k.whole_in in
     let settled = settled_from t Among Past r s d ready ld k in
-    let inside : (x : ℕ) → x < t.count → t.group_of x ≡ t.group_of e → t.in_extent d x ≡ true = λ x lx g. closed_at t d e x c le i lx g in
+    let inside : (x : ℕ) → x < t.count → t.group_of x ≡ t.group_of e → t.in_extent d x ≡ true = λ x lx g. holds e x le lx i g in
     record {
       winner_is = no_winner t r (walked t r (skippable t r s)) (t.group_of e)
           (λ x lx g. not_walked t r (skippable t r s) x
@@ -169,16 +174,16 @@ label_same t Among Past r s g ready =
     ]
 
 -- one directory after a run that walks
-renewed_settled : {K : Kinds} (t : Tree) (Among Past : Run K → Type 0) (r : Run K) (s : State K) (d : ℕ) → Ready t Among Past r s → whole t r d ≡ true
-    → Settled t r (new_label t r (walked t r (skippable t r s)) s.labels) d
-renewed_settled t Among Past r s d ready w =
+renewed_settled : {K : Kinds} (t : Tree) (Among Past : Run K → Type 0) (r : Run K) (s : State K) (d : ℕ) → Ready t Among Past r s
+    → HoldsGroups t d → whole t r d ≡ true → Settled t r (new_label t r (walked t r (skippable t r s)) s.labels) d
+renewed_settled t Among Past r s d ready holds w =
     record {
-      closed_is = closed_in t r d w;
+      holds = holds;
       keeps = λ x l i. elim (passed_or_open t Among Past r s (t.group_of x) ready) [
         | inl p ↦ subst (λ label. Keeps r label (wanted_by r (winner t r every (t.group_of x)))) (sym (label_passed t r s (t.group_of x) p)) p.keeps
         | inr o ↦ (let same : winner t r (walked t r (skippable t r s)) (t.group_of x) ≡ winner t r every (t.group_of x) =
             winner_same t r (walked t r (skippable t r s)) every (t.group_of x)
-            (λ e le h. walked_open t r (skippable t r s) e (o e le h) ∙ live_in t r d e w le (closed_at t d x e (closed_in t r d w) l i le h)) in
+            (λ e le h. walked_open t r (skippable t r s) e (o e le h) ∙ live_in t r d e w le (holds x e l le i h)) in
             subst (λ o. Keeps r (relabelled r (s.labels (t.group_of x)) (wanted_by r (winner t r (walked t r (skippable t r s)) (t.group_of x)))) (wanted_by r o)) same
             (keeps_new r (s.labels (t.group_of x)) (wanted_by r (winner t r (walked t r (skippable t r s)) (t.group_of x))) (ready.runs.settle r ready.among)))
       ];
@@ -222,36 +227,37 @@ unchanged {K} t r walk labels d x exact h l i =
 
 -- what is kept before a run is kept after it, for a directory
 kept_at : {K : Kinds} (t : Tree) (Among Past : Run K → Type 0) (r : Run K) (s : State K) (d : ℕ) (digest : K.Digest) (b : Bool) → Ready t Among Past r s
-    → renewed t r (walked t r (skippable t r s)) d ≡ b
+    → d < t.count → renewed t r (walked t r (skippable t r s)) d ≡ b
     → cond b (Some (K.digest_of (r.listing d))) (zeroed K (s.digests d) (above_change t r (walked t r (skippable t r s)) s.labels d)) ≡ Some digest
     → K.same_digest digest K.zero_digest ≡ false
     → Stored t (And r Past) (new_label t r (walked t r (skippable t r s)) s.labels) d digest
-kept_at {K} t Among Past r s d digest true ready was h n =
+kept_at {K} t Among Past r s d digest true ready l was h n =
     let walk = walked t r (skippable t r s) in
     let a = and_parts (t.is_directory d && walk d && whole t r d) (digests_in r) was in
     let b = and_parts (t.is_directory d && walk d) (whole t r d) a.0 in
+    let holds = holds_in t Among Past r s d ready l (and_parts (t.is_directory d) (walk d) b.0).0 b.1 in
     record {
       run = r;
       past = inl refl;
       digests = a.1;
       whole_in = b.1;
       digest_is = sym (same_Some (K.digest_of (r.listing d)) digest h);
-      settled = renewed_settled t Among Past r s d ready b.1;
+      settled = renewed_settled t Among Past r s d ready holds b.1;
     }
-kept_at {K} t Among Past r s d digest false ready was h n =
+kept_at {K} t Among Past r s d digest false ready l was h n =
     let walk = walked t r (skippable t r s) in
     let here = stays K ready.exact (s.digests d) (above_change t r walk s.labels d) digest h n in
     older t Past r s.labels (new_label t r walk s.labels) d digest
     (λ x l i. unchanged t r walk s.labels d x ready.exact here.not_void l i)
-    (ready.kept_is d digest here.stored_is n)
+    (ready.kept_is d digest l here.stored_is n)
 
 -- what is kept before a run is kept after it
 pub kept_after : {K : Kinds} (t : Tree) (Among Past : Run K → Type 0) (r : Run K) (s : State K) → Ready t Among Past r s → Kept t (And r Past) (after t s r)
 kept_after {K} t Among Past r s ready =
     cond_both r.dry s (record { labels = new_label t r (walked t r (skippable t r s)) s.labels; digests = new_digest t r (walked t r (skippable t r s)) s })
     (λ s'. Kept t (And r Past) s')
-    (λ dry d digest h n. older t Past r s.labels s.labels d digest (λ x l i. refl) (ready.kept_is d digest h n))
-    (λ wet d digest h n. kept_at t Among Past r s d digest (renewed t r (walked t r (skippable t r s)) d) ready refl h n)
+    (λ dry d digest l h n. older t Past r s.labels s.labels d digest (λ x l i. refl) (ready.kept_is d digest l h n))
+    (λ wet d digest l h n. kept_at t Among Past r s d digest (renewed t r (walked t r (skippable t r s)) d) ready l refl h n)
 
 pub labels_of : {K : Kinds} (b : Bool) (s s' n n' : State K) (g : ℕ) → s.labels g ≡ s'.labels g → n.labels g ≡ n'.labels g → (cond b s n).labels g ≡ (cond b s' n').labels g
 labels_of true s s' n n' g e f = e

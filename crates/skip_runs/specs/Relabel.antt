@@ -50,12 +50,14 @@ pub data Decision (Context : Type 0) : Type 0 where
   Leave : Decision Context
   Give : Context → Decision Context
 
--- A run. live: the entries that it is asked for. decide label wanted: what takes the place of a
--- label where a context is wanted, if anything does. listing: of each directory. dry: nothing is
--- changed. skips: directories are skipped, and digests stored. renews: digests are stored, and no
--- directory is skipped.
+-- A run. live: the entries that it is asked for. closed: the directories that it takes to hold each
+-- group whole that has a name in their extent. decide label wanted: what takes the place of a label
+-- where a context is wanted, if anything does. listing: of each directory. dry: nothing is changed.
+-- skips: directories are skipped, and digests stored. renews: digests are stored, and no directory
+-- is skipped.
 pub record Run (K : Kinds) : Type 0 where
   pub live : ℕ → Bool
+  pub closed : ℕ → Bool
   pub decision : ℕ → Decision K.Context
   pub decide : K.Label → K.Context → Option K.Label
   pub listing : ℕ → K.Listing
@@ -70,15 +72,9 @@ pub record State (K : Kinds) : Type 0 where
 
 -- ---- what is skipped
 
--- every group that has a name in the directory's extent has all its names there
-abbrev pub closed : Tree → ℕ → Bool
-closed t d =
-    all_below t.count (λ e. implies (t.in_extent d e)
-    (all_below t.count (λ x. implies (t.group_of x == t.group_of e) (t.in_extent d x))))
-
--- the directory is closed, and the run is asked for all of its extent
+-- the run takes the directory as closed, and is asked for all of its extent
 abbrev pub whole : {K : Kinds} → Tree → Run K → ℕ → Bool
-whole t r d = closed t d && all_below t.count (λ e. implies (t.in_extent d e) (r.live e))
+whole t r d = r.closed d && all_below t.count (λ e. implies (t.in_extent d e) (r.live e))
 
 -- the run stores digests
 abbrev pub digests_in : {K : Kinds} → Run K → Bool

@@ -20,6 +20,12 @@ Settles {K} r =
     (label new : K.Label) (wanted : K.Context) → r.decide label wanted ≡ Some new
     → r.decide new wanted ≡ None
 
+-- every group that has a name in the directory's extent has all its names there
+abbrev pub HoldsGroups : Tree → ℕ → Type 0
+HoldsGroups t d =
+    (e x : ℕ) → e < t.count → x < t.count → t.in_extent d e ≡ true
+    → t.group_of x ≡ t.group_of e → t.in_extent d x ≡ true
+
 -- two runs decide the same in the directory's extent, and change labels alike
 pub record Agree {K : Kinds} (t : Tree) (a b : Run K) (d : ℕ) : Type 0 where
   pub decision : (e : ℕ) → e < t.count → t.in_extent d e ≡ true → a.decision e ≡ b.decision e
@@ -36,6 +42,12 @@ pub record IsListed {K : Kinds} (t : Tree) (r : Run K) (d : ℕ) : Type 0 where
 abbrev pub EachSettles : {K : Kinds} → (Run K → Type 0) → Type 0
 EachSettles {K} Among = (r : Run K) → Among r → Settles r
 
+-- a directory that a run takes as closed holds its groups; it may ask for more
+abbrev pub ClosedHold : {K : Kinds} → Tree → (Run K → Type 0) → Type 0
+ClosedHold {K} t Among =
+    (r : Run K) → Among r → (d : ℕ) → d < t.count → t.is_directory d ≡ true
+    → r.closed d ≡ true → HoldsGroups t d
+
 -- runs with equal listings of a directory agree on it
 abbrev pub ListingsTell : {K : Kinds} → Tree → (Run K → Type 0) → Type 0
 ListingsTell {K} t Among =
@@ -50,6 +62,7 @@ NoClash {K} t Among =
 
 pub record AreRuns {K : Kinds} (t : Tree) (Among : Run K → Type 0) : Type 0 where
   pub settle : EachSettles Among
+  pub closed : ClosedHold t Among
   pub agree : ListingsTell t Among
   pub no_clash : NoClash t Among
 

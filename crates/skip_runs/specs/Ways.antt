@@ -2,8 +2,8 @@
 -- or runs without one of the premises, after which some label is another than with skipping off.
 use Rattle.std.specs.Prelude.{◌≡◌, ◌≢◌, ℕ, Bool, true, false, not, ◌==◌, ◌&&◌, if◌then◌else◌, List, [], ◌∷◌, Option, Some, None}
 use Rattle.label_base.specs.Bounded.{all_below, implies}
-use Rattle.skip_runs.specs.Relabel.{Kinds, Tree, Run, State, closed, whole, digests_in, is_current, zeroed, walked, new_label, above_change, after_all, after_all_off, skippable, after}
-use Rattle.skip_runs.specs.Skipping.{AreRuns, EachSettles, ListingsTell, NoClash, HasRun, IsBare}
+use Rattle.skip_runs.specs.Relabel.{Kinds, Tree, Run, State, whole, digests_in, is_current, zeroed, walked, new_label, above_change, after_all, after_all_off, skippable, after}
+use Rattle.skip_runs.specs.Skipping.{AreRuns, ClosedHold, EachSettles, ListingsTell, NoClash, HasRun, IsBare}
 
 -- A way of skipping: which directories count as whole, which stored digests as current, what
 -- becomes of a stored digest that isn't renewed, and whether a run renews.
@@ -89,7 +89,7 @@ names_outside =
 
 -- as the right way, but the extent may have entries that aren't live
 abbrev pub with_exclusions : Way numbers
-with_exclusions = record (right_way numbers) { counts_as_whole = λ t r d. closed t d }
+with_exclusions = record (right_way numbers) { counts_as_whole = λ t r d. r.closed d }
 
 -- as the right way, but digests stay above a changed label
 abbrev pub left_standing : Way numbers
@@ -136,20 +136,28 @@ one_digest listing = 1
 abbrev pub DifferByClash : Type 0
 DifferByClash =
     Differ (numbers_by one_digest)
-    (λ t Among s. EachSettles Among × ListingsTell t Among × IsBare s)
+    (λ t Among s. EachSettles Among × ClosedHold t Among × ListingsTell t Among × IsBare s)
+
+-- all but that a directory which is taken as closed holds its groups
+abbrev pub DifferByClosed : Type 0
+DifferByClosed =
+    Differ numbers
+    (λ t Among s. EachSettles Among × ListingsTell t Among × NoClash t Among × IsBare s)
 
 -- all but that equal listings tell the same
 abbrev pub DifferByListings : Type 0
 DifferByListings =
-    Differ numbers (λ t Among s. EachSettles Among × NoClash t Among × IsBare s)
+    Differ numbers
+    (λ t Among s. EachSettles Among × ClosedHold t Among × NoClash t Among × IsBare s)
 
 -- all but that labels that were given are kept
 abbrev pub DifferByUnsettled : Type 0
 DifferByUnsettled =
-    Differ numbers (λ t Among s. ListingsTell t Among × NoClash t Among × IsBare s)
+    Differ numbers
+    (λ t Among s. ClosedHold t Among × ListingsTell t Among × NoClash t Among × IsBare s)
 
 -- all but that there are no digests to begin with
 abbrev pub DifferByOldDigests : Type 0
 DifferByOldDigests =
     Differ numbers
-    (λ t Among s. EachSettles Among × ListingsTell t Among × NoClash t Among)
+    (λ t Among s. EachSettles Among × ClosedHold t Among × ListingsTell t Among × NoClash t Among)

@@ -8,14 +8,15 @@
 
 ghost use Rattle.skip_runs.specs.Relabel.{HoldsOf};
 ghost use Rattle.skip_runs.specs.Skipping.{AlikeStaysAlike, OneMoreKeepsLabels, SkippingKeepsLabels};
-ghost use Rattle.skip_runs.specs.Ways.{Breaks, DifferByClash, DifferByListings, DifferByOldDigests, DifferByUnsettled, Happens, dry_renews, left_standing, names_outside, numbers, right_way, with_exclusions, zero_counts};
+ghost use Rattle.skip_runs.specs.Ways.{Breaks, DifferByClash, DifferByClosed, DifferByListings, DifferByOldDigests, DifferByUnsettled, Happens, dry_renews, left_standing, names_outside, numbers, right_way, with_exclusions, zero_counts};
 
 /// From a state without digests, runs leave the labels that the same runs leave with skipping off.
 ///
 /// Each run may skip, store digests, be dry, or none of these, and has entries that it is asked for, decisions,
-/// listings and a way to change labels of its own. Asked of the runs: a label that was given is kept where the same
-/// is wanted; runs with equal listings of a directory decide the same in its extent, and change labels alike; and no
-/// two listings that are digested differ and have one digest. Nothing is asked of the tree.
+/// listings, a way to change labels and directories that it takes as closed of its own. Asked of the runs: a label
+/// that was given is kept where the same is wanted; each group that has a name in the extent of a directory which a
+/// run takes as closed lies in it; runs with equal listings of a directory decide the same in its extent, and change
+/// labels alike; and no two listings that are digested differ and have one digest. Nothing is asked of the tree.
 pub fn skipping_keeps_labels<Label, Context, Listing, Digest>()
     ensures { HoldsOf SkippingKeepsLabels Label Context Listing Digest }
 {}
@@ -69,6 +70,11 @@ pub fn the_right_way_keeps_labels()
 /// Did two listings clash, labels would differ.
 pub fn clashes_matter()
     ensures { DifferByClash }
+{}
+
+/// Were a directory taken as closed though a group in it has a name outside, labels would differ.
+pub fn closed_directories_matter()
+    ensures { DifferByClosed }
 {}
 
 /// Did equal listings tell different things, labels would differ.

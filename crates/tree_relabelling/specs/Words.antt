@@ -1,6 +1,8 @@
 -- What the words of setfiles(8) and restorecon(8) ask for.
 use Rattle.std.specs.Prelude.{ℕ, ◌+◌, Bool, true, false, not, ◌||◌, List, length, Option, Some, None, Result, Ok, Err, if◌then◌else◌}
 use Rattle.std.specs.Option.{unwrap_or}
+use Rattle.find_records.specs.declared.format.Format.{Format}
+use Rattle.find_records.specs.declared.format.Format.TheVariants as format
 use Rattle.relabel_core.specs.declared.options.Options.{Options}
 use Rattle.tree_model.specs.declared.choice.Choice.{Choice}
 use Rattle.tool_words.specs.Items.{Item}
@@ -10,7 +12,7 @@ use Rattle.tool_words.specs.declared.usage.Usage.{Usage}
 use Rattle.tool_words.specs.declared.usage.UsageWhy.TheVariants.{MissingOperand, NoOutput}
 use Rattle.policy_files.specs.declared.names.TheConstants.{DEFAULT_BASE}
 use Rattle.tree_relabelling.specs.Letters.{restorecon, setfiles}
-use Rattle.tree_relabelling.specs.declared.letters.TheConstants.{BASE, DIGESTS, DRY, EXCLUDED, FORCE, IGNORE_ABSENT, IGNORE_DIGESTS, MOST_WORKERS, ONE_DEVICE, OUTPUT, RECURSE, RECURSE_TOO, SOFT_ERRORS, STORED, STRICT_LINKS, VERBOSE, WARN_UNMATCHED, WORKERS}
+use Rattle.tree_relabelling.specs.declared.letters.TheConstants.{BASE, DIGESTS, DRY, EXCLUDED, FORCE, IGNORE_ABSENT, IGNORE_DIGESTS, LINK_COUNTS, MOST_WORKERS, ONE_DEVICE, OUTPUT, RECURSE, RECURSE_TOO, SOFT_ERRORS, STORED, STRICT_LINKS, VERBOSE, WARN_UNMATCHED, WORKERS}
 use Rattle.tree_relabelling.specs.declared.words.RelabelWords.{RelabelWords}
 use Rattle.tree_relabelling.specs.declared.words.TheConstants.{DEFAULT_WORKERS}
 
@@ -27,6 +29,10 @@ choice_of always items = record {
   one_device = has_flag ONE_DEVICE items;
 }
 
+-- the records have link counts where the words say so
+abbrev pub format_of : List Item → Format
+format_of items = if has_flag LINK_COUNTS items then format.Two else format.One
+
 abbrev pub options_of : List Item → Options
 options_of items = record {
   force = has_flag FORCE items;
@@ -37,6 +43,7 @@ options_of items = record {
   warn_unmatched = has_flag WARN_UNMATCHED items;
   strict_links = has_flag STRICT_LINKS items;
   ignore_absent = has_flag IGNORE_ABSENT items;
+  format = format_of items;
 }
 
 abbrev pub workers_of : List Item → ℕ

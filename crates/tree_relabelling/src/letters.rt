@@ -3,6 +3,9 @@ ghost use Rattle.tree_relabelling.specs.Letters.{restorecon, setfiles};
 
 use tool_words::{Form, Letter, Others, Takes, ToolLetters, Valued};
 
+/// The records have link counts.
+pub const LINK_COUNTS: u8 = b'2';
+
 /// Errors of the walk end the run with status 1.
 pub const SOFT_ERRORS: u8 = b'C';
 
@@ -59,6 +62,10 @@ pub const MOST_WORKERS: u32 = 64;
 
 // The options of setfiles(8).
 const SETFILES_LETTERS: &[Letter] = &[
+    Letter {
+        letter: LINK_COUNTS,
+        takes: Takes::Flag,
+    },
     Letter {
         letter: SOFT_ERRORS,
         takes: Takes::Flag,
@@ -119,6 +126,10 @@ const SETFILES_LETTERS: &[Letter] = &[
 
 // The options of restorecon(8).
 const RESTORECON_LETTERS: &[Letter] = &[
+    Letter {
+        letter: LINK_COUNTS,
+        takes: Takes::Flag,
+    },
     Letter {
         letter: SOFT_ERRORS,
         takes: Takes::Flag,

@@ -1,13 +1,14 @@
 ghost use Rattle.std.specs.Prelude.{◌≡◌, ◌<◌, ◌+◌, ◌^◌, ◌||◌, IfOk, length};
 ghost use Rattle.label_base.specs.Answers.{Answers, cause_of};
 ghost use Rattle.tool_words.specs.Words.{has_flag, operand_paths, word_texts};
-ghost use Rattle.tree_relabelling.specs.Words.{asked_by, asked_in, base_of, choice_of, end_wrong, lacks_output, options_of, relabel_words, restorecon_words, setfiles_words, workers_of};
+ghost use Rattle.tree_relabelling.specs.Words.{asked_by, asked_in, base_of, choice_of, end_wrong, format_of, lacks_output, options_of, relabel_words, restorecon_words, setfiles_words, workers_of};
 
 use crate::letters::{
-    BASE, DIGESTS, DRY, EXCLUDED, FORCE, IGNORE_ABSENT, IGNORE_DIGESTS, MOST_WORKERS, ONE_DEVICE,
+    BASE, DIGESTS, DRY, EXCLUDED, FORCE, IGNORE_ABSENT, IGNORE_DIGESTS, LINK_COUNTS, MOST_WORKERS, ONE_DEVICE,
     OUTPUT, RECURSE, RECURSE_TOO, SOFT_ERRORS, STORED, STRICT_LINKS, VERBOSE, WARN_UNMATCHED,
     WORKERS, restorecon, setfiles,
 };
+use find_records::Format;
 use label_base::{Fault, Name, OutOfMemory};
 use policy_files::DEFAULT_BASE;
 use relabel_core::Options;
@@ -56,6 +57,17 @@ impl Drop for RelabelWords {
     }
 }
 
+// The format of the records.
+fn format_of(items: &[Item<'_>]) -> Format
+    ensures { result ≡ format_of items.now }
+{
+    if has_flag(LINK_COUNTS, items) {
+        Format::Two
+    } else {
+        Format::One
+    }
+}
+
 fn options_of(items: &[Item<'_>]) -> Options
     ensures { result ≡ options_of items.now }
 {
@@ -68,6 +80,7 @@ fn options_of(items: &[Item<'_>]) -> Options
         warn_unmatched: has_flag(WARN_UNMATCHED, items),
         strict_links: has_flag(STRICT_LINKS, items),
         ignore_absent: has_flag(IGNORE_ABSENT, items),
+        format: format_of(items),
     }
 }
 

@@ -10,5 +10,6 @@ returns-clause-fit c =
     record {
       by_path = c.rises.ensures;
       selected = subst (λ chosen. IsFor entries choice.operands chosen) (sym c.requires.chosen) (selected_is_for choice entries);
+      format = c.requires.format;
       few = c.requires.few;
     }
