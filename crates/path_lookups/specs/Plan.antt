@@ -4,7 +4,6 @@ use Rattle.input_output.specs.Store.{Files}
 use Rattle.file_roles.specs.declared.list.NamedFile.{NamedFile}
 use Rattle.context_syntax.specs.TypeNames.{set_of}
 use Rattle.find_records.specs.declared.format.Format.{Format}
-use Rattle.find_records.specs.declared.format.Format.TheVariants.{One}
 use Rattle.label_rules.specs.declared.rules.Rules.{Rules}
 use Rattle.run_input.specs.Files.{FilesSay, just, read_on}
 use Rattle.policy_files.specs.Files.{list_of, subs_for}
@@ -26,7 +25,7 @@ lookup_names words = policy_names 0 words.base
 
 -- records are taken for -V alone
 abbrev pub lookup_records : LookupWords → Option Format
-lookup_records words = if words.verify then Some One else None
+lookup_records words = if words.verify then Some words.format else None
 
 abbrev pub lookup_plan : LookupWords → Plan
 lookup_plan words = plan_by (lookup_names words) (lookup_records words) false None

@@ -59,7 +59,7 @@ impl Tool for LookupWords {
     }
 
     fn record_format(&self) -> Option<Format> {
-        if self.verify { Some(Format::One) } else { None }
+        if self.verify { Some(self.format) } else { None }
     }
 
     fn has_soft_errors(&self) -> bool {

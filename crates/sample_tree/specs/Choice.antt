@@ -1,5 +1,6 @@
 -- What the walks over a sample are asked for: setfiles -F -v -D over the root.
 use Rattle.std.specs.Prelude.{true, false, [], ◌∷◌}
+use Rattle.find_records.specs.declared.format.Format.TheVariants.{One}
 use Rattle.relabel_core.specs.declared.options.Options.{Options}
 use Rattle.tree_model.specs.declared.choice.Choice.{Choice}
 
@@ -16,4 +17,5 @@ sample_options = record {
   warn_unmatched = false;
   strict_links = false;
   ignore_absent = false;
+  format = One;
 }

@@ -3,6 +3,7 @@ ghost use Rattle.sample_tree.specs.Choice.{sample_choice, sample_options};
 
 use file_paths::NormPath;
 use label_base::{OutOfMemory, Row};
+use find_records::Format;
 use relabel_core::Options;
 use std::alloc::Global;
 use tree_model::Choice;
@@ -34,5 +35,6 @@ pub fn sample_options() -> Options
         warn_unmatched: false,
         strict_links: false,
         ignore_absent: false,
+        format: Format::One,
     }
 }

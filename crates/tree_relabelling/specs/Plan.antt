@@ -3,7 +3,6 @@ use Rattle.std.specs.Prelude.{ℕ, List, [], ◌∷◌, ◌++◌, Option, Some, 
 use Rattle.file_roles.specs.declared.role.Part.TheVariants.{Kept}
 use Rattle.file_roles.specs.Roles.{named, role}
 use Rattle.file_roles.specs.declared.list.NamedFile.{NamedFile}
-use Rattle.find_records.specs.declared.format.Format.TheVariants.{One}
 use Rattle.policy_files.specs.Names.{policy_names, types_name}
 use Rattle.tool_runs.specs.Plan.{Plan, plan_by}
 use Rattle.tree_relabelling.specs.Answer.{answer_of}
@@ -20,6 +19,6 @@ abbrev pub relabel_names : RelabelWords → List NamedFile
 relabel_names words = policy_names 0 words.base ++ types_name ∷ stored_names words.kept
 
 abbrev pub relabel_plan : RelabelWords → Plan
-relabel_plan words = plan_by (relabel_names words) (Some One) words.soft_errors words.output
+relabel_plan words = plan_by (relabel_names words) (Some words.options.format) words.soft_errors words.output
     (found_for words (relabel_names words))
     (λ found entries. Ok (answer_of words found entries))

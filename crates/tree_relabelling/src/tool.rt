@@ -30,7 +30,6 @@ fn add_stored(alloc: Global, stored: &Option<Name>, list: &mut FileList) -> Resu
 
 impl Tool for RelabelWords {
     ghost use Rattle.std.specs.Prelude.{◌<◌, ◌^◌, Ok, Some, length};
-    ghost use Rattle.find_records.specs.declared.format.Format.TheVariants.{One};
     ghost use Rattle.tree_relabelling.specs.Answer.{answer_of};
     ghost use Rattle.tree_relabelling.specs.Found.{found_for};
     ghost use Rattle.tree_relabelling.specs.Plan.{relabel_names};
@@ -39,7 +38,7 @@ impl Tool for RelabelWords {
 
     ghost reads = { relabel_names };
 
-    ghost records = { λ words. Some One };
+    ghost records = { λ words. Some words.options.format };
 
     ghost is_soft = { λ words. words.soft_errors };
 
@@ -60,7 +59,7 @@ impl Tool for RelabelWords {
     }
 
     fn record_format(&self) -> Option<Format> {
-        Some(Format::One)
+        Some(self.options.format)
     }
 
     fn has_soft_errors(&self) -> bool {
