@@ -2,8 +2,8 @@ ghost use Rattle.std.specs.Prelude.{◌≡◌, IfOk};
 ghost use Rattle.sample_tree.specs.Choice.{sample_choice, sample_options};
 
 use file_paths::NormPath;
-use label_base::{OutOfMemory, Row};
 use find_records::Format;
+use label_base::{OutOfMemory, Row};
 use relabel_core::Options;
 use std::alloc::Global;
 use tree_model::Choice;
