@@ -7,7 +7,7 @@ use crate::{
 use context_syntax::{Context, Label, TypeNames, read_customizable};
 use file_paths::{NormPath, PathRef};
 use file_roles::Part;
-use find_records::{RecordLimits, Records, read_records};
+use find_records::{Format, RecordLimits, Records, read_records};
 use input_output::MemSource;
 use label_base::{Asked, Bytes, OutOfMemory, Row, Steps};
 use path_subs::{SubList, Subs, read_subs};
@@ -46,7 +46,7 @@ fn one_directory(alloc: Global) -> Result<Records, Fail> {
         bytes: 99,
         records: 1,
     };
-    Ok(read_records(alloc, &mut input, most)?)
+    Ok(read_records(alloc, &mut input, Format::One, most)?)
 }
 
 fn index_of<L: Ledger>(

@@ -8,7 +8,7 @@ use crate::{
 use context_syntax::TypeNames;
 use file_paths::{NormPath, PathRef};
 use file_roles::Part;
-use find_records::{RecordLimits, read_records};
+use find_records::{Format, RecordLimits, read_records};
 use input_output::MemSource;
 use label_base::{Asked, Bytes, EntryKind, Fault, OutOfMemory, Row, Steps};
 use label_rules::{Rules, look_up_path};
@@ -28,7 +28,7 @@ fn tree_of(alloc: Global, records: &[u8]) -> Result<Tree, Fail> {
         bytes: 9999,
         records: 9,
     };
-    Ok(Tree::new(alloc, read_records(alloc, &mut input, most)?)?)
+    Ok(Tree::new(alloc, read_records(alloc, &mut input, Format::One, most)?)?)
 }
 
 fn list_of(alloc: Global, lines: &[u8]) -> Result<SubList, Fail>
