@@ -3,3 +3,4 @@ pub mod ListingLemmas
 pub mod ReadLemmas
 pub mod AlikeLemmas
 pub mod NulLemmas
+pub mod Sending

@@ -3,6 +3,7 @@ pub mod NotedLemmas
 pub mod ReportLemmas
 pub mod CountLemmas
 pub mod SelectedLemmas
+pub mod FormatLemmas
 pub mod StoredLemmas
 pub mod PassedLemmas
 pub mod CountsLemmas

@@ -2,13 +2,13 @@
 use Rattle.std.specs.Prelude.{◌≡◌, ℕ, ◌<◌, ◌≤◌, ◌+◌, ◌^◌, List, [], length, map, get_or}
 use Rattle.label_base.specs.Bounded.{least_below}
 use Rattle.file_paths.specs.Path.{Path}
-use Rattle.relabel_core.specs.Formats.{AreOf}
 use Rattle.find_records.specs.Record.{Record}
 use Rattle.tree_model.specs.Groups.{groups_in}
 use Rattle.tree_model.specs.Selection.{SelectedValue, selected_by}
 use Rattle.tree_model.specs.Tree.{ByPath}
 use Rattle.relabel_core.specs.declared.options.Options.{Options}
 use Rattle.tree_model.specs.declared.choice.Choice.{Choice}
+use Rattle.relabel_core.specs.Formats.{HaveLinks}
 use Rattle.relabel_core.specs.Numbers.{found_in}
 use Rattle.relabel_core.specs.Stored.{digests_of}
 use Rattle.relabel_core.specs.Walk.{StoredDigests, Walk, can_win, count, deciding, winner}
@@ -52,7 +52,7 @@ pub record IsFor (entries : List Record) (operands : List Path) (chosen : Select
 pub record IsFit (input : WalkInput) : Type 0 where
   pub by_path : ByPath input.tree.now
   pub selected : IsFor input.tree.now input.operands.now input.chosen.now
-  pub format : AreOf input.options.format input.tree.now
+  pub format : HaveLinks input.options.format input.tree.now
   pub few : length input.tree.now + length input.operands.now < 2 ^ 32
 
 -- what is found of all entries and groups, each at its position

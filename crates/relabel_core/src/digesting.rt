@@ -1,8 +1,8 @@
 ghost use Rattle.std.specs.Prelude.{◌≡◌, ◌<◌, IfOk};
 ghost use Rattle.dir_digest.specs.Listings.{terms_in};
 ghost use Rattle.dir_digest.specs.Terms.{is_whole};
-ghost use Rattle.relabel_core.specs.Formats.{AreOf};
 ghost use Rattle.spec_match.specs.Scratches.{IsScratchOf};
+ghost use Rattle.relabel_core.specs.Formats.{HaveLinks};
 ghost use Rattle.relabel_core.specs.Terms.{terms_by};
 ghost use Rattle.relabel_core.specs.Walk.{count, digest_now};
 ghost use Rattle.relabel_core.specs.Walked.{walk_of};
@@ -73,7 +73,7 @@ pub fn digest_of(
     buffers: &mut Buffers,
 ) -> Result<Digest, OutOfMemory>
     requires entry { d < count (walk_of input.now) }
-    requires format { AreOf input.now.options.format input.now.tree.now }
+    requires format { HaveLinks input.now.options.format input.now.tree.now }
     requires listings { terms_in listings.now ≡ terms_by input.now.rules.now input.now.options }
     requires own { IsScratchOf input.now.rules.now.rules buffers.old.scratch }
     ensures own { IsScratchOf input.now.rules.now.rules buffers.new.scratch }

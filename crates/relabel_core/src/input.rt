@@ -1,5 +1,5 @@
 ghost use Rattle.std.specs.Prelude.{◌≡◌, ◌+◌, ◌<◌, ◌^◌, length};
-ghost use Rattle.relabel_core.specs.Formats.{AreOf};
+ghost use Rattle.find_records.specs.Record.{AreOf};
 ghost use Rattle.tree_model.specs.Selection.{selected_by};
 ghost use Rattle.relabel_core.specs.Stored.{digests_of};
 ghost use Rattle.relabel_core.specs.Walked.{IsFit, walk_for, walk_of};

@@ -1,4 +1,6 @@
 ghost use Rattle.std.specs.Prelude.{◌≡◌, ◌<◌, ◌≤◌, ◌^◌, None, IfOk, length};
+ghost use Rattle.find_records.specs.Record.{AreOf};
+ghost use Rattle.find_records.specs.declared.format.Format.TheVariants.{One};
 ghost use Rattle.report_text.specs.Message.{message_of};
 ghost use Rattle.relabel_core.specs.Answer.{walk_in};
 ghost use Rattle.relabel_core.specs.Stored.{digests_listed, no_digests};
@@ -118,6 +120,7 @@ fn walk_again(
 ) -> Result<(u32, u32), OutOfMemory>
     requires choice { choice.now ≡ sample_choice }
     requires tree { length tree.now < 2 ^ 31 }
+    requires format { AreOf One tree.now }
     ensures skipped { IfOk result (λ lines. lines.0
         ≡ lines_of kinds.Skipping
         (sample_walk rules.now tree.now (stored_digests.digests_of stored.now))) }
@@ -132,11 +135,14 @@ fn walk_again(
 }
 
 // The tree that a walk over a tree leaves, with its labels.
+#[tactic(auto, using(tree_model::proofs::FormatLemmas::relabelled_of))]
 fn tree_after(alloc: Global, tree: &Tree, first: &Walked<'_>) -> Result<Tree, OutOfMemory>
-    requires { (walk_in first.now).entries ≡ tree.now }
+    requires walk { (walk_in first.now).entries ≡ tree.now }
+    requires format { AreOf One tree.now }
     ensures value { IfOk result (λ next. next
         ≡ labelled (labels_after (walk_in first.now)) tree.now) }
     ensures same { IfOk result (λ next. DifferInLabels tree.now next) }
+    ensures format { IfOk result (λ next. AreOf One next) }
 {
     let labels = next_labels(alloc, first)?;
     tree.with_labels(alloc, &labels)
@@ -163,6 +169,7 @@ fn walk_next(
 ) -> Result<(u32, u32), OutOfMemory>
     requires choice { choice.now ≡ sample_choice }
     requires tree { length next.now < 2 ^ 31 }
+    requires format { AreOf One next.now }
     requires stored { (walk_in first.now).stored ≡ no_digests }
     requires same { DifferInLabels (walk_in first.now).entries next.now }
     ensures skipped { IfOk result (λ lines. lines.0
@@ -186,6 +193,7 @@ fn walk_after(
 ) -> Result<(u32, u32), OutOfMemory>
     requires choice { choice.now ≡ sample_choice }
     requires tree { length tree.now < 2 ^ 31 }
+    requires format { AreOf One tree.now }
     requires walk { (walk_in first.now).entries ≡ tree.now }
     requires stored { (walk_in first.now).stored ≡ no_digests }
     ensures skipped { IfOk result (λ lines. lines.0
@@ -224,6 +232,7 @@ fn summarize_walks(
     requires fit { IsFit input.now }
     requires choice { choice.now ≡ sample_choice }
     requires tree { length tree.now < 2 ^ 31 }
+    requires format { AreOf One tree.now }
     requires walk { walk_of input.now ≡ first_walk rules.now tree.now }
     ensures { IfOk result (λ summary. summary ≡ sample_summary rules.now tree.now) }
 {
@@ -243,6 +252,7 @@ fn summarize_chosen(
 ) -> Result<Summary, OutOfMemory>
     requires choice { choice.now ≡ sample_choice }
     requires tree { length tree.now < 2 ^ 31 }
+    requires format { AreOf One tree.now }
     requires stored { stored_digests.digests_of stored.now ≡ no_digests }
     ensures { IfOk result (λ summary. summary ≡ sample_summary rules.now tree.now) }
 {
@@ -254,7 +264,8 @@ fn summarize_chosen(
 
 // Walks over a tree twice.
 fn summarize(alloc: Global, rules: &Rules, tree: &Tree) -> Result<Summary, OutOfMemory>
-    requires { length tree.now < 2 ^ 31 }
+    requires tree { length tree.now < 2 ^ 31 }
+    requires format { AreOf One tree.now }
     ensures { IfOk result (λ summary. summary ≡ sample_summary rules.now tree.now) }
 {
     let choice = sample_choice(alloc)?;
@@ -267,7 +278,8 @@ fn summarize(alloc: Global, rules: &Rules, tree: &Tree) -> Result<Summary, OutOf
 /// want of memory alone.
 #[tactic(auto, unfolding(crate::specs::Walks::sample_ending))]
 pub fn sample_ending(alloc: Global, rules: &Rules, tree: &Tree) -> Result<Ending, OutOfMemory>
-    requires { length tree.now < 2 ^ 31 }
+    requires tree { length tree.now < 2 ^ 31 }
+    requires format { AreOf One tree.now }
     ensures { IfOk result (λ ending. ending ≡ sample_ending rules.now tree.now) }
 {
     let summary = summarize(alloc, rules, tree)?;

@@ -1,4 +1,5 @@
 ghost use Rattle.std.specs.Prelude.{◌≡◌, [], ◌<◌, ◌^◌, IfOk, length};
+ghost use Rattle.find_records.specs.Record.{AreOf};
 ghost use Rattle.setfattr_dump.specs.Texts.{dump_text};
 ghost use Rattle.relabel_core.specs.Answer.{walk_in};
 ghost use Rattle.relabel_core.specs.Changes.{changes};
@@ -134,6 +135,7 @@ fn ending_stored(
 ) -> Result<Ending, OutOfMemory>
     requires tree { length tree.now < 2 ^ 31 }
     requires words { length words.now.choice.operands < 2 ^ 31 }
+    requires format { AreOf words.now.options.format tree.now }
     ensures { IfOk result (λ ending. ending
         ≡ ending_of words.now.output (walk_for tree.now words.now.choice found.now.rules
         words.now.options (digests_of stored.now))) }
@@ -161,6 +163,7 @@ pub fn answer_of(
 ) -> Result<Ending, OutOfMemory>
     requires tree { length tree.now < 2 ^ 31 }
     requires words { length words.now.choice.operands < 2 ^ 31 }
+    requires format { AreOf words.now.options.format tree.now }
     ensures { IfOk result (λ ending. ending ≡ answer_of words.now found.now tree.now) }
 {
     let stored = Stored::new(alloc, tree, &found.stored)?;

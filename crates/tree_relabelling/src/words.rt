@@ -4,9 +4,9 @@ ghost use Rattle.tool_words.specs.Words.{has_flag, operand_paths, word_texts};
 ghost use Rattle.tree_relabelling.specs.Words.{asked_by, asked_in, base_of, choice_of, end_wrong, format_of, lacks_output, options_of, relabel_words, restorecon_words, setfiles_words, workers_of};
 
 use crate::letters::{
-    BASE, DIGESTS, DRY, EXCLUDED, FORCE, IGNORE_ABSENT, IGNORE_DIGESTS, LINK_COUNTS, MOST_WORKERS, ONE_DEVICE,
-    OUTPUT, RECURSE, RECURSE_TOO, SOFT_ERRORS, STORED, STRICT_LINKS, VERBOSE, WARN_UNMATCHED,
-    WORKERS, restorecon, setfiles,
+    BASE, DIGESTS, DRY, EXCLUDED, FORCE, IGNORE_ABSENT, IGNORE_DIGESTS, LINK_COUNTS, MOST_WORKERS,
+    ONE_DEVICE, OUTPUT, RECURSE, RECURSE_TOO, SOFT_ERRORS, STORED, STRICT_LINKS, VERBOSE,
+    WARN_UNMATCHED, WORKERS, restorecon, setfiles,
 };
 use find_records::Format;
 use label_base::{Fault, Name, OutOfMemory};
