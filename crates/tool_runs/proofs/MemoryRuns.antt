@@ -61,6 +61,7 @@ module _ {S I O R : Type 0} (files : S → Option Files) (calls : S → Option �
         no_files = untouched;
         is_meant = all_some (files store) (λ known.
             all_some (input_for takes (left input)) (λ bytes. tt));
+        is_meant_alone = λ none known. all_some (input_for takes (left input)) (λ bytes. tt);
         others_stay = others;
         same_files = λ _. same;
         fault_line_written = λ _. line;

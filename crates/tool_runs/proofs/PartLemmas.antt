@@ -23,7 +23,7 @@ use Rattle.run_endings.specs.declared.ending.End.TheVariants as ends
 use Rattle.run_endings.specs.declared.ending.Ending.{Ending}
 use Rattle.run_endings.specs.declared.ending.Saved.{Saved}
 use Rattle.tool_runs.specs.Plan.{answer_by, refusal_in}
-use Rattle.tool_runs.specs.Run.{CallsMade, Ends, FilesDecide, OthersStay, Reports, files_with}
+use Rattle.tool_runs.specs.Run.{CallsMade, Ends, EndsAlone, FilesDecide, OthersStay, Reports, ReportsAlone, files_with}
 use Rattle.tool_runs.specs.Stages.{saved_name}
 
 -- ---- options
@@ -111,6 +111,15 @@ ends_explained files written store out out_now known meant (Differs count) unwri
 ends_explained files written store out out_now known meant WriteFault unwritten is =
     absurd (unwritten tt)
 ends_explained files written store out out_now known meant cause unwritten is = is
+
+pub alone_explained : {O : Type 0} (written : O → Option (List ℕ)) (out out_now : O)
+    (meant : Result Ending Cause) (cause : Cause) → (IsWritten cause → ⊥) → Explained meant cause
+    → EndsAlone written out out_now meant cause
+alone_explained written out out_now meant Done unwritten is = absurd (unwritten tt)
+alone_explained written out out_now meant (WalkErrors count) unwritten is = absurd (unwritten tt)
+alone_explained written out out_now meant (Differs count) unwritten is = absurd (unwritten tt)
+alone_explained written out out_now meant WriteFault unwritten is = absurd (unwritten tt)
+alone_explained written out out_now meant cause unwritten is = is
 
 module _ {R : Type 0} (takes : Option Format) (read : Files → Result R Cause)
     (answered : R → List Record → Result Ending Cause) (known : Files) (bytes : List ℕ) where
@@ -310,6 +319,13 @@ pub ends_reported : {S O : Type 0} (files : S → Option Files) (written : O →
 ends_reported files written store out out_now known meant ends.Done reports = reports
 ends_reported files written store out out_now known meant (ends.WalkErrors count) reports = reports
 ends_reported files written store out out_now known meant (ends.Differs count) reports = reports
+
+pub alone_reported : {O : Type 0} (written : O → Option (List ℕ)) (out out_now : O)
+    (meant : Result Ending Cause) (end : End) → ReportsAlone written out out_now meant (cause_of end)
+    → EndsAlone written out out_now meant (cause_of end)
+alone_reported written out out_now meant ends.Done answers = answers
+alone_reported written out out_now meant (ends.WalkErrors count) answers = answers
+alone_reported written out out_now meant (ends.Differs count) answers = answers
 
 pub same_known : (old new : Option Files) → new ≡ old → IfSome old (λ known. new ≡ Some known)
 same_known None new is = tt

@@ -5,7 +5,7 @@ use Rattle.input_output.specs.Store.{Files}
 use Rattle.file_roles.specs.declared.list.NamedFile.{NamedFile}
 use Rattle.find_records.specs.Record.{Record}
 use Rattle.find_records.specs.declared.format.Format.{Format}
-use Rattle.run_faults.specs.Causes.{CauseCounts, IsFileCause, IsInputCause}
+use Rattle.run_faults.specs.Causes.{CauseCounts, Explained, IsFileCause, IsInputCause}
 use Rattle.run_faults.specs.Faults.{fault_line}
 use Rattle.run_faults.specs.declared.cause.Cause.{Cause}
 use Rattle.run_faults.specs.declared.cause.Cause.TheVariants.{OutOfMemory}
@@ -17,7 +17,7 @@ use Rattle.run_endings.specs.declared.ending.Ending.{Ending}
 use Rattle.tool_runs.specs.Plan.{answer_by, plan_by, refusal_in}
 use Rattle.tool_runs.specs.Run.{Run}
 use Rattle.tool_runs.specs.Stages.{InputRead}
-use Rattle.tool_runs.proofs.PartLemmas.{all_up_to, cause_up_to, counts_calm, counts_later, ends_explained, file_calls, file_explains, files_accepted, files_memory, files_refused, if_some, input_calls, input_explains, input_later, line_later, reported_written, same_known, stay_same, unwritten_file, unwritten_input}
+use Rattle.tool_runs.proofs.PartLemmas.{all_up_to, alone_explained, cause_up_to, counts_calm, counts_later, ends_explained, file_calls, file_explains, files_accepted, files_memory, files_refused, if_some, input_calls, input_explains, input_later, line_later, reported_written, same_known, stay_same, unwritten_file, unwritten_input}
 use Rattle.tool_runs.proofs.MemoryRuns.{accepted_memory, gave_up}
 
 module _ {S I O R : Type 0} (files : S → Option Files) (calls : S → Option ℕ)
@@ -40,8 +40,10 @@ module _ {S I O R : Type 0} (files : S → Option Files) (calls : S → Option �
   -- a refused file
   refused_file : (cause : Cause)
       → Reads files calls read_faults write_faults read store store_now (Err cause)
-      → (reads ≡ [] → store_now ≡ store) → input_now ≡ input → Fault_line cause → Ran cause
-  refused_file cause ended unread still line =
+      → (reads ≡ [] → store_now ≡ store)
+      → (reads ≡ [] → (known : Files) → Explained (says known) cause)
+      → input_now ≡ input → Fault_line cause → Ran cause
+  refused_file cause ended unread alone still line =
       record {
         wrong_words = tt;
         only_wrong_words = λ wrong is. absurd (subst IsFileCause is ended.kinds);
@@ -59,6 +61,11 @@ module _ {S I O R : Type 0} (files : S → Option Files) (calls : S → Option �
             (answer_by takes says answered known bytes) cause
             (unwritten_file cause ended.kinds)
             (file_explains takes says answered known bytes cause explained))) ended.gives;
+        is_meant_alone = λ none known.
+            all_some (input_for takes (left input)) (λ bytes.
+            alone_explained written out out_now (answer_by takes says answered known bytes) cause
+            (unwritten_file cause ended.kinds)
+            (file_explains takes says answered known bytes cause (alone none known)));
         others_stay = stay_same (files store) (files store_now) output ended.same;
         same_files = λ _. same_known (files store) (files store_now) ended.same;
         fault_line_written = λ _. line;
@@ -85,8 +92,9 @@ module _ {S I O R : Type 0} (files : S → Option Files) (calls : S → Option �
   refused_input : (cause : Cause) (found : R)
       → Reads files calls read_faults write_faults read store store_now (Ok found)
       → InputRead left input_faults takes input input_now (Err cause) → IsInputCause cause
-      → (reads ≡ [] → store_now ≡ store) → Fault_line cause → Ran cause
-  refused_input cause found accepted entries kind unread line =
+      → (reads ≡ [] → store_now ≡ store)
+      → (reads ≡ [] → (known : Files) → says known ≡ Ok found) → Fault_line cause → Ran cause
+  refused_input cause found accepted entries kind unread alone line =
       record {
         wrong_words = tt;
         only_wrong_words = λ wrong is. absurd (subst IsInputCause is kind);
@@ -104,6 +112,12 @@ module _ {S I O R : Type 0} (files : S → Option Files) (calls : S → Option �
             (answer_by takes says answered known bytes) cause (unwritten_input cause kind)
             (input_explains takes says answered known bytes found cause is explained))
             entries.gives) accepted.gives;
+        is_meant_alone = λ none known.
+            if_some (input_for takes (left input)) (λ bytes explained.
+            alone_explained written out out_now (answer_by takes says answered known bytes) cause
+            (unwritten_input cause kind)
+            (input_explains takes says answered known bytes found cause (alone none known)
+            explained)) entries.gives;
         others_stay = stay_same (files store) (files store_now) output accepted.same;
         same_files = λ _. same_known (files store) (files store_now) accepted.same;
         fault_line_written = λ _. line;
@@ -139,11 +153,12 @@ module _ {S I O R : Type 0} (files : S → Option Files) (calls : S → Option �
   pub ended_by_file : (refusal cause : Cause) (list : List NamedFile)
       → (cause ≡ refusal) ⊎ (cause ≡ OutOfMemory) → list ≡ reads
       → Reads files calls read_faults write_faults read store store_now (Err refusal)
-      → (reads ≡ [] → store_now ≡ store) → input_now ≡ input
+      → (reads ≡ [] → store_now ≡ store)
+      → (reads ≡ [] → (known : Files) → Explained (says known) refusal) → input_now ≡ input
       → LineOrFront written out_faults out out_now (fault_line list cause) → Ran cause
-  ended_by_file refusal cause list (inl is) own ended unread still line =
-      subst Ran (sym is) (refused_file refusal ended unread still (line_for list cause refusal own is line))
-  ended_by_file refusal cause list (inr is) own ended unread still line =
+  ended_by_file refusal cause list (inl is) own ended unread alone still line =
+      subst Ran (sym is) (refused_file refusal ended unread alone still (line_for list cause refusal own is line))
+  ended_by_file refusal cause list (inr is) own ended unread alone still line =
       subst Ran (sym is) (gave_up _ _ _ _ _ _ _ _ _ _ _ _ _ _ _ _ _ _ _ _
       (all_some (files store) (λ known. files_memory (input_now ≡ input) (says known) still))
       (if_some (files store) (λ known.
@@ -161,11 +176,12 @@ module _ {S I O R : Type 0} (files : S → Option Files) (calls : S → Option �
       → Reads files calls read_faults write_faults read store store_now (Ok found)
       → InputRead left input_faults takes input input_now (Err refusal) → IsInputCause refusal
       → (reads ≡ [] → store_now ≡ store)
+      → (reads ≡ [] → (known : Files) → says known ≡ Ok found)
       → LineOrFront written out_faults out out_now (fault_line list cause) → Ran cause
-  ended_by_input refusal cause list found (inl is) own accepted entries kind unread line =
+  ended_by_input refusal cause list found (inl is) own accepted entries kind unread alone line =
       subst Ran (sym is)
-      (refused_input refusal found accepted entries kind unread (line_for list cause refusal own is line))
-  ended_by_input refusal cause list found (inr is) own accepted entries kind unread line =
+      (refused_input refusal found accepted entries kind unread alone (line_for list cause refusal own is line))
+  ended_by_input refusal cause list found (inr is) own accepted entries kind unread alone line =
       subst Ran (sym is) (gave_up _ _ _ _ _ _ _ _ _ _ _ _ _ _ _ _ _ _ _ _
       (accepted_memory files calls read_faults write_faults left input_faults written out_faults reads
       takes soft output read answered store store_now input input_now out out_now store_now found

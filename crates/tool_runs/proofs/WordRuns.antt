@@ -58,6 +58,7 @@ module _ {S I O : Type 0} (files : S → Option Files) (calls : S → Option ℕ
         is_meant = all_some (files store) (λ known.
             ends_explained files written store out out_now known
             (Err (causes.Usage wrong.index wrong.why)) cause unwritten explained);
+        is_meant_alone = tt;
         others_stay = refl;
         same_files = λ _. all_known (files store);
         fault_line_written = λ _. line;

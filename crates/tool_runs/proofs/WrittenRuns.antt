@@ -18,9 +18,9 @@ use Rattle.run_input.proofs.ReadsLemmas.{calls_on}
 use Rattle.run_endings.specs.Endings.{LineOrFront, Saves, WritesReport, cause_of, writes_of}
 use Rattle.run_endings.specs.declared.ending.Ending.{Ending}
 use Rattle.tool_runs.specs.Plan.{answer_by, plan_by}
-use Rattle.tool_runs.specs.Run.{Ends, LosesDump, LosesReport, OthersStay, Run, files_with}
+use Rattle.tool_runs.specs.Run.{Ends, EndsAlone, LosesDump, LosesReport, OthersStay, Run, files_with}
 use Rattle.tool_runs.specs.Stages.{Ended, InputRead, loses_file, refuses, saved_name, saves_file, saves_nothing}
-use Rattle.tool_runs.proofs.PartLemmas.{all_saved, all_up_to, answer_is, end_kept, end_written, ends_explained, ends_reported, exactly, failing_named, files_accepted, if_both, if_some, input_calls, input_later, line_later, none_named, none_saved, others_stay, reported_written, same_known, stay_same, unwritten_input, writes_named, written_calls, written_later}
+use Rattle.tool_runs.proofs.PartLemmas.{all_saved, all_up_to, alone_explained, alone_reported, answer_is, end_kept, end_written, ends_explained, ends_reported, exactly, failing_named, files_accepted, if_both, if_some, input_calls, input_later, line_later, none_named, none_saved, others_stay, reported_written, same_known, stay_same, unwritten_input, writes_named, written_calls, written_later}
 use Rattle.tool_runs.proofs.MemoryRuns.{accepted_memory, gave_up}
 
 module _ {S I O R : Type 0} (files : S → Option Files) (calls : S → Option ℕ)
@@ -45,6 +45,10 @@ module _ {S I O R : Type 0} (files : S → Option Files) (calls : S → Option �
       Ends files written store_now out out_now known (answer_by takes says answered known bytes)
       cause))
 
+  abbrev Solo : Cause → Type 0
+  Solo cause = reads ≡ [] → (known : Files) → IfSome (input_for takes (left input)) (λ bytes.
+      EndsAlone written out out_now (answer_by takes says answered known bytes) cause)
+
   abbrev WriteFailed : Type 0
   WriteFailed = LosesDump written out_faults (write_faults store) (write_faults store_now) out
       out_now (Ok (plan_by reads takes soft output read answered))
@@ -57,7 +61,8 @@ module _ {S I O R : Type 0} (files : S → Option Files) (calls : S → Option �
       (accepted : Reads files calls read_faults write_faults read store mid (Ok found))
       (given : InputRead left input_faults takes input input_now (Ok entries))
       (ended : IsSome takes → IfSome (left input) (λ bytes. left input_now ≡ Some []))
-      (unread : reads ≡ [] → mid ≡ store) where
+      (unread : reads ≡ [] → mid ≡ store)
+      (alone : reads ≡ [] → (known : Files) → says known ≡ Ok found) where
     -- the files were opened, and then so many writes were tried
     calls_behind : (more : ℕ) → Calls (calls mid) (calls store_now) more
         → IfSome (files store) (λ known.
@@ -113,6 +118,13 @@ module _ {S I O R : Type 0} (files : S → Option Files) (calls : S → Option �
               (sym (answer_is takes says answered known bytes found entries
               (answered found entries) is entered refl)) explained))
               given.gives) accepted.gives;
+          is_meant_alone = λ none known.
+              if_some (input_for takes (left input)) (λ bytes entered.
+              alone_explained written out out_now (answer_by takes says answered known bytes) cause
+              (unwritten_input cause kind)
+              (subst (λ (meant : Result Ending Cause). Explained meant cause)
+              (sym (answer_is takes says answered known bytes found entries
+              (answered found entries) (alone none known) entered refl)) explained)) given.gives;
           others_stay = stay_same (files store) (files store_now) output same;
           same_files = λ _. same_known (files store) (files store_now) same;
           fault_line_written = λ _. line;
@@ -195,9 +207,9 @@ module _ {S I O R : Type 0} (files : S → Option Files) (calls : S → Option �
           → (IsReported cause → out_faults out_now ≡ out_faults out)
           → read_faults store_now ≡ read_faults mid → write_faults store ≤ write_faults store_now
           → ((cause ≡ WriteFault → ⊥) → write_faults store_now ≡ write_faults store)
-          → Meant cause → (cause ≡ WriteFault → WriteFailed) → Ran cause
+          → Meant cause → Solo cause → (cause ≡ WriteFault → WriteFailed) → Ran cause
       tried cause result kind saves made_calls unasked sinks sunk uncounted later calm meant
-          failed =
+          solo failed =
           record {
             wrong_words = tt;
             only_wrong_words = λ wrong is. absurd (subst IsWritten is kind);
@@ -210,6 +222,7 @@ module _ {S I O R : Type 0} (files : S → Option Files) (calls : S → Option �
                 (writes_of output) cause kind) (writes made_calls);
             no_files = untouched unasked;
             is_meant = meant;
+            is_meant_alone = solo;
             others_stay = stays result saves;
             same_files = λ unwritten. absurd (unwritten kind);
             fault_line_written = λ unwritten. absurd (unwritten kind);
@@ -242,6 +255,9 @@ module _ {S I O R : Type 0} (files : S → Option Files) (calls : S → Option �
           if_some (input_for takes (left input)) (λ bytes entered.
           ap is_ok (answer_is takes says answered known bytes found entries (Ok made) accepts
           entered is)) given.gives) accepted.gives)
+          (λ none known. if_some (input_for takes (left input)) (λ bytes entered.
+          ap is_ok (answer_is takes says answered known bytes found entries (Ok made)
+          (alone none known) entered is)) given.gives)
           (λ _. failed))
 
       -- the file was saved, and the report written whole or not
@@ -266,6 +282,15 @@ module _ {S I O R : Type 0} (files : S → Option Files) (calls : S → Option �
             whole = done.1.0;
             saved = saved;
           })) given.gives) accepted.gives (saved_now saves))
+          (λ none known. if_some (input_for takes (left input)) (λ bytes entered.
+          alone_reported written out out_now (answer_by takes says answered known bytes) made.end
+          (record {
+            reported = made;
+            is_meant = answer_is takes says answered known bytes found entries (Ok made)
+                (alone none known) entered is;
+            cause_is = refl;
+            whole = done.1.0;
+          })) given.gives)
           (λ cause_is. absurd (end_kept made.end cause_is)))
       finished cause saves made_calls unasked unwritten uncounted (inr failed) =
           failed_to_write cause (Ok tt) failed.0 saves made_calls unasked failed.1.1 uncounted

@@ -10,6 +10,7 @@ use Rattle.tool_runs.specs.Plan.{Plan, answer_in, input_in, output_in, reads_in}
 use Rattle.run_faults.specs.Causes.{Explained, IsFileCause, IsReadingCause, IsReported, IsWritten}
 use Rattle.run_endings.specs.Endings.{LineOrFront, cause_of, writes_of}
 use Rattle.run_input.specs.Files.{CallsUpTo}
+use Rattle.run_input.specs.Records.{input_for}
 use Rattle.run_faults.specs.Faults.{fault_line}
 use Rattle.run_faults.specs.declared.cause.Cause.{Cause}
 use Rattle.run_faults.specs.declared.cause.Cause.TheVariants as causes
@@ -79,6 +80,25 @@ Ends files written store out out_now known meant (Differs count) =
     Reports files written store out out_now known meant (Differs count)
 Ends files written store out out_now known meant WriteFault = IsOk meant
 Ends files written store out out_now known meant cause = Explained meant cause
+
+-- the report that is meant was written, and the cause is the report's
+pub record ReportsAlone {O : Type 0} (written : O → Option (List ℕ)) (out out_now : O)
+    (meant : Result Ending Cause) (cause : Cause) : Type 0 where
+  pub reported : Ending
+  pub is_meant : meant ≡ Ok reported
+  pub cause_is : cause ≡ cause_of reported.end
+  pub whole : Appends (written out) (written out_now) reported.report
+
+-- the end of a run is the one that is meant, as far as it doesn't touch the store
+abbrev pub EndsAlone : {O : Type 0} → (O → Option (List ℕ)) → O → O → Result Ending Cause → Cause
+    → Type 0
+EndsAlone written out out_now meant Done = ReportsAlone written out out_now meant Done
+EndsAlone written out out_now meant (WalkErrors count) =
+    ReportsAlone written out out_now meant (WalkErrors count)
+EndsAlone written out out_now meant (Differs count) =
+    ReportsAlone written out out_now meant (Differs count)
+EndsAlone written out out_now meant WriteFault = IsOk meant
+EndsAlone written out out_now meant cause = Explained meant cause
 
 -- ---- failed reads and writes
 
@@ -151,6 +171,10 @@ pub record Run {S I O : Type 0} (files : S → Option Files) (calls : S → Opti
   -- the dump.
   pub is_meant : IfSome (files store) (λ known. IfSome (input_in asked (left input)) (λ bytes.
       Ends files written store_now out out_now known (answer_in asked known bytes) cause))
+  -- A tool that reads no file ends as it is meant to whatever the store tells.
+  pub is_meant_alone : IfOk asked (λ plan. plan.reads ≡ [] → (known : Files)
+      → IfSome (input_for plan.records (left input)) (λ bytes.
+      EndsAlone written out out_now (plan.answer known bytes) cause))
   -- Whatever the end, all files but that of the dump are as before; and where nothing was to be
   -- written yet, that one too. The sink gained the line that tells the cause then.
   pub others_stay : OthersStay (files store) (files store_now) (output_in asked)

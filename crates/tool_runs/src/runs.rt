@@ -1,5 +1,6 @@
 ghost use Rattle.std.specs.Prelude.{◌≡◌, ◌<◌, ◌^◌, [], IfOk, Ok, Result, length};
 ghost use Rattle.label_base.specs.Answers.{Answers, cause_of};
+ghost use Rattle.input_output.specs.Store.{Files};
 ghost use Rattle.tool_words.specs.declared.usage.Usage.{Usage};
 ghost use Rattle.run_faults.specs.Faults.{status_of};
 ghost use Rattle.run_input.specs.Files.{Reads};
@@ -65,6 +66,8 @@ fn run_found<T: Tool, S: Store, I: Source, O: Sink>(
         → Reads S.files S.calls S.read_faults S.write_faults (T.files_say tool.now) before store.old
         (Ok found.now)
         → (T.reads tool.now ≡ [] → store.old ≡ before)
+        → (T.reads tool.now ≡ [] → (known : Files)
+        → (T.files_say tool.now known).says ≡ Ok found.now)
         → Run S.files S.calls S.read_faults S.write_faults I.left I.faults O.written O.faults
         (Ok (plan_by (T.reads tool.now) (T.records tool.now) (T.is_soft tool.now)
         (T.output tool.now) (T.files_say tool.now) (T.answered tool.now)))

@@ -59,7 +59,7 @@ pub trait Tool {
         ensures { result ≡ is_soft self.now };
 
     /// Reads the files, each whole before the next, and what they say; where there are none, the store
-    /// stays as it is. The error is a failed read, or the first refusal among the files.
+    /// stays as it is, and has no say in it. The error is a failed read, or the first refusal among the files.
     fn read_files<S: Store>(
         &self,
         alloc: Global,
@@ -69,7 +69,9 @@ pub trait Tool {
         requires { list.now ≡ reads self.now }
         ensures reads { Reads S.files S.calls S.read_faults S.write_faults (files_say self.now)
             store.old store.new result }
-        ensures unread { reads self.now ≡ [] → store.new ≡ store.old };
+        ensures unread { reads self.now ≡ [] → store.new ≡ store.old }
+        ensures alone { reads self.now ≡ [] → (known : Files)
+            → Gives (files_say self.now known).says result };
 
     /// Makes all that is written at the end. The error is a refusal of what the tool reads itself,
     /// or want of memory.

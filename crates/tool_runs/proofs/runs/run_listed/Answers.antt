@@ -6,8 +6,8 @@ pub returns-in-Err : goal.returns-in-Err
 returns-in-Err g c =
     ended_by_file _ _ _ _ _ _ _ _ _ _ _ _ _ _ _ _ _ _ _ _ c.in-Err.refusal c.refuse.result
     c.args.list.now c.refuse.ensures.cause c.requires.list c.in-Err.ensures.reads
-    c.in-Err.ensures.unread refl
+    c.in-Err.ensures.unread c.in-Err.ensures.alone refl
     c.refuse.ensures.line
 
 pub returns : goal.returns
-returns g c = c.run_found.ensures _ c.in-Ok.ensures.reads c.in-Ok.ensures.unread
+returns g c = c.run_found.ensures _ c.in-Ok.ensures.reads c.in-Ok.ensures.unread c.in-Ok.ensures.alone

@@ -12,3 +12,6 @@ returns-clause-reads g c = record {
   counts = c.read_own_files.ensures.counts (g.S.Store.read_faults c.args._store.now);
   kinds = c.read_own_files.ensures.kinds;
 }
+
+pub returns-clause-alone : goal.returns-clause-alone
+returns-clause-alone g c = λ none known. c.read_own_files.ensures.answer
