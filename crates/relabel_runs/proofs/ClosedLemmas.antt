@@ -13,12 +13,12 @@ use Rattle.tree_model.specs.Extents.{entry_at, in_extent}
 use Rattle.tree_model.specs.Groups.{closed_at, group_of, holds_groups, holds_names, is_met}
 use Rattle.skip_runs.specs.Skipping.{HoldsGroups}
 use Rattle.relabel_runs.specs.Runs.{labelled}
-use Rattle.relabel_runs.proofs.AlikeLemmas.{AreAlike, count_same, group_same, kinds_same, links_at, paths_same}
+use Rattle.relabel_runs.proofs.OutlineLemmas.{SameOutline, count_same, group_same, kinds_same, links_at, paths_same}
 use Rattle.relabel_runs.proofs.LabelledLemmas.{alike_labelled, links_labelled}
 use Rattle.relabel_runs.proofs.WalkLemmas.{tree_of}
 
 -- trees that are the same but for labels have the same closed directories
-closed_alike : (a b : List Record) → AreAlike a b → links_at a ≡ links_at b → closed_at a ≡ closed_at b
+closed_alike : (a b : List Record) → SameOutline a b → links_at a ≡ links_at b → closed_at a ≡ closed_at b
 closed_alike a b alike links =
     let count = count_same a b alike in
     let paths = paths_same a b alike in

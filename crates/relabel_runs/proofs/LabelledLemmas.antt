@@ -10,24 +10,24 @@ use Rattle.find_records.specs.declared.format.Format.{Format}
 use Rattle.tree_model.specs.Extents.{entry_at}
 use Rattle.tree_model.specs.Groups.{group_of, label_at, label_in}
 use Rattle.relabel_runs.specs.Runs.{labelled, labelled_from, read_as}
-use Rattle.relabel_runs.proofs.AlikeLemmas.{AreAlike, count_same, group_same, links_at, outline}
+use Rattle.relabel_runs.proofs.OutlineLemmas.{SameOutline, count_same, group_same, links_at, outline}
 
-alike_from : (f : ℕ → Label) (n : ℕ) (es : List Record) → AreAlike (labelled_from f n es) es
+alike_from : (f : ℕ → Label) (n : ℕ) (es : List Record) → SameOutline (labelled_from f n es) es
 alike_from f n [] = refl
 alike_from f n (e ∷ es) = ap (λ rest. outline e ∷ rest) (alike_from f (suc n) es)
 
 abbrev on : List Record → (ℕ → Label) → ℕ → Label
 on entries labels e = labels (group_of entries e)
 
-pub alike_labelled : (entries : List Record) (labels : ℕ → Label) → AreAlike (labelled entries labels) entries
+pub alike_labelled : (entries : List Record) (labels : ℕ → Label) → SameOutline (labelled entries labels) entries
 alike_labelled entries labels = alike_from (on entries labels) 0 entries
 
-pub alike_read : (format : Format) (entries : List Record) → AreAlike (read_as format entries) entries
+pub alike_read : (format : Format) (entries : List Record) → SameOutline (read_as format entries) entries
 alike_read format [] = refl
 alike_read format (e ∷ es) = ap (λ rest. outline e ∷ rest) (alike_read format es)
 
 -- labels aside, the tree that a run sees
-pub alike_seen : (format : Format) (entries : List Record) (labels : ℕ → Label) → AreAlike (labelled (read_as format entries) labels) entries
+pub alike_seen : (format : Format) (entries : List Record) (labels : ℕ → Label) → SameOutline (labelled (read_as format entries) labels) entries
 alike_seen format entries labels = alike_labelled (read_as format entries) labels ∙ alike_read format entries
 
 links_from : (f : ℕ → Label) (n : ℕ) (es : List Record) (e : ℕ) → (entry_at (labelled_from f n es) e).links ≡ (entry_at es e).links

@@ -1,5 +1,5 @@
 pub mod DecideLemmas
-pub mod AlikeLemmas
+pub mod OutlineLemmas
 pub mod LabelledLemmas
 pub mod ClosedLemmas
 pub mod WalkLemmas

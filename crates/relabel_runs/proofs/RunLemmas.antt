@@ -31,7 +31,7 @@ use Rattle.relabel_runs.specs.Laws.{IsNow, KeepsLabels, NoneSkipped, OneMoreRunK
 use Rattle.relabel_runs.specs.Premises.{AreRuns, HasRun, IsDigested, terms_in}
 use Rattle.relabel_runs.specs.Runs.{IsBare, Run, State, after, end, end_off, labelled, not_skipping, read_as, walk_at}
 use Rattle.relabel_runs.proofs.DecideLemmas.{given_alike, given_settles}
-use Rattle.relabel_runs.proofs.AlikeLemmas.{AreAlike, count_same, group_same, kind_in, kinds_same, path_in, paths_same, selected_same}
+use Rattle.relabel_runs.proofs.OutlineLemmas.{SameOutline, count_same, group_same, kind_in, kinds_same, path_in, paths_same, selected_same}
 use Rattle.relabel_runs.proofs.ClosedLemmas.{closed_holds, closed_seen}
 use Rattle.relabel_runs.proofs.LabelledLemmas.{alike_read, alike_seen, label_there}
 use Rattle.relabel_runs.proofs.ToldLemmas.{context_told}
@@ -46,7 +46,7 @@ state_in s = record { labels = s.labels; digests = s.digests }
 
 -- ---- a run over the tree in a state
 
-tree_same : (a b : List Record) → AreAlike a b → tree_of a ≡ tree_of b
+tree_same : (a b : List Record) → SameOutline a b → tree_of a ≡ tree_of b
 tree_same a b alike =
     λ i. record {
       count = count_same a b alike i;
@@ -59,7 +59,7 @@ tree_same a b alike =
 abbrev seen : List Record → State → Run → List Record
 seen entries s run = labelled (read_as run.options.format entries) s.labels
 
-seen_alike : (entries : List Record) (s : State) (run : Run) → AreAlike (seen entries s run) entries
+seen_alike : (entries : List Record) (s : State) (run : Run) → SameOutline (seen entries s run) entries
 seen_alike entries s run = alike_seen run.options.format entries s.labels
 
 run_same : (entries : List Record) (s : State) (run : Run) → run_of (walk_at entries s run) ≡ run_in entries run
@@ -116,7 +116,7 @@ no_skip false c x = refl
 
 skips_off : (entries : List Record) (run : Run) (s : runs.State kinds) → runs.skippable (tree_of entries) (run_in entries (not_skipping run)) s ≡ (λ d. false)
 skips_off entries run s =
-    fun_ext (λ d. no_skip (is_directory entries d) (whole_at entries (selected_by run.choice entries).live d)
+    fun_ext (λ d. no_skip (is_directory entries d) (runs.whole (tree_of entries) (run_in entries (not_skipping run)) d)
     (runs.is_current kinds (s.digests d) ((run_in entries (not_skipping run)).listing d)))
 
 run_off : (entries : List Record) (run : Run) (s : runs.State kinds)

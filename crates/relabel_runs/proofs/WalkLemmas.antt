@@ -27,7 +27,7 @@ use Rattle.relabel_core.specs.Walk.{Walk, can_win, count, deciding, digest_after
 use Rattle.label_rules.specs.LookUp.{given_at, index_asked, index_for}
 use Rattle.label_rules.specs.declared.rules.Rules.{Rules}
 use Rattle.relabel_runs.proofs.DecideLemmas.{given, label_given}
-use Rattle.relabel_runs.proofs.AlikeLemmas.{kind_in, path_in}
+use Rattle.relabel_runs.proofs.OutlineLemmas.{kind_in, path_in}
 
 -- labels and contexts as they are, listings by their bytes, and the digests of these
 abbrev pub kinds : Kinds

@@ -1,10 +1,12 @@
-ghost use Rattle.std.specs.Prelude.{◌≡◌, ◌<◌};
+ghost use Rattle.std.specs.Prelude.{◌≡◌, ◌<◌, IfOk};
+ghost use Rattle.find_records.specs.Record.{AreOf};
+ghost use Rattle.find_records.specs.declared.format.Format.TheVariants.{One};
 
 use crate::{next_walk, none_is_skipped, one_more_run_keeps_labels, skipping_keeps_labels};
 use context_syntax::TypeNames;
 use file_paths::NormPath;
 use file_roles::Part;
-use find_records::{RecordLimits, read_records};
+use find_records::{Format, RecordLimits, read_records};
 use input_output::MemSource;
 use label_base::{Bytes, OutOfMemory, Row, Steps};
 use label_rules::Rules;
@@ -28,17 +30,21 @@ const DIGESTING: Options = Options {
     warn_unmatched: false,
     strict_links: false,
     ignore_absent: false,
+    format: Format::One,
 };
 
 // One file, whose label changes.
-fn one_file(alloc: Global) -> Result<Tree, Fail> {
+fn one_file(alloc: Global) -> Result<Tree, Fail>
+    ensures { IfOk result (λ tree. AreOf One tree) }
+{
     let records = Bytes::copy_of(alloc, b"f 1 2 u:r:old_t:s0 /srv\0")?;
     let mut source = MemSource::new(records, 100, Row::new(alloc));
     let limits = RecordLimits {
         records: 9,
         bytes: 999,
     };
-    Ok(Tree::new(alloc, read_records(alloc, &mut source, limits)?)?)
+    let records = read_records(alloc, &mut source, Format::One, limits)?;
+    Ok(Tree::new(alloc, records)?)
 }
 
 fn no_subs(alloc: Global) -> Result<Subs, Fail> {
@@ -89,6 +95,7 @@ fn decided<L: Ledger>(
     rules: &Rules,
     blank: Blank,
 ) -> Result<Option<u32>, OutOfMemory>
+    requires format { AreOf One tree.now }
     requires name { blank.name ≡ L.name }
     requires parts { blank.parts ≡ L.parts }
     requires some { 0 < blank.parts }

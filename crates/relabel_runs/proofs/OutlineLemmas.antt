@@ -20,8 +20,8 @@ abbrev pub outline : Record → Record
 outline entry = record entry { links = None; label = Absent }
 
 -- trees that are the same but for labels and link counts
-abbrev pub AreAlike : List Record → List Record → Type 0
-AreAlike a b = map outline a ≡ map outline b
+abbrev pub SameOutline : List Record → List Record → Type 0
+SameOutline a b = map outline a ≡ map outline b
 
 abbrev pub path_in : List Record → ℕ → Path
 path_in entries e = (entry_at entries e).path
@@ -64,27 +64,27 @@ place_kept path [] = refl
 place_kept path (e ∷ es) = ap (λ k. cond (not (is_at path e)) (1 + k) 0) (place_kept path es)
 
 -- what an outline keeps is the same in trees that are alike
-kept_same : {X : Type 0} (f : List Record → X) (a b : List Record) → ((es : List Record) → f (map outline es) ≡ f es) → AreAlike a b → f a ≡ f b
+kept_same : {X : Type 0} (f : List Record → X) (a b : List Record) → ((es : List Record) → f (map outline es) ≡ f es) → SameOutline a b → f a ≡ f b
 kept_same f a b kept alike = sym (kept a) ∙ ap f alike ∙ kept b
 
-pub count_same : (a b : List Record) → AreAlike a b → length a ≡ length b
+pub count_same : (a b : List Record) → SameOutline a b → length a ≡ length b
 count_same a b alike = kept_same length a b (λ es. length-map es outline) alike
 
-pub paths_same : (a b : List Record) → AreAlike a b → path_in a ≡ path_in b
+pub paths_same : (a b : List Record) → SameOutline a b → path_in a ≡ path_in b
 paths_same a b alike = kept_same path_in a b (λ es. fun_ext (λ e. path_kept es e)) alike
 
-pub kinds_same : (a b : List Record) → AreAlike a b → kind_in a ≡ kind_in b
+pub kinds_same : (a b : List Record) → SameOutline a b → kind_in a ≡ kind_in b
 kinds_same a b alike = kept_same kind_in a b (λ es. fun_ext (λ e. kind_kept es e)) alike
 
-inodes_same : (a b : List Record) → AreAlike a b → inode_at a ≡ inode_at b
+inodes_same : (a b : List Record) → SameOutline a b → inode_at a ≡ inode_at b
 inodes_same a b alike = kept_same inode_at a b (λ es. fun_ext (λ e. inode_kept es e)) alike
 
-find_same : (a b : List Record) → AreAlike a b → finder a ≡ finder b
+find_same : (a b : List Record) → SameOutline a b → finder a ≡ finder b
 find_same a b alike =
     kept_same finder a b
     (λ es. fun_ext (λ path. ap₂ (λ k n. cond (nat_lt k n) (Some k) None) (place_kept path es) (length-map es outline))) alike
 
-pub group_same : (a b : List Record) (e : ℕ) → AreAlike a b → group_of a e ≡ group_of b e
+pub group_same : (a b : List Record) (e : ℕ) → SameOutline a b → group_of a e ≡ group_of b e
 group_same a b e alike =
     kept_same (λ es. group_of es e) a b
     (λ es. ap₂ (λ inode inodes. position_or_len (same_inode inode) (inodes_behind [] inodes)) (inode_kept es e) (inodes_kept es)) alike
@@ -124,7 +124,7 @@ unfolding admitting admitting_by
 live_is choice entries e =
     ap (λ test. list_any test choice.operands && not (list_any (λ excluded. at_or_below (path_in entries e) excluded) choice.excluded)) (admitting_is choice entries e)
 
-live_same : (a b : List Record) (choice : Choice) (e : ℕ) → AreAlike a b → is_live choice a e ≡ is_live choice b e
+live_same : (a b : List Record) (choice : Choice) (e : ℕ) → SameOutline a b → is_live choice a e ≡ is_live choice b e
 live_same a b choice e alike =
     live_is choice a e
     ∙ ap (λ n. live_by choice n (path_in a) (inode_at a) (finder a) e) (count_same a b alike)
@@ -133,6 +133,6 @@ live_same a b choice e alike =
     ∙ ap (λ find. live_by choice (length b) (path_in b) (inode_at b) find e) (find_same a b alike)
     ∙ sym (live_is choice b e)
 
-pub selected_same : (a b : List Record) (choice : Choice) → AreAlike a b → (selected_by choice a).live ≡ (selected_by choice b).live
+pub selected_same : (a b : List Record) (choice : Choice) → SameOutline a b → (selected_by choice a).live ≡ (selected_by choice b).live
 selected_same a b choice alike =
     ap₂ (λ test n. map test (all_numbers n)) (fun_ext (λ e. live_same a b choice e alike)) (count_same a b alike)
