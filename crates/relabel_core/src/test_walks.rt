@@ -110,7 +110,8 @@ pub fn tree_of(alloc: Global, records: &[u8], format: Format) -> Result<Tree, Fa
         records: 9,
         bytes: 999,
     };
-    Ok(Tree::new(alloc, read_records(alloc, &mut source, format, limits)?)?)
+    let read = read_records(alloc, &mut source, format, limits)?;
+    Ok(Tree::new(alloc, read)?)
 }
 
 fn subs_of(alloc: Global) -> Result<Subs, Fail> {
