@@ -1,5 +1,6 @@
 use crate::tests::{
-    Failing, NONE_FAILS, RECORDS, REPORT, ROW_DUMP, ROW_REPORT, VAR_SPECS, WORDS, dumped, first, run,
+    Failing, NONE_FAILS, RECORDS, REPORT, ROW_DUMP, ROW_REPORT, VAR_SPECS, WORDS, dumped, first,
+    run,
 };
 use run_faults::Cause;
 use std::test::Fail;
@@ -15,7 +16,10 @@ fn each_failing_read_of_a_file_is_told_before_the_input(rt: HostRuntime) -> Resu
             ..NONE_FAILS
         };
         let ran = dumped(rt.alloc(), &failing)?;
-        assert!(rt; ran.refused(253, NOT_READ) && ran.has("out", b"old"), "at {call}");
+        assert!(rt;
+            ran.refused(253, NOT_READ) && ran.has("out", b"old"),
+            "at {call}"
+        );
     }
     Ok(())
 }
@@ -62,7 +66,10 @@ fn each_failing_read_of_the_input_is_told(rt: HostRuntime) -> Result<(), Fail> {
             input: call,
             ..NONE_FAILS
         };
-        assert!(rt; first(rt.alloc(), &failing)?.ended(253, NOT_READ), "at {call}");
+        assert!(rt;
+            first(rt.alloc(), &failing)?.ended(253, NOT_READ),
+            "at {call}"
+        );
     }
     Ok(())
 }
@@ -115,7 +122,10 @@ const ACCEPTED: &[&[u8]] = &[
 fn patterns_at_their_limits_are_accepted(rt: HostRuntime) -> Result<(), Fail> {
     for specs in ACCEPTED {
         let ran = run(rt.alloc(), WORDS, &[("fc", *specs)], b"", &NONE_FAILS)?;
-        assert!(rt; matches!(ran.outcome.cause, Cause::WalkErrors { count: 1 }), "at {specs:?}");
+        assert!(rt;
+            matches!(ran.outcome.cause, Cause::WalkErrors { count: 1 }),
+            "at {specs:?}"
+        );
     }
     Ok(())
 }
