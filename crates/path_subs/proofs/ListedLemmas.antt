@@ -1,32 +1,29 @@
 -- The last line that covers a path, by the texts of the path's fronts.
-use Rattle.std.proofs.Common.{◌≡◌, ◌∙◌, ap, ap₂, sym, refl, subst, ℕ, zero, suc, ◌+◌, ◌<◌, ◌≤◌, Bool, true, false, List, [], ◌∷◌, ◌++◌, length, take, drop, arith, add-one, length-append}
-use Rattle.std.specs.Prelude.{Option, Some, None, IfSome, ◌&&◌, ◌||◌, nat_le, filter, slice_get, min}
-use Rattle.std.specs.List.{last_or}
+use Rattle.std.proofs.Common.{◌≡◌, ◌∙◌, ap, ap₂, sym, refl, subst, ℕ, zero, suc, ◌+◌, ◌<◌, ◌≤◌, Bool, true, false, List, [], ◌∷◌, length, take, drop, arith, add-one}
+use Rattle.std.specs.Prelude.{Option, Some, None, IfSome, ◌&&◌, ◌||◌, ◌-◌, nat_eq, nat_le, filter, get_or, slice_get, min}
+use Rattle.std.specs.List.{last_or, starts_with}
 use Rattle.std.specs.Option.{option_map}
-use Rattle.std.specs.Cmp.Lexicographic.{nat_list_eq_equiv, pointwise}
+use Rattle.std.specs.Cmp.Lexicographic.{bytes_decides}
 use Rattle.std.proofs.lemmas.Bool.Decides.{nat_tests}
-use Rattle.std.proofs.lemmas.List.Concat.{flat_map-append}
-use Rattle.std.proofs.lemmas.List.{take_more, take-append-drop, take_all}
-use Rattle.std.proofs.lemmas.Option.{get_or_from_slice_get, slice_get-get_or, slice_get_within}
-use Rattle.std.proofs.Math.Seq.{take-append_seam}
+use Rattle.std.proofs.lemmas.List.{get_or-take, length-take-le, take_all}
+use Rattle.std.proofs.lemmas.Option.{get_or_from_slice_get, slice_get-get_or}
 use Rattle.std.proofs.lemmas.Bool.{and_right}
-use Rattle.std.specs.Cmp.{second_so}
+use Rattle.std.specs.Cmp.{first_so, second_so}
 use Rattle.std.specs.declared.vec.Vec.{Vec}
 use Rattle.label_base.specs.Bounded.{greater, greatest_below, last_or_found}
-use Rattle.label_base.specs.NumberUnder.{number_under}
 use Rattle.label_base.specs.Text.{same_bytes}
-use Rattle.file_paths.specs.Path.{Path, are_names, at_or_below, is_name, path_text, with_slashes}
+use Rattle.file_paths.specs.Path.{Path, are_names, at_or_below, path_text, with_slashes}
+use Rattle.file_paths.specs.PathText.{ends_name, text_at_or_below}
 use Rattle.label_base.proofs.BoundedLemmas.{greater_below, greatest_agree, greatest_bound, greatest_none, greatest_passes}
-use Rattle.file_paths.proofs.PathTexts.{same_texts}
-use Rattle.file_paths.proofs.PathLemmas.{text_pushed, both}
-use Rattle.path_subs.specs.Listed.{IsListed, covers_to, has_text, last_covering, last_with, sub_at, no_sub}
+use Rattle.file_paths.proofs.PathTexts.{below_texts}
+use Rattle.path_subs.specs.Listed.{IsListed, covers_to, fits_at, has_text, last_covering, mark, mark_by, sub_at, no_sub}
 use Rattle.path_subs.specs.Subs.{SubValue, covering, covers, is_root}
 use Rattle.path_subs.proofs.Covering.{last_found, last_passed}
 
--- ---- fronts of a path
+-- ---- fronts of a text
 
-le_zero : (n d : ℕ) → nat_le (suc n) zero ≡ false
-le_zero n d = grind (arith, nat_tests)
+le_zero : (n : ℕ) → nat_le (suc n) zero ≡ false
+le_zero n = grind (arith, nat_tests)
 
 le_suc : (m n : ℕ) → nat_le (suc m) (suc n) ≡ nat_le m n
 le_suc m n = grind (arith, nat_tests)
@@ -40,110 +37,146 @@ le_two n = grind (arith, nat_tests)
 le_one : nat_le 1 1 ≡ true
 le_one = grind (arith, nat_tests)
 
-and_case : (s a b c pw : Bool) → ((a && b) ≡ ((a && c) || pw)) → ((s && a) && b) ≡ (((s && a) && c) || (s && pw))
-and_case true a b c pw h = h
-and_case false a b c pw h = refl
+and_empty : (e b : Bool) → (e && true) ≡ ((e && true) || (b && false))
+and_empty true true = refl
+and_empty true false = refl
+and_empty false true = refl
+and_empty false false = refl
 
-and_end : (s : Bool) → ((s && true) && true) ≡ (((s && true) && false) || (s && true))
-and_end true = refl
-and_end false = refl
+and_first : (s e : Bool) → (((s && true) && e) && true) ≡ ((((s && true) && e) && false) || (e && (s && true)))
+and_first true true = refl
+and_first true false = refl
+and_first false true = refl
+and_first false false = refl
 
-and_past : (a s : Bool) → (a && false) ≡ ((a && false) || (s && false))
-and_past true true = refl
-and_past true false = refl
-and_past false true = refl
-and_past false false = refl
+and_past : (a e b s : Bool) → ((a && e) && false) ≡ (((a && e) && false) || (b && (s && false)))
+and_past true true true true = refl
+and_past true true true false = refl
+and_past true true false s = refl
+and_past true false true true = refl
+and_past true false true false = refl
+and_past true false false s = refl
+and_past false e true true = refl
+and_past false e true false = refl
+and_past false e false s = refl
 
--- a source with one name more is the front of so many names
-front_case : (path source : Path) (d : ℕ) → d < length path
-    → (at_or_below path source && nat_le (length source) (suc d)) ≡ ((at_or_below path source && nat_le (length source) d) || pointwise same_bytes (take (suc d) path) source)
-front_case [] source d l = absurd (omega (arith, l))
-front_case (x ∷ xs) [] d l = rw (le_none (suc d), le_none d) refl
-front_case (x ∷ xs) (y ∷ []) zero l = rw (le_one, le_zero 0 0, nat_list_eq_equiv.symm y x) (and_end (same_bytes x y))
-front_case (x ∷ xs) (y ∷ z ∷ zs) zero l = rw (le_two (length zs), le_zero (suc (length zs)) 0) (and_past (same_bytes y x && at_or_below xs (z ∷ zs)) (same_bytes x y))
-front_case (x ∷ xs) (y ∷ ys) (suc d) l =
-    rw (le_suc (length ys) (suc d), le_suc (length ys) d, nat_list_eq_equiv.symm y x)
-    (and_case (same_bytes x y) (at_or_below xs ys) (nat_le (length ys) (suc d)) (nat_le (length ys) d) (pointwise same_bytes (take (suc d) xs) ys) (front_case xs ys d (omega (arith, l))))
+and_case : (s a e b c f p : Bool) → ((a && e) && b) ≡ (((a && e) && c) || (f && p))
+    → (((s && a) && e) && b) ≡ ((((s && a) && e) && c) || (f && (s && p)))
+and_case true a e b c f p h = h
+and_case false a e b c true p h = refl
+and_case false a e b c false p h = refl
 
-names_taken : (path : Path) (k : ℕ) → are_names path ≡ true → are_names (take k path) ≡ true
-names_taken path zero h = refl
-names_taken [] (suc k) h = refl
-names_taken (x ∷ xs) (suc k) h = both (is_name x) (are_names xs) (are_names (take k xs)) h (names_taken xs k)
+nat_eq_sym : (a b : ℕ) → nat_eq a b ≡ nat_eq b a
+nat_eq_sym a b = grind (arith, nat_tests)
 
-shorter : (xs ys : Path) → at_or_below xs ys ≡ true → length ys ≤ length xs
-shorter xs [] h = omega arith
+-- a front with one byte more is what stands before the next place, where a name ends there
+front_case : (text source : List ℕ) (end : ℕ) → end < length text
+    → (text_at_or_below text source && nat_le (length source) (suc end))
+    ≡ ((text_at_or_below text source && nat_le (length source) end) || (ends_name (drop (suc end) text) && same_bytes (take (suc end) text) source))
+front_case [] source end l = absurd (omega (arith, l))
+front_case (x ∷ xs) [] end l = rw (le_none (suc end), le_none end) (and_empty (ends_name (x ∷ xs)) (ends_name (drop end xs)))
+front_case (x ∷ xs) (y ∷ []) zero l = rw (le_one, le_zero 0, nat_eq_sym y x) (and_first (nat_eq x y) (ends_name xs))
+front_case (x ∷ xs) (y ∷ z ∷ zs) zero l =
+    rw (le_two (length zs), le_zero (suc (length zs)))
+    (and_past (nat_eq y x && starts_with nat_eq xs (z ∷ zs)) (ends_name (drop (suc (length zs)) xs)) (ends_name xs) (nat_eq x y))
+front_case (x ∷ xs) (y ∷ ys) (suc end) l =
+    rw (le_suc (length ys) (suc end), le_suc (length ys) end, nat_eq_sym y x)
+    (and_case (nat_eq x y) (starts_with nat_eq xs ys) (ends_name (drop (length ys) xs)) (nat_le (length ys) (suc end)) (nat_le (length ys) end)
+    (ends_name (drop (suc end) xs)) (same_bytes (take (suc end) xs) ys) (front_case xs ys end (omega (arith, l))))
+
+shorter : (text source : List ℕ) → starts_with nat_eq text source ≡ true → length source ≤ length text
+shorter text [] h = omega arith
 shorter [] (y ∷ ys) h = cc
-shorter (x ∷ xs) (y ∷ ys) h = let s = shorter xs ys (second_so (same_bytes y x) (at_or_below xs ys) h) in omega (arith, s)
+shorter (x ∷ xs) (y ∷ ys) h = let s = shorter xs ys (second_so (nat_eq y x) (starts_with nat_eq xs ys) h) in omega (arith, s)
 
--- the line covers the path and has at most one name more: it had at most so many, or it has the front's text
-covers_more : (path : Path) (d : ℕ) (sub : SubValue) → are_names path ≡ true → are_names sub.source ≡ true → d < length path
-    → (covers_to path d sub || has_text (with_slashes (take (d + 1) path)) sub) ≡ covers_to path (d + 1) sub
-covers_more path d sub named own l =
-    rw add-one
-    (ap (λ b. covers_to path d sub || b) (sym (same_texts (take (suc d) path) sub.source (names_taken path (suc d) named) own))
-    ∙ sym (front_case path sub.source d l))
-
-module _ {A : Type 0} (subs : List SubValue) (entries : List (Vec ℕ A × ℕ)) (deepest : ℕ) (listed : IsListed subs (length subs) entries deepest) (path : Path) (named : are_names path ≡ true) where
-  no_names : (sub : SubValue) → 0 < length sub.source → covers_to path 0 sub ≡ false
-  no_names sub h = and_right (covers path sub) (nat_le (length sub.source) 0) (grind (arith, nat_tests))
-
-  -- no name is looked at
-  pub found_none : None ≡ greatest_below (length subs) (λ i. covers_to path 0 (sub_at subs i))
-  found_none = sym (greatest_none (length subs) (λ i. covers_to path 0 (sub_at subs i)) (λ i l. no_names (sub_at subs i) (listed.some i l)))
-
-  -- one name more
-  pub found_next : (d : ℕ) (found number : Option ℕ) (front : List ℕ) → d < length path → front ≡ with_slashes (take (d + 1) path)
-      → found ≡ greatest_below (length subs) (λ i. covers_to path d (sub_at subs i)) → number ≡ number_under front entries
-      → greater found number ≡ greatest_below (length subs) (λ i. covers_to path (d + 1) (sub_at subs i))
-  found_next d found number front l e h k =
-      ap₂ greater h (k ∙ listed.last front ∙ ap (last_with subs (length subs)) e)
-      ∙ greater_below (length subs) (λ i. covers_to path d (sub_at subs i)) (λ i. has_text (with_slashes (take (d + 1) path)) (sub_at subs i))
-      ∙ greatest_agree (length subs) (λ i. covers_to path d (sub_at subs i) || has_text (with_slashes (take (d + 1) path)) (sub_at subs i)) (λ i. covers_to path (d + 1) (sub_at subs i))
-      (λ i m. covers_more path d (sub_at subs i) named (listed.named i m) l)
-
-  whole : (most i : ℕ) (b : Bool) → most ≡ min (length path) deepest → i < length subs → covers path (sub_at subs i) ≡ b → covers_to path most (sub_at subs i) ≡ covers path (sub_at subs i)
-  whole most i false m l e = ap (λ b. b && nat_le (length (sub_at subs i).source) most) e ∙ sym e
-  whole most i true m l e =
-      let low : length (sub_at subs i).source ≤ most = omega (arith, m, shorter path (sub_at subs i).source e, listed.shallow i l) in
-      let le : nat_le (length (sub_at subs i).source) most ≡ true = grind (arith, nat_tests) in
-      (λ j. e j && le j) ∙ sym e
-
-  -- as many names as could serve
-  pub found_all : (most : ℕ) (found : Option ℕ) → most ≡ min (length path) deepest → found ≡ greatest_below (length subs) (λ i. covers_to path most (sub_at subs i)) → found ≡ last_covering subs path
-  found_all most found m h = h ∙ greatest_agree (length subs) (λ i. covers_to path most (sub_at subs i)) (λ i. covers path (sub_at subs i)) (λ i l. whole most i (covers path (sub_at subs i)) m l refl)
-
--- ---- the texts of the fronts
-
-slashes_append : (a b : Path) → with_slashes (a ++ b) ≡ with_slashes a ++ with_slashes b
-slashes_append a b = flat_map-append (λ name. 47 ∷ name) a b
-
-slashes_split : (path : Path) (k : ℕ) → with_slashes path ≡ with_slashes (take k path) ++ with_slashes (drop k path)
-slashes_split path k = ap with_slashes (sym (take-append-drop k path)) ∙ slashes_append (take k path) (drop k path)
+-- ---- the texts of a path and of a source
 
 pub nonroot_text : (path : Path) → is_root path ≡ false → path_text path ≡ with_slashes path
 nonroot_text [] h = cc
 nonroot_text (x ∷ xs) h = refl
 
-text_is : (path : Path) (d : ℕ) → d < length path → path_text path ≡ with_slashes path
-text_is [] d l = absurd (omega (arith, l))
-text_is (x ∷ xs) d l = refl
+-- the root's text begins with no source's
+root_case : (source : Path) → are_names source ≡ true → 0 < length source → text_at_or_below (47 ∷ []) (with_slashes source) ≡ false
+root_case [] h g = absurd (omega arith)
+root_case ([] ∷ names) h g = cc
+root_case ((b ∷ bs) ∷ names) h g = refl
 
-next_front : (path : Path) (d : ℕ) (name : List ℕ) → slice_get path d ≡ Some name → with_slashes (take (d + 1) path) ≡ with_slashes (take d path) ++ 47 ∷ name
-next_front path d name h =
-    let l = slice_get_within path d name h in
-    ap with_slashes (take_more path d name l ∙ ap (λ n. take d path ++ n ∷ []) (get_or_from_slice_get path d name name h))
-    ∙ text_pushed (take d path) name
+root_covers : (source : Path) → 0 < length source → at_or_below [] source ≡ false
+root_covers [] h = absurd (omega arith)
+root_covers (x ∷ xs) h = refl
 
-pub end_next : (path : Path) (d end : ℕ) (name : List ℕ) → slice_get path d ≡ Some name → end ≡ length (with_slashes (take d path)) → end + (1 + length name) ≡ length (with_slashes (take (d + 1) path))
-end_next path d end name h e = omega (arith, e, ap length (next_front path d name h), length-append (with_slashes (take d path)) (47 ∷ name))
+pub covers_text : (path : Path) (sub : SubValue) → are_names path ≡ true → are_names sub.source ≡ true → 0 < length sub.source
+    → covers path sub ≡ text_at_or_below (path_text path) (with_slashes sub.source)
+covers_text [] sub named own some = root_covers sub.source some ∙ sym (root_case sub.source own some)
+covers_text (x ∷ xs) sub named own some = below_texts (x ∷ xs) sub.source named own
 
-pub end_within : (path : Path) (d k end : ℕ) → d < length path → end ≡ length (with_slashes (take k path)) → end ≤ length (path_text path)
-end_within path d k end l e =
-    omega (arith, e, ap length (text_is path d l), ap length (slashes_split path k), length-append (with_slashes (take k path)) (with_slashes (drop k path)))
+-- the line covers the path with a text that is at most a byte longer: it did before, or it fits at the place
+covers_more : (path : Path) (end : ℕ) (sub : SubValue) → are_names path ≡ true → are_names sub.source ≡ true → 0 < length sub.source → end < length (path_text path)
+    → (covers_to path end sub || fits_at (path_text path) (end + 1) sub) ≡ covers_to path (end + 1) sub
+covers_more path end sub named own some l =
+    let e = covers_text path sub named own some in
+    rw (add-one, e) (sym (front_case (path_text path) (with_slashes sub.source) end l))
 
-pub front_is : (path : Path) (d k end : ℕ) (text : List ℕ) → d < length path → text ≡ path_text path → end ≡ length (with_slashes (take k path)) → take end text ≡ with_slashes (take k path)
-front_is path d k end text l t e =
-    (λ i. take (e i) ((t ∙ text_is path d l ∙ slashes_split path k) i)) ∙ take-append_seam (with_slashes (take k path)) (with_slashes (drop k path))
+pub text_some : (path : Path) → 0 < length path → 0 < length (with_slashes path)
+text_some [] h = absurd (omega arith)
+text_some (x ∷ xs) h = omega arith
+
+-- the mark of a front
+pub mark_front : (text : List ℕ) (end : ℕ) → 0 < end → end ≤ length text → mark (take end text) ≡ mark_by end (get_or text (end - 1) 0)
+mark_front text end p l =
+    ap (λ n. mark_by n (get_or (take end text) (n - 1) 0)) (length-take-le end text l)
+    ∙ ap (mark_by end) (get_or-take end text (end - 1) 0 (omega (arith, p)))
+
+module _ {A : Type 0} (subs : List SubValue) (entries : List (Vec ℕ A × ℕ)) (marks : List Bool) (longest : ℕ) (listed : IsListed subs (length subs) entries marks longest) where
+  -- no name ends at the place
+  pub fits_inside : (text : List ℕ) (end : ℕ) → ends_name (drop end text) ≡ false → None ≡ greatest_below (length subs) (λ i. fits_at text end (sub_at subs i))
+  fits_inside text end e = sym (greatest_none (length subs) (λ i. fits_at text end (sub_at subs i)) (λ i l. ap (λ b. b && has_text (take end text) (sub_at subs i)) e))
+
+  unmarked : (front : List ℕ) (i : ℕ) (b : Bool) → i < length subs → get_or marks (mark front) false ≡ false → has_text front (sub_at subs i) ≡ b → b ≡ false
+  unmarked front i false l m h = refl
+  unmarked front i true l m h =
+      let same : front ≡ with_slashes (sub_at subs i).source = (bytes_decides front (with_slashes (sub_at subs i).source)).0 h in
+      let own : get_or marks (mark front) false ≡ true = ap (λ t. get_or marks (mark t) false) same ∙ listed.marked i l in
+      cc
+
+  -- what stands before the place isn't marked
+  pub fits_unmarked : (text : List ℕ) (end : ℕ) → get_or marks (mark (take end text)) false ≡ false → None ≡ greatest_below (length subs) (λ i. fits_at text end (sub_at subs i))
+  fits_unmarked text end m = sym (greatest_none (length subs) (λ i. fits_at text end (sub_at subs i))
+      (λ i l. and_right (ends_name (drop end text)) (has_text (take end text) (sub_at subs i)) (unmarked (take end text) i _ l m refl)))
+
+  module _ (path : Path) (named : are_names path ≡ true) where
+    no_bytes : (i : ℕ) → i < length subs → covers_to path 0 (sub_at subs i) ≡ false
+    no_bytes i l =
+        let some = text_some (sub_at subs i).source (listed.some i l) in
+        and_right (covers path (sub_at subs i)) (nat_le (length (with_slashes (sub_at subs i).source)) 0) (grind (arith, nat_tests))
+
+    -- no byte is looked at
+    pub found_none : None ≡ greatest_below (length subs) (λ i. covers_to path 0 (sub_at subs i))
+    found_none = sym (greatest_none (length subs) (λ i. covers_to path 0 (sub_at subs i)) no_bytes)
+
+    -- one place more
+    pub found_next : (end : ℕ) (found number : Option ℕ) → end < length (path_text path)
+        → found ≡ greatest_below (length subs) (λ i. covers_to path end (sub_at subs i)) → number ≡ greatest_below (length subs) (λ i. fits_at (path_text path) (end + 1) (sub_at subs i))
+        → greater found number ≡ greatest_below (length subs) (λ i. covers_to path (end + 1) (sub_at subs i))
+    found_next end found number l h k =
+        ap₂ greater h k
+        ∙ greater_below (length subs) (λ i. covers_to path end (sub_at subs i)) (λ i. fits_at (path_text path) (end + 1) (sub_at subs i))
+        ∙ greatest_agree (length subs) (λ i. covers_to path end (sub_at subs i) || fits_at (path_text path) (end + 1) (sub_at subs i)) (λ i. covers_to path (end + 1) (sub_at subs i))
+        (λ i m. covers_more path end (sub_at subs i) named (listed.named i m) (listed.some i m) l)
+
+    whole : (most i : ℕ) (b : Bool) → most ≡ min (length (path_text path)) longest → i < length subs → covers path (sub_at subs i) ≡ b → covers_to path most (sub_at subs i) ≡ covers path (sub_at subs i)
+    whole most i false m l e = ap (λ b. b && nat_le (length (with_slashes (sub_at subs i).source)) most) e ∙ sym e
+    whole most i true m l e =
+        let source = with_slashes (sub_at subs i).source in
+        let text : text_at_or_below (path_text path) source ≡ true = sym (covers_text path (sub_at subs i) named (listed.named i l) (listed.some i l)) ∙ e in
+        let within = shorter (path_text path) source (first_so (starts_with nat_eq (path_text path) source) (ends_name (drop (length source) (path_text path))) text) in
+        let low : length source ≤ most = omega (arith, m, within, listed.short i l) in
+        let le : nat_le (length source) most ≡ true = grind (arith, nat_tests) in
+        (λ j. e j && le j) ∙ sym e
+
+    -- as many bytes as could serve
+    pub found_all : (most : ℕ) (found : Option ℕ) → most ≡ min (length (path_text path)) longest → found ≡ greatest_below (length subs) (λ i. covers_to path most (sub_at subs i)) → found ≡ last_covering subs path
+    found_all most found m h = h ∙ greatest_agree (length subs) (λ i. covers_to path most (sub_at subs i)) (λ i. covers path (sub_at subs i)) (λ i l. whole most i (covers path (sub_at subs i)) m l refl)
 
 -- ---- the line with the index
 

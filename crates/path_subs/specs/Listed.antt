@@ -1,10 +1,12 @@
 -- What finds the last line that covers a path.
-use Rattle.std.specs.Prelude.{◌≡◌, ℕ, ◌<◌, ◌≤◌, Bool, true, ◌&&◌, nat_le, List, [], length, get_or, Option}
+use Rattle.std.specs.Prelude.{◌≡◌, ℕ, ◌<◌, ◌≤◌, ◌+◌, ◌*◌, ◌-◌, ◌%◌, Bool, true, false, ◌&&◌, nat_le, List, [], length, take, drop, get_or, Option}
 use Rattle.std.specs.declared.vec.Vec.{Vec}
 use Rattle.label_base.specs.Bounded.{greatest_below}
 use Rattle.label_base.specs.NumberUnder.{number_under}
 use Rattle.label_base.specs.Text.{same_bytes}
 use Rattle.file_paths.specs.Path.{Path, are_names, with_slashes}
+use Rattle.file_paths.specs.PathText.{ends_name}
+use Rattle.path_subs.specs.declared.sub_list.TheConstants.{BYTES, LENGTHS}
 use Rattle.path_subs.specs.Subs.{SubValue, covers}
 
 -- what stands where there is no line
@@ -22,18 +24,30 @@ has_text text sub = same_bytes text (with_slashes sub.source)
 abbrev pub last_with : List SubValue → ℕ → List ℕ → Option ℕ
 last_with subs n text = greatest_below n (λ i. has_text text (sub_at subs i))
 
--- under the text of each source of the first n lines stands the last line of that source, and no source
--- has more names than the deepest
+-- what a text's length and last byte are told apart by
+abbrev pub mark_by : ℕ → ℕ → ℕ
+mark_by length byte = (length % LENGTHS) * BYTES + byte % BYTES
+
+abbrev pub mark : List ℕ → ℕ
+mark text = mark_by (length text) (get_or text (length text - 1) 0)
+
+-- under the text of each source of the first n lines stands the last line of that source, each source's text
+-- is marked, and none is longer than the longest
 pub record IsListed {A : Type 0} (subs : List SubValue) (n : ℕ) (entries : List (Vec ℕ A × ℕ))
-    (deepest : ℕ) : Type 0 where
+    (marks : List Bool) (longest : ℕ) : Type 0 where
   pub last : (text : List ℕ) → number_under text entries ≡ last_with subs n text
   pub some : (i : ℕ) → i < n → 0 < length (sub_at subs i).source
   pub named : (i : ℕ) → i < n → are_names (sub_at subs i).source ≡ true
-  pub shallow : (i : ℕ) → i < n → length (sub_at subs i).source ≤ deepest
+  pub marked : (i : ℕ) → i < n → get_or marks (mark (with_slashes (sub_at subs i).source)) false ≡ true
+  pub short : (i : ℕ) → i < n → length (with_slashes (sub_at subs i).source) ≤ longest
 
--- the line covers the path, and its source has so many names at most
+-- the line covers the path, and its source's text has so many bytes at most
 abbrev pub covers_to : Path → ℕ → SubValue → Bool
-covers_to path depth sub = covers path sub && nat_le (length sub.source) depth
+covers_to path end sub = covers path sub && nat_le (length (with_slashes sub.source)) end
+
+-- what stands before a place where a name ends is the text of the line's source
+abbrev pub fits_at : List ℕ → ℕ → SubValue → Bool
+fits_at text end sub = ends_name (drop end text) && has_text (take end text) sub
 
 -- the last line that covers the path, by its index
 abbrev pub last_covering : List SubValue → Path → Option ℕ

@@ -1,17 +1,24 @@
-ghost use Rattle.std.specs.Prelude.{◌≡◌, ◌<◌, ℕ, if◌then◌else◌, List, true, length, min, Some, IfOk, IfSome, OnOk};
+ghost use Rattle.std.specs.Prelude.{◌≡◌, ◌<◌, ◌≤◌, ◌-◌, ◌^◌, ℕ, if◌then◌else◌, List, true, false, length, min, drop, get_or, Some, IfOk, IfSome, OnOk};
 ghost use Rattle.std.specs.Option.{option_copied};
+ghost use Rattle.label_base.specs.Bounded.{greatest_below};
 ghost use Rattle.label_base.specs.NumberUnder.{number_under};
-ghost use Rattle.file_paths.specs.Path.{are_names};
+ghost use Rattle.file_paths.specs.Path.{are_names, with_slashes};
 ghost use Rattle.file_paths.specs.PathRef.{path_of};
-ghost use Rattle.path_subs.specs.Listed.{IsListed, has_text, last_covering};
+ghost use Rattle.file_paths.specs.PathText.{ends_name};
+ghost use Rattle.path_subs.specs.Listed.{IsListed, fits_at, has_text, last_covering, mark, mark_by, sub_at};
 ghost use Rattle.path_subs.specs.Subs.{SubValue, covering, covers};
 
 use crate::sub::Sub;
-use file_paths::PathRef;
+use file_paths::{PathRef, SLASH};
 use indexmap::IndexMap;
 use label_base::{OutOfMemory, Row, greater};
 use std::alloc::Global;
 use std::marker::Model;
+
+// What marks tell apart: lengths of texts, and last bytes.
+const LENGTHS: usize = 4096;
+
+const BYTES: usize = 64;
 
 /// The lines of one substitution file, seen as their list, and what finds the last one that covers a path
 /// without a look at the others.
@@ -20,8 +27,10 @@ pub struct SubList {
     lines: Row<Sub>,
     // Under the text of each source the index of the last line that has it.
     last: IndexMap<Vec<u8>, usize>,
-    // How many names the source with the most names has.
-    deepest: usize,
+    // The marks of the sources' texts: a text without one is no source's, and isn't looked up.
+    marks: Vec<bool>,
+    // The length of the longest source's text.
+    longest: usize,
 }
 
 impl Model for SubList {
@@ -33,7 +42,8 @@ impl Model for SubList {
 
     ghost view = { λ s. s.lines };
 
-    ghost invariant = { λ s. IsListed s.lines (length s.lines) s.last.entries s.deepest };
+    ghost invariant = { λ s.
+        IsListed s.lines (length s.lines) s.last.entries s.marks.items s.longest };
 }
 
 // The number under a text.
@@ -46,33 +56,75 @@ fn number_under(last: &IndexMap<Vec<u8>, usize>, text: &[u8]) -> Option<usize>
     }
 }
 
-// How many of a path's fronts can be a source, where none has more names than the deepest.
-fn fronts_within(path: &PathRef<'_>, deepest: usize) -> usize
-    ensures { result ≡ min (length (path_of path.now)) deepest }
+// The mark of the text of so many bytes that ends with this one. Paths are shorter than the lengths that are told apart.
+fn mark_of(length: usize, byte: u8) -> usize
+    ensures { result ≡ mark_by length byte }
 {
-    // Mostly there are no lines at all, and then a path's names needn't be counted.
-    if deepest == 0 {
-        return 0;
+    length % LENGTHS * BYTES + byte as usize % BYTES
+}
+
+// Whether a name ends at a place.
+fn ends_name_at(text: &[u8], end: usize) -> bool
+    requires { end ≤ length text.now }
+    ensures { result ≡ ends_name (drop end text.now) }
+{
+    end == text.len() || text[end] == SLASH
+}
+
+fn is_marked(marks: &[bool], text: &[u8], end: usize) -> bool
+    requires above { 0 < end }
+    requires within { end ≤ length text.now }
+    ensures { result ≡ get_or marks.now (mark_by end (get_or text.now (end - 1) 0)) false }
+{
+    let mark = mark_of(end, text[end - 1]);
+    mark < marks.len() && marks[mark]
+}
+
+// The last line whose source's text is what stands before a place.
+fn number_at(
+    last: &IndexMap<Vec<u8>, usize>,
+    marks: &[bool],
+    text: &[u8],
+    end: usize,
+) -> Option<usize>
+    requires above { 0 < end }
+    requires within { end ≤ length text.now }
+    ensures { (subs : List SubValue) → (longest : ℕ)
+        → IsListed subs (length subs) last.now.entries marks.now longest
+        → result ≡ greatest_below (length subs) (λ i. fits_at text.now end (sub_at subs i)) }
+{
+    if !ends_name_at(text, end) {
+        return None;
     }
-    path.names().min(deepest)
+    if !is_marked(marks, text, end) {
+        return None;
+    }
+    number_under(last, &text[..end])
+}
+
+// At how many places of a text a source's can end.
+fn places_within(text: &[u8], longest: usize) -> usize
+    ensures { result ≡ min (length text.now) longest }
+{
+    text.len().min(longest)
 }
 
 // The index of the last line that covers a path.
 fn last_covering(
     last: &IndexMap<Vec<u8>, usize>,
-    deepest: usize,
+    marks: &[bool],
+    longest: usize,
     path: &PathRef<'_>,
 ) -> Option<usize>
-    ensures { (subs : List SubValue) → IsListed subs (length subs) last.now.entries deepest
+    ensures { (subs : List SubValue)
+        → IsListed subs (length subs) last.now.entries marks.now longest
         → result ≡ last_covering subs (path_of path.now) }
 {
     let text = path.as_text();
-    let most = fronts_within(path, deepest);
-    let mut end = 0;
+    let most = places_within(text, longest);
     let mut found = None;
-    'names: for depth in 0..most {
-        end += 1 + path.name(depth).len();
-        found = greater(found, number_under(last, &text[..end]));
+    'ends: for place in 0..most {
+        found = greater(found, number_at(last, marks, text, place + 1));
     }
     found
 }
@@ -92,34 +144,79 @@ fn list_line(
     Ok(())
 }
 
-// How many names the source of a line has.
-fn depth_of(sub: &Sub) -> usize
-    ensures value { result ≡ length sub.now.source }
-    ensures some { 0 < result }
-    ensures named { are_names sub.now.source ≡ true }
+// Makes room for a mark.
+fn room_for(marks: &mut Vec<bool>, mark: usize) -> Result<(), OutOfMemory>
+    requires { mark < 2 ^ 20 }
+    ensures room { OnOk result (mark < length marks.new.items) }
+    ensures keeps { (m : ℕ) → get_or marks.new.items m false ≡ get_or marks.old.items m false }
 {
-    sub.source.path().names()
+    if marks.len() <= mark {
+        marks.resize(mark + 1, false)?;
+    }
+    Ok(())
 }
 
-// What finds the lines: under the text of each source its last line, and how many names a source has at most.
+fn add_mark(marks: &mut Vec<bool>, mark: usize) -> Result<(), OutOfMemory>
+    requires { mark < 2 ^ 20 }
+    ensures marks { OnOk result (get_or marks.new.items mark false ≡ true) }
+    ensures keeps { (m : ℕ) → get_or marks.old.items m false ≡ true
+        → get_or marks.new.items m false ≡ true }
+{
+    room_for(marks, mark)?;
+    marks[mark] = true;
+    Ok(())
+}
+
+// The text of a line's source.
+fn source_text(sub: &Sub) -> &[u8]
+    ensures value { result.now ≡ with_slashes sub.now.source }
+    ensures some { 0 < length result.now }
+    ensures below_root { 0 < length sub.now.source }
+    ensures named { are_names sub.now.source ≡ true }
+{
+    sub.source.path().as_text()
+}
+
+// Marks the text of a line's source, and answers how long it is.
+fn mark_line(marks: &mut Vec<bool>, sub: &Sub) -> Result<usize, OutOfMemory>
+    ensures length { IfOk result (λ long. long ≡ length (with_slashes sub.now.source)) }
+    ensures below_root { IfOk result (λ _. 0 < length sub.now.source) }
+    ensures named { IfOk result (λ _. are_names sub.now.source ≡ true) }
+    ensures marks { OnOk result
+        (get_or marks.new.items (mark (with_slashes sub.now.source)) false ≡ true) }
+    ensures keeps { (m : ℕ) → get_or marks.old.items m false ≡ true
+        → get_or marks.new.items m false ≡ true }
+{
+    let text = source_text(sub);
+    add_mark(marks, mark_of(text.len(), text[text.len() - 1]))?;
+    Ok(text.len())
+}
+
+// What finds the lines: under the text of each source its last line, the marks of all, and how long the longest is.
 #[derive(Drop)]
 struct Listing {
     last: IndexMap<Vec<u8>, usize>,
-    deepest: usize,
+    marks: Vec<bool>,
+    longest: usize,
 }
 
 fn list_all(alloc: Global, lines: &[Sub]) -> Result<Listing, OutOfMemory>
-    ensures { IfOk result (λ listing.
-        IsListed lines.now (length lines.now) listing.last.entries listing.deepest) }
+    ensures { IfOk result (λ listing. IsListed lines.now (length lines.now)
+        listing.last.entries listing.marks.items listing.longest) }
 {
     let mut last = IndexMap::new(alloc);
-    let mut deepest = 0;
+    let mut marks = Vec::new(alloc);
+    let mut longest = 0;
     'lines: for i in 0..lines.len() {
         let sub = &lines[i];
         list_line(alloc, &mut last, sub, i)?;
-        deepest = depth_of(sub).max(deepest);
+        longest = mark_line(&mut marks, sub)?.max(longest);
     }
-    Ok(Listing { last, deepest })
+    Ok(Listing {
+        last,
+        marks,
+        longest,
+    })
 }
 
 impl SubList {
@@ -131,7 +228,8 @@ impl SubList {
         Ok(SubList {
             lines,
             last: listing.last,
-            deepest: listing.deepest,
+            marks: listing.marks,
+            longest: listing.longest,
         })
     }
 
@@ -142,13 +240,13 @@ impl SubList {
         &self.lines
     }
 
-    /// The last line that covers the path. It looks at the front of the path alone, a name at a time, up to as
-    /// many names as some source has.
+    /// The last line that covers the path. It looks at the front of the path alone, up to the length of the longest
+    /// source, and looks up what stands before a slash where some source is as long.
     pub fn last_cover(&self, path: &PathRef<'_>) -> Option<&Sub>
         ensures value { option_copied result ≡ covering self.now (path_of path.now) }
         ensures covers { IfSome result (λ sub. covers (path_of path.now) sub.now ≡ true) }
     {
-        match last_covering(&self.last, self.deepest, path) {
+        match last_covering(&self.last, self.marks.as_slice(), self.longest, path) {
             Some(index) => Some(self.lines.get(index)),
             None => None,
         }
