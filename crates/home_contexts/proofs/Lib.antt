@@ -6,6 +6,7 @@ pub mod Going
 pub mod Measured
 pub mod OneLine
 pub mod PieceLemmas
+pub mod Runs
 pub mod TemplateLines
 pub mod ReadBack
 pub mod Refusals

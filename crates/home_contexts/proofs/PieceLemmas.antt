@@ -83,7 +83,7 @@ no_pieces (b ∷ bs) h = absurd (omega arith)
 rest_of : (n : ℕ) (text : List ℕ) → take (length text - n) (drop n text) ≡ drop n text
 rest_of n text = take_all (length text - n) (drop n text) (omega (arith, length-drop n text))
 
-byte_first : (text : List ℕ) (found : Option Word) → found ≡ word_at text → found ≡ None → 1 ≤
+pub byte_first : (text : List ℕ) (found : Option Word) → found ≡ word_at text → found ≡ None → 1 ≤
     length text → pieces_of text ≡ Byte (get_or text 0 0) ∷ pieces_of (drop 1 text)
 unfolding pieces_from
 byte_first [] found e is h = absurd (omega arith)

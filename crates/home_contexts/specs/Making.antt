@@ -15,6 +15,7 @@ use Rattle.home_contexts.specs.declared.homes_fault.HomesWhy.{HomesWhy}
 use Rattle.home_contexts.specs.declared.homes_fault.HomesWhy.TheVariants.{Refused}
 use Rattle.home_contexts.specs.declared.limits.TheConstants.{MOST_SPECS, MOST_TEXT_BYTES}
 use Rattle.home_contexts.specs.declared.made.Made.{Made}
+use Rattle.home_contexts.specs.declared.word.TheConstants.{HOME_FIRST, ROLE_FIRST, USER_FIRST}
 
 -- counts go up to one more than there may be, and the text is kept as long as it may be answered
 pub record IsMade (made : Made) (given : List Given) : Type 0 where
@@ -68,6 +69,12 @@ RefusedAs (Some why) number read = ⊥
 abbrev pub Checks : {U : Type 0} → Result U (Fault HomesWhy) → ℕ → Result SpecValue SpecWhy → Type 0
 Checks (Ok u) number read = (spec : SpecValue) × (read ≡ Ok spec)
 Checks (Err e) number read = RefusedAs (cause_of e) number read
+
+-- ---- runs
+
+-- no word begins with this byte
+abbrev pub begins_none : ℕ → Bool
+begins_none b = not (b == HOME_FIRST) && (not (b == ROLE_FIRST) && not (b == USER_FIRST))
 
 -- ---- users by flags
 

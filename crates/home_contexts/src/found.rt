@@ -1,4 +1,4 @@
-ghost use Rattle.std.specs.Prelude.{◌≡◌, ℕ, ◌<◌, ◌^◌, IfErr, length};
+ghost use Rattle.std.specs.Prelude.{ℕ, ◌<◌, ◌^◌, IfErr, length};
 ghost use Rattle.run_faults.specs.Causes.{Counts, Gives, IsFileCause};
 ghost use Rattle.run_input.specs.Files.{Reads};
 ghost use Rattle.home_contexts.specs.Found.{text_for, text_found, text_from};

@@ -8,7 +8,7 @@ ghost use Rattle.home_contexts.specs.Words.{filled};
 use crate::limits::MOST_TEXT_BYTES;
 use crate::user::User;
 use crate::value::{capped, with_piece, write_piece};
-use crate::word::next_piece;
+use crate::word::{next_piece, plain_run};
 use label_base::{Bytes, LINE_FEED, OutOfMemory, TAB, next_field};
 
 // Adds a field with a user's values in place.
@@ -23,7 +23,9 @@ fn add_filled(
     let mut left = field;
     'pieces: while let Some((piece, rest)) = next_piece(left) {
         write_piece(piece, in_pattern, user, to)?;
-        left = rest;
+        let (run, behind) = plain_run(rest);
+        to.push(run)?;
+        left = behind;
     }
     Ok(())
 }
@@ -73,8 +75,9 @@ fn with_filled(so_far: u64, field: &[u8], in_pattern: bool, user: &User) -> u64
     let mut length = so_far;
     let mut left = field;
     'pieces: while let Some((piece, rest)) = next_piece(left) {
-        length = with_piece(length, piece, in_pattern, user);
-        left = rest;
+        let (run, behind) = plain_run(rest);
+        length = capped(with_piece(length, piece, in_pattern, user), run.len());
+        left = behind;
     }
     capped(length, 0)
 }

@@ -1,4 +1,4 @@
-ghost use Rattle.std.specs.Prelude.{◌≡◌, ◌++◌, ◌∷◌, ◌+◌, [], List, length, min, OnOk};
+ghost use Rattle.std.specs.Prelude.{◌≡◌, ◌++◌, ◌∷◌, ◌+◌, [], List, min, OnOk};
 ghost use Rattle.label_base.specs.Answers.{Answers, cause_of};
 ghost use Rattle.home_contexts.specs.Homes.{Given, given_text, within_limits};
 ghost use Rattle.home_contexts.specs.Making.{IsMade};

@@ -1,9 +1,9 @@
-ghost use Rattle.std.specs.Prelude.{◌≡◌, ◌∷◌, [], Ok, true};
+ghost use Rattle.std.specs.Prelude.{◌≡◌, ◌∷◌, [], Ok};
 ghost use Rattle.std.specs.List.{list_all, list_any};
 ghost use Rattle.label_base.specs.Answers.{Answers, cause_of};
 ghost use Rattle.context_syntax.specs.Context.{is_word, is_word_byte};
 ghost use Rattle.home_contexts.specs.User.{ends_field, is_home};
-ghost use Rattle.home_contexts.specs.UserLines.{user_in, user_or_none, with_home};
+ghost use Rattle.home_contexts.specs.UserLines.{user_in, with_home};
 
 use crate::user::{LEAST_HOME_NAMES, User};
 use crate::users_fault::NoUser;

@@ -1,7 +1,7 @@
 ghost use Rattle.std.specs.Prelude.{◌≡◌, ◌++◌, ◌+◌, ◌≤◌, length, min, OnOk};
 ghost use Rattle.std.specs.List.{count_by};
 ghost use Rattle.file_paths.specs.Path.{path_text};
-ghost use Rattle.home_contexts.specs.Escaped.{escaped, is_marked};
+ghost use Rattle.home_contexts.specs.Escaped.{is_marked};
 ghost use Rattle.home_contexts.specs.Words.{piece_text, root_of, value_of, written};
 
 use crate::escape::{add_escaped, stands_bare};

@@ -1,4 +1,6 @@
-ghost use Rattle.std.specs.Prelude.{◌≡◌, ◌∷◌, ◌<◌, ◌≤◌, ◌||◌, [], drop, length, IfSome, IfNone};
+ghost use Rattle.std.specs.Prelude.{◌≡◌, ◌∷◌, ◌++◌, ◌<◌, ◌≤◌, ◌||◌, [], drop, length, map, take, IfSome, IfNone};
+ghost use Rattle.home_contexts.specs.Making.{begins_none};
+ghost use Rattle.home_contexts.specs.declared.word.Piece.TheVariants.{Byte};
 ghost use Rattle.home_contexts.specs.Words.{holds, is_other, is_root, pieces_of};
 ghost use Rattle.home_contexts.specs.Words.{stands_for, word_at, word_text};
 
@@ -13,6 +15,15 @@ pub(crate) const ROLE: &[u8] = b"ROLE";
 
 /// Stands for the name.
 pub(crate) const USER: &[u8] = b"USER";
+
+/// The byte with which HOME_ROOT and HOME_DIR begin.
+pub(crate) const HOME_FIRST: u8 = b'H';
+
+/// The byte with which ROLE begins.
+pub(crate) const ROLE_FIRST: u8 = b'R';
+
+/// The byte with which USER begins.
+pub(crate) const USER_FIRST: u8 = b'U';
 
 /// A word of a template, for which a user gives a value.
 #[derive(Clone, Copy)]
@@ -89,6 +100,39 @@ pub(crate) fn next_piece(field: &[u8]) -> Option<(Piece, &[u8])>
         None => Some((Piece::Byte(*first), rest)),
         Some(word) => Some((Piece::Stands(word), behind_word(field, word_text(word)))),
     }
+}
+
+// Whether no word begins with a byte.
+fn begins_none(b: u8) -> bool
+    ensures { result ≡ begins_none b }
+{
+    b != HOME_FIRST && b != ROLE_FIRST && b != USER_FIRST
+}
+
+// How many bytes stand at the beginning with which no word begins.
+#[tactic(auto, using(crate::proofs::Runs::run_more))]
+fn run_length(field: &[u8]) -> usize
+    ensures within { result ≤ length field.now }
+    ensures pieces { pieces_of field.now
+        ≡ map Byte (take result field.now) ++ pieces_of (drop result field.now) }
+{
+    let mut at = 0;
+    'bytes: while at < field.len() {
+        if !begins_none(field[at]) {
+            return at;
+        }
+        at += 1;
+    }
+    at
+}
+
+/// Bytes at the beginning that stand for themselves, and what is left behind them.
+pub(crate) fn plain_run(field: &[u8]) -> (&[u8], &[u8])
+    ensures pieces { pieces_of field.now ≡ map Byte result.0.now ++ pieces_of result.1.now }
+    ensures shorter { length result.1.now ≤ length field.now }
+{
+    let length = run_length(field);
+    (&field[..length], &field[length..])
 }
 
 fn is_root(word: Word) -> bool
