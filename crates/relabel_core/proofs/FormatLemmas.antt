@@ -1,5 +1,5 @@
 -- Records of a format, entry by entry.
-use Rattle.std.proofs.Common.{◌≡◌, refl, subst, ap, ℕ, zero, suc, ◌<◌, Bool, List, [], ◌∷◌, length, Option, Some, None, is_some, arith}
+use Rattle.std.proofs.Common.{◌≡◌, ap, ℕ, zero, suc, List, [], ◌∷◌, Option, is_some, arith}
 use Rattle.find_records.specs.Record.{AreOf, CountsBy, Record}
 use Rattle.find_records.specs.declared.format.Format.{Format}
 use Rattle.find_records.specs.declared.format.Format.TheVariants.{One, Two}

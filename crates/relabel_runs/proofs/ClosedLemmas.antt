@@ -1,5 +1,5 @@
 -- Which directories a run takes as closed.
-use Rattle.std.proofs.Common.{◌≡◌, ◌==◌, ℕ, Bool, true, ◌&&◌, ◌||◌, List, length, filter, eq-eqb}
+use Rattle.std.proofs.Common.{◌≡◌, ◌==◌, ℕ, true, ◌&&◌, ◌||◌, List, length, filter, eq-eqb}
 use std.Path.{fun_ext}
 use Rattle.std.proofs.lemmas.Bool.{and_parts}
 use Rattle.label_base.specs.Bounded.{all_below, all_numbers, implies}
@@ -9,7 +9,7 @@ use Rattle.label_base.proofs.BoundedLemmas.{all_at, implies_at}
 use Rattle.file_paths.specs.Path.{at_or_below}
 use Rattle.context_syntax.specs.declared.label.Label.{Label}
 use Rattle.find_records.specs.Record.{Record}
-use Rattle.tree_model.specs.Extents.{entry_at, in_extent}
+use Rattle.tree_model.specs.Extents.{in_extent}
 use Rattle.tree_model.specs.Groups.{closed_at, group_of, holds_groups, holds_names, is_met}
 use Rattle.skip_runs.specs.Skipping.{HoldsGroups}
 use Rattle.relabel_runs.specs.Runs.{labelled}

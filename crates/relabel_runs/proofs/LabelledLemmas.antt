@@ -1,5 +1,5 @@
 -- A tree as a run sees it: with a state's labels, and with link counts where the run reads them.
-use Rattle.std.proofs.Common.{◌≡◌, ◌∙◌, ap, sym, refl, subst, ℕ, zero, suc, ◌+◌, ◌<◌, ◌==◌, Bool, List, [], ◌∷◌, length, map, Option, Some, None, arith, eq-eqb, eqb-true}
+use Rattle.std.proofs.Common.{◌≡◌, ◌∙◌, ap, sym, refl, subst, ℕ, zero, suc, ◌+◌, ◌<◌, ◌==◌, Bool, List, [], ◌∷◌, length, Option, Some, None, arith, eq-eqb, eqb-true}
 use std.Path.{fun_ext}
 use Rattle.std.proofs.lemmas.Bool.{false≢true}
 use Rattle.label_base.specs.Bounded.{least_below}
