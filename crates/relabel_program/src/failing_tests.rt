@@ -1,6 +1,5 @@
 use crate::tests::{
-    Failing, NONE_FAILS, RECORDS, REPORT, ROW_DUMP, ROW_REPORT, VAR_SPECS, WORDS, dumped, first,
-    run,
+    Failing, NONE_FAILS, RECORDS, ROW_DUMP, ROW_REPORT, VAR_SPECS, WORDS, dumped, first, run,
 };
 use run_faults::Cause;
 use std::test::Fail;
@@ -74,17 +73,43 @@ fn each_failing_read_of_the_input_is_told(rt: HostRuntime) -> Result<(), Fail> {
     Ok(())
 }
 
-// The report is ten pieces.
+/// The report is ten pieces: a write that fails, and what stands before it.
+const FRONTS: &[(u64, &[u8])] = &[
+    (1, b""),
+    (2, b"Would rela"),
+    (3, b"Would relabel /etc/p"),
+    (4, b"Would relabel /etc/passwd from"),
+    (5, b"Would relabel /etc/passwd from system_u:"),
+    (6, b"Would relabel /etc/passwd from system_u:object_r:e"),
+    (
+        7,
+        b"Would relabel /etc/passwd from system_u:object_r:etc_t:s0 to",
+    ),
+    (
+        8,
+        b"Would relabel /etc/passwd from system_u:object_r:etc_t:s0 to system_u:",
+    ),
+    (
+        9,
+        b"Would relabel /etc/passwd from system_u:object_r:etc_t:s0 to system_u:object_r:p",
+    ),
+    (
+        10,
+        b"Would relabel /etc/passwd from system_u:object_r:etc_t:s0 to system_u:object_r:passwd_file",
+    ),
+];
+
 #[test]
 fn each_failing_write_of_the_report_leaves_a_front_of_it(rt: HostRuntime) -> Result<(), Fail> {
-    for (before, piece) in REPORT.chunks(10).enumerate() {
+    for (call, front) in FRONTS {
         let failing = Failing {
-            out: before as u64 + 1,
+            out: *call,
             ..NONE_FAILS
         };
-        let ran = first(rt.alloc(), &failing)?;
-        let front = REPORT.get(..10 * before).unwrap_or(b"");
-        assert!(rt; ran.ended(252, front), "at {piece:?}");
+        assert!(rt;
+            first(rt.alloc(), &failing)?.ended(252, *front),
+            "at {call}"
+        );
     }
     Ok(())
 }

@@ -17,7 +17,7 @@ pub(crate) const SPECS: &[u8] =
 pub(crate) const RECORDS: &[u8] =
     b"d 2049 2 system_u:object_r:root_t:s0 /\0f 2049 131 system_u:object_r:etc_t:s0 /etc/passwd\0";
 
-pub(crate) const REPORT: &[u8] =
+const REPORT: &[u8] =
     b"Would relabel /etc/passwd from system_u:object_r:etc_t:s0 to system_u:object_r:passwd_file_t:s0\n";
 
 /// The calls that fail: 0 for none.
