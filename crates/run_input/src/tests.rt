@@ -42,7 +42,7 @@ fn records_are_read_to_their_end(rt: HostRuntime) -> Result<(), Fail> {
 
 #[test]
 fn a_tool_without_records_leaves_the_input_alone(rt: HostRuntime) -> Result<(), Fail> {
-    assert_eq!(rt; read_by(rt.alloc(), false, b"no records")?, (Some(0), 10));
+    assert_eq!(rt; read_by(rt.alloc(), None, b"no records")?, (Some(0), 10));
     Ok(())
 }
 
