@@ -55,6 +55,7 @@ def real(count):
 def main(room, shape, count):
     room = Path(room)
     lines, paths = {"deep": deep, "real": real}[shape](count)
+    room.mkdir(exist_ok=True)
     (room / "fc").write_text("/.*\tsystem_u:object_r:default_t:s0\n")
     (room / "fc.subs").write_text(lines)
     with open(room / "records", "wb") as out:
