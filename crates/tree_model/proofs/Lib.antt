@@ -38,3 +38,4 @@ pub mod AbsentLaws
 pub mod LabelledLemmas
 pub mod FrontLemmas
 pub mod FrontTexts
+pub mod AdmittedLemmas

@@ -1,7 +1,8 @@
-ghost use Rattle.std.specs.Prelude.{◌≡◌, ◌+◌, ◌++◌, ◌<◌, ◌^◌, ◌&&◌, not, false, take, drop, length, get_or, IfOk, OnOk};
+ghost use Rattle.std.specs.Prelude.{◌≡◌, ◌+◌, ◌++◌, ◌<◌, ◌^◌, ◌&&◌, ◌||◌, List, not, false, take, drop, length, get_or, IfOk, OnOk};
+ghost use Rattle.file_paths.specs.Path.{Path};
 ghost use Rattle.tree_model.specs.Extents.{EndsFrom};
 ghost use Rattle.tree_model.specs.LiveLists.{AreFlags, IsDead};
-ghost use Rattle.tree_model.specs.Selection.{absent_from, is_admitted, is_excluded, is_live, selected_by, whole_at};
+ghost use Rattle.tree_model.specs.Selection.{absent_from, admits, is_admitted, is_excluded, is_live, selected_by, whole_at};
 ghost use Rattle.tree_model.specs.Tree.{ByPath};
 
 use crate::admit::mark_operand;
@@ -46,6 +47,24 @@ impl Model for Selected {
     ghost invariant = { λ s. KeepsFlags (live_of s.dead.items s.count) s.dead.items s.count };
 }
 
+// Marks what the entry of one operand more admits. Where it has its flag already, some operand before admits
+// it, and all that it admits: so many operands cost one run.
+fn admit_entry(sorted: &Sorted, ends: &[u32], choice: &Choice, live: &mut Vec<bool>, o: u32)
+    requires by_path { ByPath sorted.now }
+    requires ends { EndsFrom 0 sorted.now ends.now }
+    requires flags { length live.old.items ≡ length sorted.now }
+    requires within { o < length sorted.now }
+    ensures { (before : List Path)
+        → AreFlags (length sorted.now) (is_admitted choice.now sorted.now before) live.old.items
+        → AreFlags (length sorted.now) (λ e. is_admitted choice.now sorted.now before e
+        || admits choice.now sorted.now o e) live.new.items }
+{
+    if live[o as usize] {
+        return;
+    }
+    mark_operand(sorted, ends, live, choice, o);
+}
+
 // Marks what the operand with an index admits, or notes that no entry has its path.
 fn admit_operand(
     sorted: &Sorted,
@@ -69,7 +88,7 @@ fn admit_operand(
     let path = choice.operands.get(index as usize).path();
     match sorted.find(&path) {
         Some(o) => {
-            mark_operand(sorted, ends, live, choice, o);
+            admit_entry(sorted, ends, choice, live, o);
             Ok(())
         }
         None => absent.push(index),

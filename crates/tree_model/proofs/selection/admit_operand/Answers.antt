@@ -1,18 +1,18 @@
-use Rattle.std.proofs.Common.{◌≡◌, ◌∙◌, ◌+◌, ap, sym, length, take}
+use Rattle.std.proofs.Common.{◌≡◌, ◌∙◌, ◌+◌, ◌||◌, ap, sym, length, take}
 use Rattle.std.proofs.lemmas.Result.{on_ok_weaker}
 use Rattle.std.specs.Prelude.{Some, None}
 use Rattle.tree_model.specs.Selection.{admits, is_admitted}
 use Rattle.tree_model.specs.Tree.{find_in}
 use Rattle.tree_model.proofs.MarkLemmas.{or_false}
-use Rattle.tree_model.proofs.SelectLemmas.{absent_found, absent_none, admitted_more, flags_marked, flags_same}
+use Rattle.tree_model.proofs.SelectLemmas.{absent_found, absent_none, admitted_more, flags_same}
 use Rattle.tree_model.proofs.selection.admit_operand.Goals as goal
 
 pub returns-in-Some-clause-flags : goal.returns-in-Some-clause-flags
 returns-in-Some-clause-flags c =
     let there : find_in c.get.result.now c.args.sorted.now ≡ Some c.in-Some.o = ap (λ p. find_in p c.args.sorted.now) (sym c.path-path.ensures) ∙ sym c.find.ensures ∙ c.in-Some.is in
-    flags_marked (length c.args.sorted.now) (is_admitted c.args.choice.now c.args.sorted.now (take c.args.index c.args.choice.now.operands))
-    (admits c.args.choice.now c.args.sorted.now c.in-Some.o) (is_admitted c.args.choice.now c.args.sorted.now (take (c.args.index + 1) c.args.choice.now.operands))
-    c.args.live.now.items c.mark_operand.new.live.items c.requires.flags c.mark_operand.ensures
+    let before = take c.args.index c.args.choice.now.operands in
+    flags_same (length c.args.sorted.now) (λ e. is_admitted c.args.choice.now c.args.sorted.now before e || admits c.args.choice.now c.args.sorted.now c.in-Some.o e)
+    (is_admitted c.args.choice.now c.args.sorted.now (take (c.args.index + 1) c.args.choice.now.operands)) c.admit_entry.new.live.items (c.admit_entry.ensures before c.requires.flags)
     (admitted_more c.args.choice.now c.args.sorted.now c.args.choice.now.operands c.args.index c.get.result.now (Some c.in-Some.o) c.get.ensures there)
 
 pub returns-in-Some-clause-absent : goal.returns-in-Some-clause-absent
