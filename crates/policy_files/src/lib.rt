@@ -7,7 +7,7 @@ mod reading;
 mod rules;
 
 pub use names::{CUSTOMIZABLE_TYPES, DEFAULT_BASE, add_policy, add_types};
-pub use reading::{read_specifications, read_substitutions, read_types};
+pub use reading::{read_specifications, read_substitutions, read_types, types_in};
 pub use rules::read_rules;
 
 #[cfg(test)]

@@ -113,8 +113,10 @@ pub fn read_substitutions<S: Store>(
     Ok(Subs { first, second })
 }
 
-// Reads the customizable types of a file in its bytes.
-fn types_in(alloc: Global, bytes: &Bytes) -> Result<TypeNames, Cause>
+/// Reads the customizable types of a file in its bytes.
+///
+/// The error is the first line that is refused, or want of memory.
+pub fn types_in(alloc: Global, bytes: &Bytes) -> Result<TypeNames, Cause>
     requires { length bytes.now < 2 ^ 32 }
     ensures answer { Gives (types_from (types_read bytes.now)) result }
     ensures counts { (count : ℕ) → Counts count count result }

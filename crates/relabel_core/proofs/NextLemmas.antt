@@ -20,7 +20,7 @@ none_void true changed None h = refl
 none_void false changed None h = refl
 
 -- no digest comes to what is no directory, where none is stored
-none_there : (w : Walk) (e : ℕ) → w.stored e ≡ None → is_directory w.entries e ≡ false → digest_after w e ≡ None
+pub none_there : (w : Walk) (e : ℕ) → w.stored e ≡ None → is_directory w.entries e ≡ false → digest_after w e ≡ None
 none_there w e none other =
     after_other w e (none_of_file w e other) ∙ none_void w.options.dry (has_changed_name w e) (w.stored e) none
 

@@ -25,7 +25,6 @@ impl<'w, 'a> Digests<'w, 'a> {
     ghost use Rattle.relabel_core.specs.Changes.{digest_change, digest_changes};
     ghost use Rattle.relabel_core.specs.DigestAfter.{digest_told};
     ghost use Rattle.relabel_core.specs.Digests.{walk_before};
-    ghost use Rattle.relabel_core.specs.Passed.{renewal};
     ghost use Rattle.relabel_core.specs.Walk.{count, digest_after, has_changed_name};
 
     /// The walk after which they are.
@@ -49,18 +48,6 @@ impl<'w, 'a> Digests<'w, 'a> {
         count_at(counts, d) < count_at(counts, walked.input.tree.extent(d))
     }
 
-    // The digest that was made anew for an entry.
-    fn renewed(&self, d: u32) -> Option<Digest>
-        requires { d < count (walk_before self.now) }
-        ensures { result ≡ renewal (walk_before self.now) d }
-    {
-        let walked = self.walked;
-        if !is_directory(walked.input.tree, d) {
-            return None;
-        }
-        walked.passed.renewed(d)
-    }
-
     /// What becomes of the digest of an entry. It looks at what was made once. With [`Options::dry`] all digests stay. Else
     /// each directory that was looked at, with nothing below it that was left out and no name of its inodes elsewhere, has
     /// its digest anew, if digests are asked for; and [`Digest::VOID`] stands for one that is stored for another directory
@@ -73,7 +60,7 @@ impl<'w, 'a> Digests<'w, 'a> {
             ≡ digest_after (walk_before self.now) d }
     {
         let walked = self.walked;
-        digest_after(&walked.input, d, self.renewed(d), self.does_rise(d))
+        digest_after(&walked.input, d, walked.renewed(d), self.does_rise(d))
     }
 
     /// The digest that an entry's changes to, if it changes.
@@ -82,7 +69,7 @@ impl<'w, 'a> Digests<'w, 'a> {
         ensures { result ≡ digest_change (walk_before self.now) d }
     {
         let walked = self.walked;
-        digest_change(&walked.input, d, self.renewed(d), self.does_rise(d))
+        digest_change(&walked.input, d, walked.renewed(d), self.does_rise(d))
     }
 
     /// Whether the digest of an entry changes.
@@ -95,8 +82,21 @@ impl<'w, 'a> Digests<'w, 'a> {
 }
 
 impl<'a> Walked<'a> {
-    ghost use Rattle.std.specs.Prelude.{IfOk};
+    ghost use Rattle.std.specs.Prelude.{◌<◌, IfOk};
     ghost use Rattle.relabel_core.specs.Digests.{walk_before};
+    ghost use Rattle.relabel_core.specs.Passed.{renewal};
+    ghost use Rattle.relabel_core.specs.Walk.{count};
+
+    /// The digest that was made anew for an entry, if one was.
+    pub fn renewed(&self, d: u32) -> Option<Digest>
+        requires { d < count (walk_in self.now) }
+        ensures { result ≡ renewal (walk_in self.now) d }
+    {
+        if !is_directory(self.input.tree, d) {
+            return None;
+        }
+        self.passed.renewed(d)
+    }
 
     /// The digests of the directories after the walk. Where one is stored at all, this goes once over all entries.
     pub fn digests<'w>(&'w self, alloc: Global) -> Result<Digests<'w, 'a>, OutOfMemory>

@@ -18,8 +18,8 @@ use label_base::{Bytes, OutOfMemory, Row};
 use label_rules::LabelAfter;
 use std::alloc::Global;
 
-// A label of its own, in place of one that is lent.
-fn label_of(alloc: Global, label: &LabelAfter<'_>) -> Result<Label, OutOfMemory>
+/// A label of its own, in place of one that is lent.
+pub fn label_of(alloc: Global, label: &LabelAfter<'_>) -> Result<Label, OutOfMemory>
     ensures { IfOk result (λ copied. copied ≡ label_told label.now) }
 {
     match label {

@@ -38,7 +38,8 @@ fn operand_at<'a>(operands: &'a [NormPath], i: u32) -> PathRef<'a>
     }
 }
 
-fn add_absent_of(
+/// Adds the lines of the operands with these indices, which have no entry.
+pub fn add_absent_of(
     alloc: Global,
     operands: &[NormPath],
     indices: &[u32],

@@ -14,12 +14,15 @@ use Rattle.path_lookups.specs.declared.TheConstants.{MATCHPATHCON}
 use Rattle.home_contexts.specs.Asked.{homes_words}
 use Rattle.home_contexts.specs.Plan.{homes_plan}
 use Rattle.home_contexts.specs.declared.TheConstants.{GENHOMEDIRCON}
+use Rattle.policy_rehearsal.specs.Plan.{rehearse_plan}
+use Rattle.policy_rehearsal.specs.Words.{rehearse_words}
+use Rattle.policy_rehearsal.specs.declared.TheConstants.{REHEARSE_TOOL}
 use Rattle.sample_tree.specs.Plan.{sample_plan}
 use Rattle.sample_tree.specs.Words.{sample_words}
 use Rattle.sample_tree.specs.declared.TheConstants.{SAMPLE}
 use Rattle.relabel_program.specs.declared.runs.TheConstants.{FIRST}
 use Rattle.relabel_program.specs.declared.runs.ToolName.{ToolName}
-use Rattle.relabel_program.specs.declared.runs.ToolName.TheVariants.{Setfiles, Restorecon, Matchpathcon, Genhomedircon, Sample}
+use Rattle.relabel_program.specs.declared.runs.ToolName.TheVariants.{Setfiles, Restorecon, Matchpathcon, Genhomedircon, Rehearse, Sample}
 
 -- the tool that a word names
 abbrev pub tool_named : List ℕ → Option ToolName
@@ -28,6 +31,7 @@ tool_named word =
     else if same_bytes word RESTORECON.now then Some Restorecon
     else if same_bytes word MATCHPATHCON.now then Some Matchpathcon
     else if same_bytes word GENHOMEDIRCON.now then Some Genhomedircon
+    else if same_bytes word REHEARSE_TOOL.now then Some Rehearse
     else if same_bytes word SAMPLE.now then Some Sample
     else None
 
@@ -37,6 +41,7 @@ asked_for (Some Setfiles) words = planned relabel_plan (setfiles_words FIRST wor
 asked_for (Some Restorecon) words = planned relabel_plan (restorecon_words FIRST words)
 asked_for (Some Matchpathcon) words = planned lookup_plan (lookup_words FIRST words)
 asked_for (Some Genhomedircon) words = planned homes_plan (homes_words FIRST words)
+asked_for (Some Rehearse) words = planned rehearse_plan (rehearse_words FIRST words)
 asked_for (Some Sample) words = planned sample_plan (sample_words FIRST words)
 asked_for None words = Err (usage 0 UnknownTool)
 

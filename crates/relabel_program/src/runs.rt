@@ -12,6 +12,8 @@ ghost use Rattle.path_lookups.specs.Plan.{lookup_plan};
 ghost use Rattle.path_lookups.specs.Words.{lookup_words};
 ghost use Rattle.home_contexts.specs.Asked.{homes_words};
 ghost use Rattle.home_contexts.specs.Plan.{homes_plan};
+ghost use Rattle.policy_rehearsal.specs.Plan.{rehearse_plan};
+ghost use Rattle.policy_rehearsal.specs.Words.{rehearse_words};
 ghost use Rattle.sample_tree.specs.Plan.{sample_plan};
 ghost use Rattle.sample_tree.specs.Words.{sample_words};
 ghost use Rattle.relabel_program.specs.Tools.{asked_for, asked_of, tool_named};
@@ -20,6 +22,7 @@ use home_contexts::{GENHOMEDIRCON, read_homes};
 use input_output::{Sink, Source, Store};
 use label_base::Fault;
 use path_lookups::{MATCHPATHCON, read_lookup};
+use policy_rehearsal::{REHEARSE_TOOL, read_rehearse};
 use run_faults::Outcome;
 use sample_tree::{SAMPLE, SampleWords, read_sample};
 use std::alloc::Global;
@@ -37,6 +40,7 @@ enum ToolName {
     Restorecon,
     Matchpathcon,
     Genhomedircon,
+    Rehearse,
     Sample,
 }
 
@@ -52,6 +56,8 @@ fn tool_named(word: &str) -> Option<ToolName>
         Some(ToolName::Matchpathcon)
     } else if word == GENHOMEDIRCON {
         Some(ToolName::Genhomedircon)
+    } else if word == REHEARSE_TOOL {
+        Some(ToolName::Rehearse)
     } else if word == SAMPLE {
         Some(ToolName::Sample)
     } else {
@@ -142,6 +148,23 @@ fn run_homes<S: Store, I: Source, O: Sink>(
     run_words(alloc, read_homes(alloc, words, FIRST), store, input, out)
 }
 
+// Runs rehearse by the words behind its name.
+fn run_rehearse<S: Store, I: Source, O: Sink>(
+    alloc: Global,
+    words: &[String],
+    store: &mut S,
+    input: &mut I,
+    out: &mut O,
+) -> Outcome
+    requires { length words.now + FIRST < 2 ^ 31 }
+    ensures status { result.status ≡ status_of (is_soft_in (planned rehearse_plan (rehearse_words FIRST (word_texts words.now)))) result.cause }
+    ensures run { Run S.files S.calls S.read_faults S.write_faults I.left I.faults O.written O.faults
+        (planned rehearse_plan (rehearse_words FIRST (word_texts words.now))) store.old store.new input.old input.new
+        out.old out.new result.cause }
+{
+    run_words(alloc, read_rehearse(alloc, words, FIRST), store, input, out)
+}
+
 // Runs sample by the words behind its name.
 fn run_sample<S: Store, I: Source, O: Sink>(
     alloc: Global,
@@ -195,6 +218,7 @@ fn run_named<S: Store, I: Source, O: Sink>(
         Some(ToolName::Restorecon) => run_restorecon(alloc, words, store, input, out),
         Some(ToolName::Matchpathcon) => run_lookup(alloc, words, store, input, out),
         Some(ToolName::Genhomedircon) => run_homes(alloc, words, store, input, out),
+        Some(ToolName::Rehearse) => run_rehearse(alloc, words, store, input, out),
         Some(ToolName::Sample) => run_sample(alloc, words, store, input, out),
         None => refuse_tool(alloc, store, input, out),
     }

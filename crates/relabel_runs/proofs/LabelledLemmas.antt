@@ -61,7 +61,7 @@ first_label entries labels e l (Some k) least =
     ∙ ap (on entries labels) same
     ∙ ap labels (sym (group_same (labelled entries labels) entries k (alike_labelled entries labels)) ∙ eqb-true (group_of (labelled entries labels) k) (group_of entries e) least.1)
 
-label_set : (entries : List Record) (labels : ℕ → Label) (e : ℕ) → e < length entries → label_in (labelled entries labels) (group_of entries e) ≡ labels (group_of entries e)
+pub label_set : (entries : List Record) (labels : ℕ → Label) (e : ℕ) → e < length entries → label_in (labelled entries labels) (group_of entries e) ≡ labels (group_of entries e)
 label_set entries labels e l =
     first_label entries labels e l (least_below (length (labelled entries labels)) (in_group entries labels (group_of entries e)))
     (least_told (length (labelled entries labels)) (in_group entries labels (group_of entries e)))

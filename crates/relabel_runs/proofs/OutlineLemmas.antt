@@ -76,7 +76,7 @@ paths_same a b alike = kept_same path_in a b (λ es. fun_ext (λ e. path_kept es
 pub kinds_same : (a b : List Record) → SameOutline a b → kind_in a ≡ kind_in b
 kinds_same a b alike = kept_same kind_in a b (λ es. fun_ext (λ e. kind_kept es e)) alike
 
-inodes_same : (a b : List Record) → SameOutline a b → inode_at a ≡ inode_at b
+pub inodes_same : (a b : List Record) → SameOutline a b → inode_at a ≡ inode_at b
 inodes_same a b alike = kept_same inode_at a b (λ es. fun_ext (λ e. inode_kept es e)) alike
 
 find_same : (a b : List Record) → SameOutline a b → finder a ≡ finder b

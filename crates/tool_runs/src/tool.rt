@@ -48,6 +48,7 @@ pub trait Tool {
 
     /// The files that are read, in order. It fails for want of memory alone.
     fn file_list(&self, alloc: Global) -> Result<FileList, OutOfMemory>
+        requires { IsFit self.now }
         ensures { IfOk result (λ list. list ≡ reads self.now) };
 
     /// The format of the records that the input is read as, or none where it is left alone.
@@ -66,7 +67,8 @@ pub trait Tool {
         list: &FileList,
         store: &mut S,
     ) -> Result<Self::Found, Cause>
-        requires { list.now ≡ reads self.now }
+        requires fit { IsFit self.now }
+        requires list { list.now ≡ reads self.now }
         ensures reads { Reads S.files S.calls S.read_faults S.write_faults (files_say self.now)
             store.old store.new result }
         ensures unread { reads self.now ≡ [] → store.new ≡ store.old }

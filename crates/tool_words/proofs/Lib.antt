@@ -2,3 +2,4 @@ pub mod GrammarLemmas
 pub mod LetterLemmas
 pub mod OperandCounts
 pub mod RefusalLemmas
+pub mod ValueCounts

@@ -118,11 +118,12 @@ accepted : (found : Option Usage) (meant items : List Item)
 accepted None meant items is = cc
 accepted (Some wrong) meant items is = absurd (cc)
 
-texts_few : (tool : Tool) (index : ℕ) (words : List (List ℕ)) (items : List Item)
-    → items_read tool index words ≡ Ok items → length (operand_paths items) ≤ length words
-texts_few tool index words items is =
+texts_few : (tool : Tool) (index : ℕ) (words : List (List ℕ)) (wrong : Option Usage) (items : List Item)
+    → unless_wrong wrong (items_of tool index words) ≡ Ok items
+    → length (operand_paths items) ≤ length words
+texts_few tool index words wrong items is =
     let all : items_of tool index words ≡ items =
-    accepted (first_wrong (items_of tool index words)) (items_of tool index words) items is in
+    accepted wrong (items_of tool index words) items is in
     subst (λ (xs : List Item). length (operand_paths xs) ≤ length words) all
     (omega (
       arith,
@@ -130,10 +131,12 @@ texts_few tool index words items is =
       items_few tool (ahead Any true) index words,
     ))
 
-pub operands_few : (tool : Tool) (index : ℕ) (words : List (String Global))
+-- whatever was looked for that may be wrong
+pub operands_few : (tool : Tool) (index : ℕ) (words : List (String Global)) (wrong : Option Usage)
     → (result : Result (List Item) (Fault Usage))
-    → Answers (λ items. items) cause_of result (items_read tool index (word_texts words))
+    → Answers (λ items. items) cause_of result
+    (unless_wrong wrong (items_of tool index (word_texts words)))
     → IfOk result (λ items. length (operand_paths items) ≤ length words)
-operands_few tool index words (Ok items) is =
-    omega (arith, texts_few tool index (word_texts words) items is, length-map words string_bytes)
-operands_few tool index words (Err fault) is = tt
+operands_few tool index words wrong (Ok items) is =
+    omega (arith, texts_few tool index (word_texts words) wrong items is, length-map words string_bytes)
+operands_few tool index words wrong (Err fault) is = tt

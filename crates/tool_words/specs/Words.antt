@@ -1,5 +1,5 @@
 -- What the words say of each letter and of the operands, and the first that is wrong.
-use Rattle.std.specs.Prelude.{ℕ, Bool, true, false, ◌==◌, List, map, Option, Some, None, Result, Ok, Err}
+use Rattle.std.specs.Prelude.{ℕ, ◌-◌, Bool, true, false, ◌==◌, ◌&&◌, List, [], ◌∷◌, map, Option, Some, None, Result, Ok, Err, if◌then◌else◌}
 use Rattle.std.specs.Prelude.{String}
 use Rattle.std.specs.List.{filter_map, last_or, list_any}
 use Rattle.std.specs.Option.{option_and_then}
@@ -9,13 +9,14 @@ use Rattle.label_base.specs.Kind.{class_kind}
 use Rattle.label_base.specs.declared.kind.EntryKind.{EntryKind}
 use Rattle.file_paths.specs.Path.{Path, path_read}
 use Rattle.file_paths.specs.declared.path_fault.PathWhy.{PathWhy}
-use Rattle.tool_words.specs.Items.{Item, items_of}
+use Rattle.tool_words.specs.Items.{Item, items_of, wrong}
 use Rattle.tool_words.specs.Tool.{Tool}
 use Rattle.tool_words.specs.Values.{first_wrong, number_named}
 use Rattle.tool_words.specs.declared.item.Says.{Says}
 use Rattle.tool_words.specs.declared.item.Says.TheVariants.{Flag, Given, Operand}
 use Rattle.tool_words.specs.declared.usage.Usage.{Usage}
 use Rattle.tool_words.specs.declared.usage.UsageWhy.{UsageWhy}
+use Rattle.tool_words.specs.declared.usage.UsageWhy.TheVariants.{BadNumber}
 
 -- the words as their bytes
 abbrev pub word_texts : List (String Global) → List (List ℕ)
@@ -106,3 +107,25 @@ abbrev pub where_read : {A : Type 0} → Result (List Item) Usage → (List Item
     → Result A Usage
 where_read (Ok items) asked = asked items
 where_read (Err wrong) asked = Err wrong
+
+-- ---- a letter that may have so many values
+
+-- for how many values there is room behind something that the words say
+abbrev pub room_behind : (letter room : ℕ) → Item → ℕ
+room_behind letter room item = if is_given letter item.says then room - 1 else room
+
+-- a value for which there is no room is wrong, whatever it is
+abbrev pub within_room : (letter room : ℕ) → Item → Item
+within_room letter room item =
+    if is_given letter item.says && (room == 0) then wrong BadNumber item.index else item
+
+abbrev pub all_within : (letter room : ℕ) → List Item → List Item
+all_within letter room [] = []
+all_within letter room (item ∷ items) =
+    within_room letter room item ∷ all_within letter (room_behind letter room item) items
+
+-- what the words say where a letter may have at most so many values, or the first that is wrong
+abbrev pub items_within : Tool → (letter most : ℕ) → ℕ → List (List ℕ) → Result (List Item) Usage
+items_within tool letter most index words =
+    unless_wrong (first_wrong (all_within letter most (items_of tool index words)))
+    (items_of tool index words)

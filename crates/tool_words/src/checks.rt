@@ -1,9 +1,11 @@
-ghost use Rattle.std.specs.Prelude.{◌≡◌};
+ghost use Rattle.std.specs.Prelude.{◌≡◌, ◌==◌, ◌&&◌};
 ghost use Rattle.file_paths.specs.Path.{path_read};
 ghost use Rattle.tool_words.specs.Values.{first_wrong, form_wrong, item_wrong, Judges, path_wrong, says_wrong};
+ghost use Rattle.tool_words.specs.Words.{all_within, is_given, room_behind, within_room};
 
 use crate::item::{Item, Says};
 use crate::letters::Form;
+use crate::said::is_given;
 use crate::usage::{Usage, UsageWhy};
 use crate::values::{kind_wrong, name_wrong, number_wrong};
 use file_paths::NormPath;
@@ -73,6 +75,55 @@ pub fn check_items(alloc: Global, items: &[Item<'_>]) -> Result<(), Fault<Usage>
 {
     'items: for item in items {
         check_item(alloc, item)?;
+    }
+    Ok(())
+}
+
+// Whether this is a value of the letter for which there is no room.
+fn is_past(letter: u8, room: u32, item: &Item<'_>) -> bool
+    ensures { result ≡ (is_given letter item.now.says && (room == 0)) }
+{
+    is_given(letter, item) && room == 0
+}
+
+// Looks for what is wrong with something that the words say, where a letter has room for so many
+// values.
+fn check_within(alloc: Global, letter: u8, room: u32, item: &Item<'_>) -> Result<(), Fault<Usage>>
+    ensures { Judges result (item_wrong (within_room letter room item.now)) }
+{
+    if is_past(letter, room, item) {
+        return Err(Fault::Why(Usage {
+            index: item.index,
+            why: UsageWhy::BadNumber,
+        }));
+    }
+    check_item(alloc, item)
+}
+
+fn room_behind(letter: u8, room: u32, item: &Item<'_>) -> u32
+    ensures { result ≡ room_behind letter room item.now }
+{
+    if is_given(letter, item) {
+        room.saturating_sub(1)
+    } else {
+        room
+    }
+}
+
+/// Looks for the first that is wrong among what the words say, where a letter may have at most so
+/// many values.
+pub fn check_items_within(
+    alloc: Global,
+    letter: u8,
+    most: u32,
+    items: &[Item<'_>],
+) -> Result<(), Fault<Usage>>
+    ensures { Judges result (first_wrong (all_within letter most items.now)) }
+{
+    let mut room = most;
+    'counted: for item in items {
+        check_within(alloc, letter, room, item)?;
+        room = room_behind(letter, room, item);
     }
     Ok(())
 }

@@ -17,7 +17,7 @@ pub use item::Item;
 pub use laws::{refused_where_wrong, words_follow_grammar};
 pub use letters::{Form, Letter, Others, Takes, ToolLetters, Valued};
 pub use lists::{names_of, operands, paths_given};
-pub use reading::read_items;
+pub use reading::{read_items, read_items_within};
 pub use said::{has_flag, has_operand, has_value, kind_of, name_of, number_of, value_of};
 pub use usage::{Usage, UsageWhy};
 

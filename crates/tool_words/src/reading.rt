@@ -1,8 +1,8 @@
 ghost use Rattle.std.specs.Prelude.{◌<◌, ◌≤◌, ◌+◌, ◌^◌, IfOk, length};
 ghost use Rattle.label_base.specs.Answers.{Answers, cause_of};
-ghost use Rattle.tool_words.specs.Words.{items_read, operand_paths, word_texts};
+ghost use Rattle.tool_words.specs.Words.{items_read, items_within, operand_paths, values_of, word_texts};
 
-use crate::checks::check_items;
+use crate::checks::{check_items, check_items_within};
 use crate::cutting::items_of;
 use crate::item::Item;
 use crate::letters::ToolLetters;
@@ -43,4 +43,42 @@ pub fn read_items<'a>(
     ensures few { IfOk result (λ items. length (operand_paths items) ≤ length words.now) }
 {
     read_checked(alloc, tool, words, first)
+}
+
+// Reads the words, and looks for the first that is wrong, where a letter may have at most so many
+// values.
+fn read_checked_within<'a>(
+    alloc: Global,
+    tool: &ToolLetters<'_>,
+    words: &'a [String],
+    first: u32,
+    letter: u8,
+    most: u32,
+) -> Result<Row<Item<'a>>, Fault<Usage>>
+    requires { length words.now + first < 2 ^ 31 }
+    ensures { Answers (λ items. items) cause_of result
+        (items_within tool.now letter most first (word_texts words.now)) }
+{
+    let items = items_of(alloc, tool, words, first)?;
+    check_items_within(alloc, letter, most, items.as_slice())?;
+    Ok(items)
+}
+
+/// Reads words as [`read_items`] does, where a letter may have at most so many values: one more is a
+/// bad number at its word, whatever it is.
+pub fn read_items_within<'a>(
+    alloc: Global,
+    tool: &ToolLetters<'_>,
+    words: &'a [String],
+    first: u32,
+    letter: u8,
+    most: u32,
+) -> Result<Row<Item<'a>>, Fault<Usage>>
+    requires { length words.now + first < 2 ^ 31 }
+    ensures meant { Answers (λ items. items) cause_of result
+        (items_within tool.now letter most first (word_texts words.now)) }
+    ensures few { IfOk result (λ items. length (operand_paths items) ≤ length words.now) }
+    ensures counted { IfOk result (λ items. length (values_of letter items) ≤ most) }
+{
+    read_checked_within(alloc, tool, words, first, letter, most)
 }

@@ -2,7 +2,7 @@ use crate::item::Item;
 use crate::laws::{refused_where_wrong, words_follow_grammar};
 use crate::letters::{Form, Letter, Others, Takes, ToolLetters, Valued};
 use crate::lists::{names_of, operands, paths_given};
-use crate::reading::read_items;
+use crate::reading::{read_items, read_items_within};
 use crate::said::{has_flag, has_operand, has_value, kind_of, name_of, number_of, value_of};
 use crate::usage::{Usage, UsageWhy};
 use file_paths::NormPath;
@@ -269,6 +269,35 @@ fn last_name_counts(rt: HostRuntime) {
     for (letter, told) in [(b'S', Some(true)), (b'o', Some(false)), (b'K', None)] {
         let words = ["-o1", "-o", "2", "--", "--", "/x"];
         assert_eq!(rt; is_named(rt.alloc(), words.as_slice(), letter, "--"), told);
+    }
+}
+
+// The same, where `-o` may have two values.
+fn refused_within(alloc: Global, words: &[&str]) -> Option<(u32, UsageWhy)> {
+    let words = words_of(alloc, words).ok()?;
+    if words.len() >= 1 << 30 {
+        return None;
+    }
+    match read_items_within(alloc, &with_paths(), words.as_slice(), 1, b'o', 2) {
+        Err(Fault::Why(wrong)) => Some((wrong.index, wrong.why)),
+        _ => None,
+    }
+}
+
+#[test]
+fn a_value_too_many(rt: HostRuntime) {
+    for (words, told) in [
+        (["-o", "a", "-ob", "/"].as_slice(), None),
+        (
+            &["-o", "a", "-ob", "-o", "", "-q"],
+            Some((5, UsageWhy::BadNumber)),
+        ),
+        (
+            &["-oa", "-q", "-ob", "-oc"],
+            Some((2, UsageWhy::UnknownOption)),
+        ),
+    ] {
+        assert_eq!(rt; refused_within(rt.alloc(), words), told);
     }
 }
 

@@ -1,0 +1,7 @@
+pub mod Unlabelled
+pub mod SeenLemmas
+pub mod TurnLemmas
+pub mod FileLemmas
+pub mod TextLemmas
+pub mod StandingLemmas
+pub mod WordLemmas

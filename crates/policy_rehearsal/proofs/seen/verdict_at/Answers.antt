@@ -1,0 +1,16 @@
+use Rattle.std.proofs.Common.{◌≡◌, ◌∙◌, ap, sym, subst, length, ◌<◌}
+use Rattle.std.specs.Option.{option_copied}
+use Rattle.label_rules.specs.LabelAfter.{label_told}
+use Rattle.tree_model.specs.Groups.{group_of}
+use Rattle.relabel_core.specs.Answer.{walk_in}
+use Rattle.policy_rehearsal.specs.Seen.{labels_listed}
+use Rattle.policy_rehearsal.proofs.SeenLemmas.{verdict_seen}
+use Rattle.policy_rehearsal.proofs.seen.verdict_at.Goals as goal
+
+pub returns : goal.returns
+returns c =
+    let seen = c.args.seen.now in
+    c.verdict_where.ensures
+    ∙ verdict_seen (walk_in seen.walked.now) seen.tree.now (labels_listed seen.labels.now) c.args.e _ _ seen.force seen.rules.now
+    c.requires.seen.tree c.requires.seen.rules c.requires.seen.force c.requires.entry
+    (c.label_now-label.ensures ∙ ap (labels_listed seen.labels.now) c.group.ensures.value) c.winning_at.ensures

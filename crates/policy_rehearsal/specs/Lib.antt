@@ -1,0 +1,10 @@
+pub mod Letters
+pub mod Words
+pub mod Files
+pub mod Rehearsal
+pub mod Lent
+pub mod Seen
+pub mod Standing
+pub mod Text
+pub mod Answer
+pub mod Plan

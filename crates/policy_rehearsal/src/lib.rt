@@ -1,0 +1,27 @@
+//! The tool rehearse: what several versions of a policy change in one tree, one after the other. Each walks over the labels and
+//! digests that those before it leave, and nothing is written.
+#![tactic(auto)]
+
+mod answer;
+mod files;
+mod groups;
+mod letters;
+mod rehearsal;
+mod rehearsed;
+mod seen;
+mod texts;
+mod tool;
+mod turn;
+mod words;
+
+pub use letters::MOST_POLICIES;
+pub use rehearsal::rehearse;
+pub use rehearsed::{Change, Rehearsed, Turn};
+pub use texts::text;
+pub use words::{RehearseWords, read_rehearse};
+
+/// The name of the tool.
+pub const REHEARSE_TOOL: &str = "rehearse";
+
+#[cfg(test)]
+mod tests;
