@@ -111,10 +111,16 @@ fn no_subs(alloc: Global) -> Result<Subs, Fail> {
     })
 }
 
+fn rule_set(alloc: Global, specs: &[u8]) -> Result<RuleSet, Fail> {
+    if specs.len() > 9999 {
+        return Err(OutOfMemory.into());
+    }
+    Ok(RuleSet::new(alloc, read_specs(alloc, specs, Part::Base, 9)?)?)
+}
+
 fn rules(alloc: Global, specs: &[u8]) -> Result<Rules, Fail> {
-    let specs = read_specs(alloc, specs, Part::Base, 9)?;
     Ok(Rules {
-        rules: RuleSet::new(alloc, specs)?,
+        rules: rule_set(alloc, specs)?,
         subs: no_subs(alloc)?,
         types: TypeNames::new(alloc),
     })
