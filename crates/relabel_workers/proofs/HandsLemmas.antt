@@ -1,0 +1,133 @@
+-- What passes show, and what hands hold, after a step.
+use Rattle.std.proofs.Common.{◌≡◌, ◌∙◌, sym, refl, ap, subst, ℕ, ◌+◌, ◌<◌, ◌≤◌, Bool, true, List, [], ◌∷◌, ◌++◌, length, map, Option, Some, None, arith, length-append}
+use Rattle.std.specs.Prelude.{All, not}
+use Rattle.std.specs.Cmp.{first_so}
+use Rattle.std.proofs.lemmas.List.{length-map}
+use Rattle.std.proofs.lemmas.List.Elements.{All-pop}
+use Rattle.walk_steps.specs.Lists.{times}
+use Rattle.walk_steps.specs.Shaped.{last_job}
+use Rattle.walk_steps.specs.Sound.{Sound}
+use Rattle.walk_steps.specs.declared.shape.Shape.{Shape}
+use Rattle.inode_claims.specs.declared.claims.ClaimPass.{ClaimPass}
+use Rattle.inode_claims.specs.declared.claims.Claims.{Claims}
+use Rattle.inode_claims.specs.declared.rule.Call.{Call}
+use Rattle.inode_claims.specs.declared.rule.ClaimView.{ClaimView}
+use Rattle.inode_claims.specs.Claiming as claiming
+use Rattle.inode_claims.specs.Answers.{IsPassOf, claim_view}
+use Rattle.dir_queue.specs.declared.queue.DirQueue.{DirQueue}
+use Rattle.dir_queue.specs.declared.queue.QueuePass.{QueuePass}
+use Rattle.dir_queue.specs.declared.rule.QueueView.{QueueView}
+use Rattle.dir_queue.specs.Passes as passes
+use Rattle.dir_queue.specs.Passes.{MayOffer, parent_in, with_taken}
+use Rattle.dir_queue.specs.Answers.{IsQueuePassOf, Takes, one_worker, passes_of, queue_view, shape_of}
+use Rattle.find_records.specs.Record.{Record}
+use Rattle.tree_model.specs.Extents.{is_directory}
+use Rattle.tree_model.specs.Tree.{ByPath}
+use Rattle.tree_model.specs.Groups.{group_of}
+use Rattle.tree_model.specs.Jobs as jobs
+use Rattle.tree_model.specs.Jobs.{directories_in, entries_of_job, home_of, job_of}
+use Rattle.relabel_core.specs.Walk.{Walk, count, skippable}
+use Rattle.relabel_workers.specs.Alone.{IsNoted, decided_alone, gives_alone}
+use Rattle.relabel_workers.specs.Held.{AreDone, AreHandsOf, AreRows, StandFor, claims_stand, queue_stands}
+use Rattle.relabel_workers.specs.Worked.{AddsCall, IsDone, given_with, is_to_be_given}
+use Rattle.relabel_workers.specs.declared.hands.Hands.{Hands}
+use Rattle.relabel_workers.specs.declared.note.Note.{Note}
+use Rattle.relabel_workers.proofs.EndLemmas.{job_within, parent_home}
+use Rattle.relabel_workers.proofs.WorkedLemmas.{both_done, entry_done, job_taken, none_done}
+
+-- ---- rows of passes
+
+module _ (queue : DirQueue) (claims : Claims) (qs ps : List QueuePass) (cs ds : List ClaimPass) (q : QueuePass) (c : ClaimPass) (rows : AreRows queue claims qs cs)
+    (one : qs ≡ ps ++ q ∷ []) (two : cs ≡ ds ++ c ∷ []) where
+  pub rows_left : AreRows queue claims ps ds
+  rows_left = record {
+    paired = (let a = rows.paired in let b = ap length one in let d = ap length two in let e = length-append ps (q ∷ []) in let f = length-append ds (c ∷ []) in omega (arith, a, b, d, e, f));
+    queues = (All-pop (λ p. IsQueuePassOf queue p × (queue_view p ≡ passes.fresh (shape_of queue).parents (passes_of queue) 1)) qs ps (Some q) one rows.queues).0;
+    claimers = (All-pop (λ p. IsPassOf claims p × (claim_view p ≡ claiming.fresh 1)) cs ds (Some c) two rows.claimers).0;
+  }
+
+  pub queue_next : IsQueuePassOf queue q × (queue_view q ≡ passes.fresh (shape_of queue).parents (passes_of queue) 1)
+  queue_next = (All-pop (λ p. IsQueuePassOf queue p × (queue_view p ≡ passes.fresh (shape_of queue).parents (passes_of queue) 1)) qs ps (Some q) one rows.queues).1
+
+  pub claim_next : IsPassOf claims c × (claim_view c ≡ claiming.fresh 1)
+  claim_next = (All-pop (λ p. IsPassOf claims p × (claim_view p ≡ claiming.fresh 1)) cs ds (Some c) two rows.claimers).1
+
+-- as many passes of the one kind as of the other
+pub none_or_both : (queue : DirQueue) (claims : Claims) (qs ps : List QueuePass) (cs : List ClaimPass) (q : QueuePass) → AreRows queue claims qs cs → qs ≡ ps ++ q ∷ [] → cs ≡ [] → ⊥
+none_or_both queue claims qs ps cs q rows one two =
+    let a = rows.paired in
+    let b = ap length one in
+    let d = ap length two in
+    let e = length-append ps (q ∷ []) in
+    omega (arith, a, b, d, e)
+
+-- ---- hands
+
+abbrev IsDoneBy : Walk → List ℕ → QueueView → ClaimView → List Note → Type 0
+IsDoneBy w left q k notes = IsDone w left q.taken q.given k.calls notes
+
+-- with other views and notes that are the same
+pub same_done : (w : Walk) (left : List ℕ) (q r : QueueView) (k l : ClaimView) (m n : List Note) → q ≡ r → k ≡ l → m ≡ n → IsDoneBy w left q k m → IsDoneBy w left r l n
+same_done w left q r k l m n a b c d = subst (λ x. IsDoneBy w left r l x) c (subst (λ x. IsDoneBy w left r x m) b (subst (λ x. IsDoneBy w left x k m) a d))
+
+pub fresh_done : (w : Walk) (q : QueueView) (k : ClaimView) (notes : List Note) (parents : List ℕ) (n i j : ℕ) → q ≡ passes.fresh parents n i → k ≡ claiming.fresh j → notes ≡ []
+    → IsDone w [] q.taken q.given k.calls notes
+fresh_done w q k notes parents n i j a b c = same_done w [] (passes.fresh parents n i) q (claiming.fresh j) k [] notes (sym a) (sym b) (sym c) (none_done w)
+
+pub joined_done : (w : Walk) (q q' r : QueueView) (k k' l : ClaimView) (m m' n : List Note) → r ≡ passes.joined q q' → l ≡ claiming.joined k k' → n ≡ m ++ m'
+    → IsDone w [] q.taken q.given k.calls m → IsDone w [] q'.taken q'.given k'.calls m' → IsDone w [] r.taken r.given l.calls n
+joined_done w q q' r k k' l m m' n a b c d e =
+    same_done w [] (passes.joined q q') r (claiming.joined k k') l (m ++ m') n (sym a) (sym b) (sym c)
+    (both_done w q.taken q'.taken q.given q'.given k.calls k'.calls m m' d e)
+
+-- ---- one entry
+
+pub skips_at : (w : Walk) (note : Note) (e : ℕ) → note.entry ≡ e → IsNoted w note → note.finding.skippable ≡ skippable w e
+skips_at w note e same n = n.skips_is ∙ ap (skippable w) same
+
+pub decided_at : (w : Walk) (note : Note) (e : ℕ) → note.entry ≡ e → IsNoted w note → note.decided ≡ decided_alone w e
+decided_at w note e same n = n.decided_is ∙ ap (decided_alone w) same
+
+pub entry_added : (w : Walk) (e : ℕ) (rest : List ℕ) (q r : QueueView) (k l : ClaimView) (m n : List Note) (note : Note) → r.taken ≡ q.taken
+    → r.given ≡ given_with (is_to_be_given w e) q.given (job_of w.entries e) → AddsCall (gives_alone w e) (group_of w.entries e) e k.calls l.calls → n ≡ m ++ note ∷ []
+    → note.entry ≡ e → IsNoted w note → IsDone w (e ∷ rest) q.taken q.given k.calls m → IsDone w rest r.taken r.given l.calls n
+entry_added w e rest q r k l m n note took gave called more same right d =
+    subst (λ x. IsDone w rest x r.given l.calls n) (sym took)
+    (subst (λ x. IsDone w rest q.taken r.given l.calls x) (sym more) (entry_done w e rest q.taken q.given r.given k.calls l.calls m note d gave called same right))
+
+-- ---- one job
+
+pub taken_done : (w : Walk) (job : ℕ) (q r : QueueView) (k : ClaimView) (m : List Note) → r ≡ with_taken q job → times job q.taken ≡ 0 → IsDone w [] q.taken q.given k.calls m
+    → IsDone w (entries_of_job w.entries job) r.taken r.given k.calls m
+taken_done w job q r k m is new d = subst (λ (v : QueueView). IsDone w (entries_of_job w.entries job) v.taken v.given k.calls m) (sym is) (job_taken w job q.taken q.given k.calls m d new)
+
+pub job_known : (entries : List Record) (shape : Shape) (job : ℕ) → shape ≡ jobs.shape_of entries → job ≤ length shape.parents → job ≤ length (directories_in entries)
+job_known entries shape job is l = let e = ap (λ (s : Shape). length s.parents) is in let m = length-map (directories_in entries) (home_of entries) in omega (arith, e, m, l)
+
+-- ---- what passes stand for
+
+pub stands_same : (a b : Hands) → queue_view b.queue ≡ queue_view a.queue → claim_view b.claims ≡ claim_view a.claims → StandFor a 0 b
+stands_same a b q k = record {
+  queue_more = ap (λ (v : QueueView). v.stands_for) q ∙ omega arith;
+  claims_more = ap (λ (v : ClaimView). v.stands_for) k ∙ omega arith;
+}
+
+pub stands_on : (a b c : Hands) (m n k : ℕ) → StandFor a m b → StandFor b n c → m + n ≡ k → StandFor a k c
+stands_on a b c m n k x y s = record {
+  queue_more = (let p = x.queue_more in let q = y.queue_more in omega (arith, p, q, s));
+  claims_more = (let p = x.claims_more in let q = y.claims_more in omega (arith, p, q, s));
+}
+
+-- ---- a job may be given
+
+pub offer_right : (w : Walk) (up : ByPath w.entries) (q : QueueView) (shape : Shape) (e : ℕ) → q.parents ≡ shape.parents → shape ≡ jobs.shape_of w.entries → e < count w
+    → is_to_be_given w e ≡ true → 0 < times (home_of w.entries e) q.taken → times (job_of w.entries e) q.given ≡ 0 → MayOffer q (job_of w.entries e)
+offer_right w up q shape e parents is l give home new =
+    let same : q.parents ≡ map (home_of w.entries) (directories_in w.entries) = parents ∙ ap (λ (s : Shape). s.parents) is in
+    let dir : is_directory w.entries e ≡ true = first_so (is_directory w.entries e) (not (skippable w e)) give in
+    record {
+      positive = omega arith;
+      within = subst (λ ps. job_of w.entries e ≤ length ps) (sym same) (job_within w up e l dir);
+      parent = subst (λ ps. 0 < times (parent_in ps (job_of w.entries e)) q.taken) (sym same) (subst (λ j. 0 < times j q.taken) (sym (parent_home w up e l dir)) home);
+      new = new;
+    }

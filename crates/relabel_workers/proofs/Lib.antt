@@ -1,0 +1,9 @@
+pub mod AloneLemmas
+pub mod OpenLemmas
+pub mod ListLemmas
+pub mod WorkedLemmas
+pub mod EndLemmas
+pub mod HandsLemmas
+pub mod SkipLemmas
+pub mod PutLemmas
+pub mod Sending

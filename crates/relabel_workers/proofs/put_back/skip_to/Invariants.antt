@@ -1,0 +1,9 @@
+use Rattle.std.proofs.Common.{◌≡◌}
+use Rattle.relabel_workers.specs.PutBack.{AreSkippedTo}
+use Rattle.relabel_workers.proofs.put_back.skip_to.Given as goal
+
+abbrev pub invariant-below : goal.invariant-below
+invariant-below l = record {
+  skips : AreSkippedTo l.fn.passed.skips.items l.d l.e l.passed.skips.items;
+  made : l.passed.made ≡ l.fn.passed.made;
+}

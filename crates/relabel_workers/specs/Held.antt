@@ -1,0 +1,55 @@
+-- What workers hold, and what belongs together.
+use Rattle.std.specs.Prelude.{◌≡◌, ℕ, ◌+◌, List, length, All}
+use Rattle.inode_claims.specs.declared.claims.ClaimPass.{ClaimPass}
+use Rattle.inode_claims.specs.declared.claims.Claims.{Claims}
+use Rattle.inode_claims.specs.Claiming as claiming
+use Rattle.inode_claims.specs.Answers as claims
+use Rattle.inode_claims.specs.Answers.{IsPassOf, claim_view, groups_of}
+use Rattle.dir_queue.specs.declared.queue.DirQueue.{DirQueue}
+use Rattle.dir_queue.specs.declared.queue.QueuePass.{QueuePass}
+use Rattle.dir_queue.specs.Passes.{fresh}
+use Rattle.dir_queue.specs.Answers.{IsQueuePassOf, queue_view, shape_of, passes_of}
+use Rattle.tree_model.specs.Groups.{groups_in}
+use Rattle.tree_model.specs.Jobs as jobs
+use Rattle.relabel_core.specs.Walk.{Walk}
+use Rattle.relabel_core.specs.Walked.{IsFit, walk_of}
+use Rattle.relabel_core.specs.declared.input.WalkInput.{WalkInput}
+use Rattle.relabel_workers.specs.Worked.{IsDone}
+use Rattle.relabel_workers.specs.declared.hands.Hands.{Hands}
+
+-- the queue and the claims are those of the tree that is walked
+pub record IsSite (input : WalkInput) (queue : DirQueue) (claims : Claims) : Type 0 where
+  pub fit : IsFit input
+  pub shape : shape_of queue ≡ jobs.shape_of input.tree.now
+  pub groups : groups_of claims ≡ groups_in input.tree.now
+
+-- both passes are of these
+pub record AreHandsOf (queue : DirQueue) (claims : Claims) (hands : Hands) : Type 0 where
+  pub queue_pass : IsQueuePassOf queue hands.queue
+  pub claim_pass : IsPassOf claims hands.claims
+
+-- all is done for the entries of the taken jobs but for those that are left
+abbrev pub AreDone : Walk → List ℕ → Hands → Type 0
+AreDone w left hands =
+    IsDone w left (queue_view hands.queue).taken (queue_view hands.queue).given
+    (claim_view hands.claims).calls hands.notes
+
+-- for how many passes the one stands, and the other
+abbrev pub queue_stands : Hands → ℕ
+queue_stands hands = (queue_view hands.queue).stands_for
+
+abbrev pub claims_stand : Hands → ℕ
+claims_stand hands = (claim_view hands.claims).stands_for
+
+-- both stand for so many more
+pub record StandFor (old : Hands) (more : ℕ) (new : Hands) : Type 0 where
+  pub queue_more : queue_stands new ≡ queue_stands old + more
+  pub claims_more : claims_stand new ≡ claims_stand old + more
+
+-- two rows of as many passes that nothing was done with
+pub record AreRows (queue : DirQueue) (claims : Claims) (queue_passes : List QueuePass)
+    (claim_passes : List ClaimPass) : Type 0 where
+  pub paired : length queue_passes ≡ length claim_passes
+  pub queues : All (λ p. IsQueuePassOf queue p
+      × (queue_view p ≡ fresh (shape_of queue).parents (passes_of queue) 1)) queue_passes
+  pub claimers : All (λ p. IsPassOf claims p × (claim_view p ≡ claiming.fresh 1)) claim_passes

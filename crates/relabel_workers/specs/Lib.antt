@@ -1,0 +1,4 @@
+pub mod Alone
+pub mod Worked
+pub mod Held
+pub mod PutBack

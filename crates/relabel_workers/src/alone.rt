@@ -1,0 +1,101 @@
+ghost use Rattle.std.specs.Prelude.{◌≡◌, [], OnOk};
+ghost use Rattle.dir_queue.specs.Answers.{one_worker, passes_of, queue_view, shape_of};
+ghost use Rattle.spec_match.specs.Scratches.{IsScratchOf};
+ghost use Rattle.walk_steps.specs.Sound.{Sound};
+ghost use Rattle.relabel_core.specs.Walked.{walk_of};
+ghost use Rattle.relabel_workers.specs.Alone.{AreListingsFor};
+ghost use Rattle.relabel_workers.specs.Held.{AreDone, AreHandsOf, IsSite, StandFor, queue_stands};
+
+use crate::gate::Gate;
+use crate::hands::Hands;
+use crate::work::step;
+use dir_digest::Listings;
+use dir_queue::DirQueue;
+use inode_claims::Claims;
+use label_base::OutOfMemory;
+use relabel_core::{Buffers, WalkInput};
+use std::alloc::Global;
+use std::sync::Wait;
+
+// The number that the caller has as a worker.
+const CALLER: u32 = 0;
+
+/// Takes jobs by the caller alone, until as many wait as there are workers, or none. It answers how many wait.
+pub fn start_alone<R: Wait, G: Gate>(
+    rt: &R,
+    alloc: Global,
+    input: &WalkInput<'_>,
+    queue: &DirQueue,
+    claims: &Claims,
+    gate: &G,
+    workers: u32,
+    listings: &Option<Listings<'_>>,
+    buffers: &mut Buffers,
+    hands: &mut Hands,
+) -> Result<u32, OutOfMemory>
+    requires site { IsSite input.now queue.now claims.now }
+    requires listings { AreListingsFor input.now listings.now }
+    requires own { IsScratchOf input.now.rules.now.rules buffers.old.scratch }
+    requires hands { AreHandsOf queue.now claims.now hands.old }
+    requires done { AreDone (walk_of input.now) [] hands.old }
+    ensures own { IsScratchOf input.now.rules.now.rules buffers.new.scratch }
+    ensures hands { OnOk result (AreHandsOf queue.now claims.now hands.new) }
+    ensures done { OnOk result (AreDone (walk_of input.now) [] hands.new) }
+    ensures stands { OnOk result (StandFor hands.old 0 hands.new) }
+{
+    // Job 0.
+    let mut waiting = 1u32;
+    'steps: for _ in rt.forever() {
+        if waiting == 0 || waiting >= workers {
+            return Ok(waiting);
+        }
+        let found = step(
+            rt, alloc, input, queue, claims, gate, CALLER, listings, buffers, hands,
+        )?;
+        waiting = waiting_behind(waiting, found);
+    }
+    unreachable!()
+}
+
+// How many jobs wait after one was taken, and so many were given.
+fn waiting_behind(waiting: u32, found: Option<u32>) -> u32 {
+    match found {
+        Some(given) => waiting.saturating_sub(1).saturating_add(given),
+        None => 0,
+    }
+}
+
+/// Takes what jobs are left, by the caller alone, into whose passes all others were joined.
+pub fn drain<R: Wait, G: Gate>(
+    rt: &R,
+    alloc: Global,
+    input: &WalkInput<'_>,
+    queue: &DirQueue,
+    claims: &Claims,
+    gate: &G,
+    listings: &Option<Listings<'_>>,
+    buffers: &mut Buffers,
+    hands: &mut Hands,
+) -> Result<(), OutOfMemory>
+    requires site { IsSite input.now queue.now claims.now }
+    requires listings { AreListingsFor input.now listings.now }
+    requires own { IsScratchOf input.now.rules.now.rules buffers.old.scratch }
+    requires hands { AreHandsOf queue.now claims.now hands.old }
+    requires done { AreDone (walk_of input.now) [] hands.old }
+    requires whole { queue_stands hands.old ≡ passes_of queue.now }
+    ensures hands { OnOk result (AreHandsOf queue.now claims.now hands.new) }
+    ensures done { OnOk result (AreDone (walk_of input.now) [] hands.new) }
+    ensures stands { OnOk result (StandFor hands.old 0 hands.new) }
+    ensures sound { OnOk result
+        (Sound (shape_of queue.now) (one_worker (queue_view hands.new.queue))) }
+{
+    'steps: for _ in rt.forever() {
+        let found = step(
+            rt, alloc, input, queue, claims, gate, CALLER, listings, buffers, hands,
+        )?;
+        if found.is_none() {
+            return Ok(());
+        }
+    }
+    unreachable!()
+}

@@ -1,0 +1,22 @@
+//! The walk over a tree by several workers. They share a queue of directories and one word for each inode, and find what the
+//! walk of one worker finds, whatever each of them does when.
+#![tactic(auto)]
+
+mod alone;
+mod crew;
+mod gate;
+mod gathering;
+mod hands;
+mod job;
+mod note;
+mod notes;
+mod put_back;
+#[cfg(test)]
+mod test_worlds;
+#[cfg(test)]
+mod tests;
+mod walk;
+mod work;
+
+pub use gate::{Gate, OpenGate};
+pub use walk::walk_threads;

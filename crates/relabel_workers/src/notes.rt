@@ -1,0 +1,72 @@
+ghost use Rattle.std.specs.Prelude.{◌≡◌, ◌++◌, ◌∷◌, [], IfOk, OnOk};
+ghost use Rattle.std.specs.List.{flat_map};
+
+use crate::note::Note;
+use label_base::OutOfMemory;
+use std::alloc::Global;
+use std::marker::Model;
+
+/// What was found of entries, in the order in which it was noted. Contracts see the list of the notes.
+#[derive(Drop)]
+pub struct Notes {
+    // Behind one another; the last one follows them.
+    pub(crate) full: Vec<Vec<Note>>,
+    pub(crate) last: Vec<Note>,
+}
+
+impl Model for Notes {
+    ghost use Rattle.std.specs.Prelude.{List, ◌++◌};
+    ghost use Rattle.std.specs.List.{flat_map};
+    ghost use Rattle.relabel_workers.specs.declared.note.Note.{Note};
+
+    ghost Value = { List Note };
+
+    ghost view = { λ n. flat_map (λ row. row.items) n.full.items ++ n.last.items };
+}
+
+// The rows behind others.
+fn add_rows(rows: &mut Vec<Vec<Note>>, more: Vec<Vec<Note>>) -> Result<(), OutOfMemory>
+    ensures { OnOk result (rows.new.items ≡ rows.old.items ++ more.items) }
+{
+    'rows: for row in more {
+        rows.push(row)?;
+    }
+    Ok(())
+}
+
+impl Notes {
+    /// Nothing is noted yet.
+    pub fn new(alloc: Global) -> Notes
+        ensures { result ≡ [] }
+    {
+        Notes {
+            full: Vec::new(alloc),
+            last: Vec::new(alloc),
+        }
+    }
+
+    /// One note more.
+    pub fn push(&mut self, note: Note) -> Result<(), OutOfMemory>
+        ensures { OnOk result (self.new ≡ self.old ++ note ∷ []) }
+    {
+        self.last.push(note)?;
+        Ok(())
+    }
+
+    /// The notes of the one, and behind them those of the other. No note is copied.
+    pub fn with(self, more: Notes) -> Result<Notes, OutOfMemory>
+        ensures { IfOk result (λ notes. notes ≡ self ++ more) }
+    {
+        let Notes { mut full, last } = self;
+        let Notes {
+            full: more_full,
+            last: more_last,
+        } = more;
+        full.push(last)?;
+        add_rows(&mut full, more_full)?;
+        Ok(Notes {
+            full,
+            last: more_last,
+        })
+    }
+}

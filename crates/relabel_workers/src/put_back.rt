@@ -1,0 +1,193 @@
+ghost use Rattle.std.specs.Prelude.{◌≡◌, ℕ, ◌+◌, ◌<◌, ◌^◌, ◌++◌, ◌∷◌, [], true, false, All, List, IfOk, IfSome, OnOk, length};
+ghost use Rattle.std.specs.List.{flat_map};
+ghost use Rattle.inode_claims.specs.Answers.{group_count, winner_of};
+ghost use Rattle.tree_model.specs.Extents.{extent_of};
+ghost use Rattle.tree_model.specs.Groups.{groups_in};
+ghost use Rattle.relabel_core.specs.Answer.{walk_in};
+ghost use Rattle.relabel_core.specs.Numbers.{IsPut, found_in};
+ghost use Rattle.relabel_core.specs.Passed.{ArePassed, renewal};
+ghost use Rattle.relabel_core.specs.Walk.{count, skippable, winner};
+ghost use Rattle.relabel_core.specs.Walked.{AreFound, IsFit, walk_of};
+ghost use Rattle.relabel_workers.specs.Alone.{IsNoted};
+ghost use Rattle.relabel_workers.specs.PutBack.{AreAllNoted, ArePut, AreSkippedTo, AreWinners, IsOpenNote, KeepsFirst};
+ghost use Rattle.relabel_workers.specs.declared.note.Note.{Note};
+
+use crate::note::Note;
+use crate::notes::Notes;
+use dir_digest::Digest;
+use inode_claims::Winners;
+use label_base::OutOfMemory;
+use relabel_core::{Noted, Passed, Skip, WalkInput, Walked, renewed_digest};
+use std::alloc::Global;
+
+// Notes of a directory that it is skipped, and of all below it before a place.
+#[tactic(auto, using(crate::proofs::SkipLemmas::first_skipped, crate::proofs::SkipLemmas::more_skipped))]
+fn skip_to(passed: &mut Passed, d: u32, end: u32)
+    requires { d < end }
+    ensures skips { AreSkippedTo passed.old.skips.items d end passed.new.skips.items }
+    ensures made { passed.new.made ≡ passed.old.made }
+{
+    passed.put_skip(d, Skip::First);
+    'below: for e in d + 1..end {
+        passed.put_skip(e, Skip::Below);
+    }
+}
+
+// Keeps the digest that a directory gets anew, if it gets one.
+#[tactic(auto, using(crate::proofs::SkipLemmas::kept_none, crate::proofs::SkipLemmas::kept_before, crate::proofs::SkipLemmas::kept_first))]
+fn keep_renewed(passed: &mut Passed, d: u32, renewed: Option<Digest>) -> Result<(), OutOfMemory>
+    ensures made { OnOk result (KeepsFirst passed.old.made passed.new.made d renewed) }
+    ensures skips { passed.new.skips.items ≡ passed.old.skips.items }
+{
+    let Some(digest) = renewed else {
+        return Ok(());
+    };
+    if passed.renewed(d).is_some() {
+        return Ok(());
+    }
+    passed.put_renewed(d, digest)
+}
+
+// Puts a directory back that is skipped by itself.
+fn put_skipped(input: &WalkInput<'_>, d: u32, passed: &mut Passed)
+    requires entry { d < count (walk_of input.now) }
+    ensures skips { AreSkippedTo passed.old.skips.items d (extent_of input.now.tree.now d)
+        passed.new.skips.items }
+    ensures made { passed.new.made ≡ passed.old.made }
+{
+    let end = input.tree.extent(d);
+    skip_to(passed, d, end);
+}
+
+// Puts back the digest that an entry gets anew.
+#[tactic(auto, using(crate::proofs::SkipLemmas::skipped_alone))]
+fn put_digest(input: &WalkInput<'_>, note: &Note, passed: &mut Passed) -> Result<(), OutOfMemory>
+    requires fit { IsFit input.now }
+    requires note { IsOpenNote (walk_of input.now) note.now }
+    ensures made { OnOk result (KeepsFirst passed.old.made passed.new.made note.now.entry
+        (renewal (walk_of input.now) note.now.entry)) }
+    ensures skips { passed.new.skips.items ≡ passed.old.skips.items }
+{
+    input.tree.rises();
+    let finding = &note.finding;
+    let renewed = renewed_digest(input, note.entry, finding.digest, finding.skippable);
+    keep_renewed(passed, note.entry, renewed)
+}
+
+// Puts back what is noted of one entry.
+fn put_note(
+    input: &WalkInput<'_>,
+    note: &Note,
+    noted: &mut Noted,
+    passed: &mut Passed,
+) -> Result<(), OutOfMemory>
+    requires fit { IsFit input.now }
+    requires note { IsOpenNote (walk_of input.now) note.now }
+    ensures put { (done : List Note) → ArePut (walk_of input.now) done noted.old passed.old
+        → OnOk result (ArePut (walk_of input.now) (done ++ note.now ∷ []) noted.new passed.new) }
+{
+    input.tree.rises();
+    let _ = input.rules.rules.len();
+    noted.put_decided(note.entry, note.decided);
+    if note.finding.skippable {
+        put_skipped(input, note.entry, passed);
+        return Ok(());
+    }
+    put_digest(input, note, passed)
+}
+
+fn put_row(
+    input: &WalkInput<'_>,
+    notes: &[Note],
+    noted: &mut Noted,
+    passed: &mut Passed,
+) -> Result<(), OutOfMemory>
+    requires fit { IsFit input.now }
+    requires notes { All (IsOpenNote (walk_of input.now)) notes.now }
+    ensures put { (done : List Note) → ArePut (walk_of input.now) done noted.old passed.old
+        → OnOk result (ArePut (walk_of input.now) (done ++ notes.now) noted.new passed.new) }
+{
+    'notes: for note in notes {
+        put_note(input, note, noted, passed)?;
+    }
+    Ok(())
+}
+
+fn put_rows(
+    input: &WalkInput<'_>,
+    rows: &[Vec<Note>],
+    noted: &mut Noted,
+    passed: &mut Passed,
+) -> Result<(), OutOfMemory>
+    requires fit { IsFit input.now }
+    requires notes { All (IsOpenNote (walk_of input.now)) (flat_map (λ row. row.items) rows.now) }
+    ensures put { (done : List Note) → ArePut (walk_of input.now) done noted.old passed.old
+        → OnOk result (ArePut (walk_of input.now) (done ++ flat_map (λ row. row.items) rows.now)
+        noted.new passed.new) }
+{
+    'rows: for row in rows {
+        put_row(input, row.as_slice(), noted, passed)?;
+    }
+    Ok(())
+}
+
+// Puts back all that is noted.
+fn put_notes(
+    input: &WalkInput<'_>,
+    notes: &Notes,
+    noted: &mut Noted,
+    passed: &mut Passed,
+) -> Result<(), OutOfMemory>
+    requires fit { IsFit input.now }
+    requires notes { All (IsOpenNote (walk_of input.now)) notes.now }
+    ensures put { (done : List Note) → ArePut (walk_of input.now) done noted.old passed.old
+        → OnOk result (ArePut (walk_of input.now) (done ++ notes.now) noted.new passed.new) }
+{
+    put_rows(input, notes.full.as_slice(), noted, passed)?;
+    put_row(input, notes.last.as_slice(), noted, passed)
+}
+
+// The winner of a group, whose position is few.
+fn winner_in(winners: &Winners, g: u32) -> Option<u32>
+    requires group { g < group_count winners.now }
+    requires few { IfSome (winner_of winners.now g) (λ k. k < 2 ^ 32) }
+    ensures { result ≡ winner_of winners.now g }
+{
+    match winners.get(g) {
+        Some(position) => Some(position as u32),
+        None => None,
+    }
+}
+
+// Puts back the winners.
+fn put_winners(input: &WalkInput<'_>, winners: &Winners, noted: &mut Noted)
+    requires fit { IsFit input.now }
+    requires winners { AreWinners (walk_of input.now) winners.now }
+    requires room { length noted.old.winners.items ≡ groups_in input.now.tree.now }
+    ensures winners { (g : ℕ) → g < groups_in input.now.tree.now
+        → found_in noted.new.winners.items g ≡ winner (walk_of input.now) g }
+    ensures decided { noted.new.decided.items ≡ noted.old.decided.items }
+{
+    'groups: for g in 0..input.tree.groups() {
+        noted.put_winner(g, winner_in(winners, g));
+    }
+}
+
+/// What a walk answers of which workers noted this, and claimed these winners.
+pub fn walk_of_notes<'a>(
+    alloc: Global,
+    input: &WalkInput<'a>,
+    winners: &Winners,
+    notes: &Notes,
+) -> Result<Walked<'a>, OutOfMemory>
+    requires fit { IsFit input.now }
+    requires winners { AreWinners (walk_of input.now) winners.now }
+    requires notes { AreAllNoted (walk_of input.now) notes.now }
+    ensures { IfOk result (λ walked. walk_in walked ≡ walk_of input.now) }
+{
+    let mut noted = Noted::none(alloc, input)?;
+    let mut passed = Passed::with_room(alloc, input.tree.len())?;
+    put_notes(input, notes, &mut noted, &mut passed)?;
+    put_winners(input, winners, &mut noted);
+    Ok(Walked::of_noted(input, passed, noted))
+}

@@ -1,0 +1,116 @@
+ghost use Rattle.std.specs.Prelude.{◌≡◌, ◌<◌, ◌≤◌, [], IfOk};
+ghost use Rattle.inode_claims.specs.Answers.{IsPassOf, groups_of, passes_of as claim_passes_of};
+ghost use Rattle.dir_queue.specs.Answers.{one_worker, queue_view};
+ghost use Rattle.walk_steps.specs.Shaped.{IsValid};
+ghost use Rattle.walk_steps.specs.Sound.{Sound};
+ghost use Rattle.tree_model.specs.Groups.{groups_in};
+ghost use Rattle.tree_model.specs.Jobs.{shape_of};
+ghost use Rattle.relabel_core.specs.Answer.{walk_in};
+ghost use Rattle.relabel_core.specs.Walk.{count_wanted};
+ghost use Rattle.relabel_core.specs.Walked.{IsFit, walk_of};
+ghost use Rattle.relabel_workers.specs.Held.{AreDone, claims_stand};
+ghost use Rattle.relabel_workers.specs.PutBack.{AreAllNoted, AreWinners};
+
+use crate::gate::Gate;
+use crate::gathering::gather;
+use crate::hands::Hands;
+use crate::notes::Notes;
+use crate::put_back::walk_of_notes;
+use dir_queue::DirQueue;
+use inode_claims::{Claims, Winners};
+use label_base::OutOfMemory;
+use relabel_core::{WalkInput, Walked};
+use std::alloc::Global;
+use std::sync::Wait;
+use std::thread::Threads;
+use walk_steps::{Shape, ends_are_one};
+
+// What workers did, at their end.
+#[derive(Drop)]
+struct Settled {
+    winners: Winners,
+    notes: Notes,
+}
+
+// Closes the claims of workers that left no job.
+fn settle(input: &WalkInput<'_>, shape: &Shape, claims: Claims, hands: Hands) -> Settled
+    requires fit { IsFit input.now }
+    requires shape { (shape.now ≡ shape_of input.now.tree.now) × IsValid shape.now }
+    requires groups { groups_of claims ≡ groups_in input.now.tree.now }
+    requires pass { IsPassOf claims hands.claims }
+    requires all { claims_stand hands ≡ claim_passes_of claims }
+    requires done { AreDone (walk_of input.now) [] hands }
+    requires sound { Sound shape.now (one_worker (queue_view hands.queue)) }
+    ensures notes { AreAllNoted (walk_of input.now) result.notes }
+    ensures winners { AreWinners (walk_of input.now) result.winners }
+    ensures claims { count_wanted (walk_of input.now) ≤ result.winners.claims }
+{
+    ends_are_one(shape);
+    input.tree.rises();
+    let Hands {
+        queue: _queue,
+        claims: pass,
+        notes,
+    } = hands;
+    let winners = claims.close(pass);
+    Settled { winners, notes }
+}
+
+// Lets workers walk over a tree of this shape.
+fn settle_all<R: Threads + Wait + Sync, G: Gate + Sync>(
+    rt: &R,
+    alloc: Global,
+    input: &WalkInput<'_>,
+    shape: &Shape,
+    workers: u32,
+    gate: &G,
+) -> Result<Settled, OutOfMemory>
+    requires fit { IsFit input.now }
+    requires shape { (shape.now ≡ shape_of input.now.tree.now) × IsValid shape.now }
+    requires some { 0 < workers }
+    ensures notes { IfOk result (λ settled. AreAllNoted (walk_of input.now) settled.notes) }
+    ensures winners { IfOk result (λ settled. AreWinners (walk_of input.now) settled.winners) }
+    ensures claims { IfOk result (λ settled.
+        count_wanted (walk_of input.now) ≤ settled.winners.claims) }
+{
+    let (queue, queue_passes) = DirQueue::new(rt, alloc, shape, workers)?;
+    let (claims, claim_passes) = Claims::new(alloc, input.tree.groups(), workers)?;
+    let hands = gather(
+        rt,
+        alloc,
+        input,
+        &queue,
+        &claims,
+        gate,
+        workers,
+        queue_passes,
+        claim_passes,
+    )?;
+    Ok(settle(input, shape, claims, hands))
+}
+
+/// Walks over a tree by so many workers, and finds what the walk of one worker finds, whatever each of them does when. It
+/// answers the winners that were claimed beside it: the first name of each inode for which a context is decided. The gate is
+/// told of each job that a worker takes, and of each claim.
+///
+/// It fails for want of memory alone, and a worker's counts as its own. Where no thread can be started, one worker after the
+/// other does its work.
+pub fn walk_threads<'a, R: Threads + Wait + Sync, G: Gate + Sync>(
+    rt: &R,
+    alloc: Global,
+    input: &WalkInput<'a>,
+    workers: u32,
+    gate: &G,
+) -> Result<(Walked<'a>, Winners), OutOfMemory>
+    requires fit { IsFit input.now }
+    requires workers { (0 < workers) × (workers ≤ 64) }
+    ensures walk { IfOk result (λ found. walk_in found.0 ≡ walk_of input.now) }
+    ensures winners { IfOk result (λ found. AreWinners (walk_of input.now) found.1) }
+    ensures claims { IfOk result (λ found. count_wanted (walk_of input.now) ≤ found.1.claims) }
+{
+    let shape = input.tree.shape(alloc)?;
+    let settled = settle_all(rt, alloc, input, &shape, workers, gate)?;
+    let walked = walk_of_notes(alloc, input, &settled.winners, &settled.notes)?;
+    let Settled { winners, notes: _ } = settled;
+    Ok((walked, winners))
+}
