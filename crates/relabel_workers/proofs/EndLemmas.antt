@@ -17,9 +17,12 @@ use Rattle.walk_steps.specs.declared.machine.WalkState.{WalkState}
 use Rattle.walk_steps.specs.declared.shape.Shape.{Shape}
 use Rattle.walk_steps.proofs.ListLemmas.{hit_other, hit_same}
 use Rattle.inode_claims.specs.declared.rule.Call.{Call}
+use Rattle.inode_claims.specs.declared.rule.ClaimView.{ClaimView}
 use Rattle.inode_claims.specs.declared.winners.Winners.{Winners}
 use Rattle.inode_claims.specs.Answers.{TellsAll, Wins, winner_of, word_at}
 use Rattle.inode_claims.specs.Claiming.{IsClaimed, least_claimed}
+use Rattle.dir_queue.specs.declared.rule.QueueView.{QueueView}
+use Rattle.dir_queue.specs.Answers.{one_worker}
 use Rattle.label_base.specs.Bounded.{all_numbers, least_below}
 use Rattle.label_base.proofs.BoundedLemmas.{count_numbers, least_is, least_none}
 use Rattle.tree_model.specs.Extents.{is_directory, parent_of}
@@ -300,3 +303,34 @@ module _ (w : Walk) (up : ByPath w.entries) where
               let took = (end.taken (home_of w.entries e)).1 (home_within e l, lies) in
               let n = entries_are in
               has_entries e (omega (arith, l, n)) h (subst (λ j. 0 < times j taken + 0) (sym (home_is e l)) took)
+
+-- ---- what workers settled
+
+-- the law of ends, for one shape
+abbrev pub HaveOneEnd : Shape → Type 0
+HaveOneEnd shape =
+    (open_job wanted : ℕ → Bool) (claimed : List ℕ) (state : WalkState) → Leads shape open_job wanted → Sound shape state → WordsAreLeast shape claimed state.words
+    → HasEnded shape open_job wanted claimed state → IsTheEnd shape open_job wanted state
+
+pub record IsSettled (w : Walk) (notes : List Note) (winners : Winners) : Type 0 where
+  pub noted : AreAllNoted w notes
+  pub won : AreWinners w winners
+  pub enough : count_wanted w ≤ winners.claims
+
+pub settled : (w : Walk) (up : ByPath w.entries) → count w < 2 ^ 32 → (shape : Shape) → shape ≡ shape_of w.entries → HaveOneEnd shape
+    → (q : QueueView) (k : ClaimView) (notes : List Note) (winners : Winners) → IsDone w [] q.taken q.given k.calls notes → Sound shape (one_worker q)
+    → (groups : ℕ) → groups ≡ groups_in w.entries → Wins groups k.calls winners → TellsAll groups k.calls winners → winners.claims ≡ min (length k.calls) NONE_WORD
+    → IsSettled w notes winners
+settled w up few shape is one q k notes winners done sound groups same wins all claims =
+    let law : HaveOneEnd (shape_of w.entries) = subst HaveOneEnd is one in
+    let s : Sound (shape_of w.entries) (one_worker q) = subst (λ x. Sound x (one_worker q)) is sound in
+    let v : Wins (groups_in w.entries) k.calls winners = subst (λ n. Wins n k.calls winners) same wins in
+    let a : TellsAll (groups_in w.entries) k.calls winners = subst (λ n. TellsAll n k.calls winners) same all in
+    let end = law (is_open w) (is_wanted w) (positions k.calls) (record { queue = []; taken = q.taken ∷ []; given = q.given ∷ []; words = winners.words.items }) (leads w up)
+    (state_sound w up q.taken q.given k.calls notes winners done s v a) (words_least w up q.taken q.given k.calls notes winners done s v a)
+    (ended w up q.taken q.given k.calls notes winners done s v a) in
+    record {
+      noted = all_noted w up q.taken q.given k.calls notes winners done s v a end few;
+      won = are_winners w up q.taken q.given k.calls notes winners done s v a end few;
+      enough = enough_calls w up q.taken q.given k.calls notes winners done s v a end few winners.claims claims;
+    }

@@ -1,15 +1,22 @@
 -- A note more, a row more, and a winner more that is put back.
-use Rattle.std.proofs.Common.{◌≡◌, ◌≢◌, ◌∙◌, sym, refl, ap, subst, ℕ, ◌+◌, ◌<◌, ◌≤◌, ◌^◌, Bool, true, false, List, [], ◌∷◌, ◌++◌, length, take, get_or, Option, Some, None, IfSome, inl, inr, append_assoc, arith}
+use Rattle.std.proofs.Common.{◌≡◌, ◌≢◌, ◌∙◌, sym, refl, ap, subst, ℕ, ◌+◌, ◌<◌, ◌≤◌, ◌^◌, Bool, true, false, List, [], ◌∷◌, ◌++◌, length, take, get_or, replicate, Option, Some, None, IfSome, inl, inr, append_assoc, arith, length-append}
+use Rattle.std.specs.Prelude.{All}
+use Rattle.std.specs.List.{flat_map}
 use Rattle.std.proofs.lemmas.Bool.{cases_eq}
-use Rattle.std.proofs.lemmas.List.{take_all, take_more}
+use Rattle.std.proofs.lemmas.List.{flat_map_more, get_or-append-add, get_or-replicate, get_or_append_left, length-replicate, take_all, take_more}
+use Rattle.std.proofs.lemmas.List.Concat.{get_or-flat_map}
+use Rattle.std.proofs.lemmas.List.Folds.{length-flat_map-take}
 use Rattle.tree_model.specs.Extents.{extent_of}
 use Rattle.tree_model.specs.Groups.{groups_in}
 use Rattle.tree_model.specs.Tree.{ByPath}
 use Rattle.relabel_core.specs.Numbers.{IsPut, found_in}
 use Rattle.relabel_core.specs.Passed.{renewal}
+use Rattle.relabel_core.specs.Stored.{digests_in}
 use Rattle.relabel_core.specs.Walk.{Walk, count, skippable, winner}
 use Rattle.relabel_core.specs.declared.noting.Noted.{Noted}
+use Rattle.relabel_core.specs.Walked.{HasRoom}
 use Rattle.relabel_core.specs.declared.passed.Passed.{Passed}
+use Rattle.relabel_core.specs.declared.passed.Skip.TheVariants.{Not}
 use Rattle.relabel_core.proofs.NotedLemmas.{winner_within}
 use Rattle.relabel_workers.specs.PutBack.{AreDigestsPut, ArePut, AreSkippedTo, AreSkipsPut, IsOpenNote, KeepsFirst}
 use Rattle.relabel_workers.specs.declared.note.Note.{Note}
@@ -44,6 +51,31 @@ module _ (w : Walk) (up : ByPath w.entries) (done : List Note) (note : Note) (no
         winners_room = room;
       }
 
+pub few_more : (found : Option ℕ) (n : ℕ) → IfSome found (λ i. i < n) → n < 2 ^ 32 → IfSome found (λ i. i + 1 < 2 ^ 32)
+few_more None n h l = tt
+few_more (Some i) n h l = omega (arith, h, l)
+
+-- ---- nothing is put back yet
+
+pub none_put : (w : Walk) (noted : Noted) (passed : Passed) → HasRoom w noted.decided.items noted.winners.items → ((e : ℕ) → e < count w → found_in noted.decided.items e ≡ None)
+    → passed.skips.items ≡ replicate (count w) Not → ((e : ℕ) → digests_in passed.made e ≡ None) → ArePut w [] noted passed
+none_put w noted passed room none skips made = record {
+  decided = record { room = room.each_entry; right = λ e l. inl (none e l); told = λ e l h. absurd (omega (arith, h)) };
+  skips = record {
+    room = ap length skips ∙ length-replicate (count w) Not;
+    right = λ e l. inl (ap (λ s. get_or s e Not) skips ∙ get_or-replicate (count w) e Not Not l);
+    told = λ d e l h s m i. absurd (omega (arith, h));
+  };
+  digests = record { right = λ e l. inl (made e); told = λ e l h. absurd (omega (arith, h)) };
+  winners_room = room.each_group;
+}
+
+pub all_put : (w : Walk) (notes : List Note) (noted next : Noted) (passed after : Passed) (n : ℕ) → HasRoom w noted.decided.items noted.winners.items
+    → ((e : ℕ) → e < count w → found_in noted.decided.items e ≡ None) → passed.skips.items ≡ replicate n Not → n ≡ count w → ((e : ℕ) → digests_in passed.made e ≡ None)
+    → ((done : List Note) → ArePut w done noted passed → ArePut w (done ++ notes) next after) → ArePut w notes next after
+all_put w notes noted next passed after n room none skips same made put =
+    put [] (none_put w noted passed room none (skips ∙ ap (λ k. replicate k Not) same) made)
+
 -- ---- rows
 
 pub take_one : (done xs : List Note) (i : ℕ) (x : Note) → i < length xs → x ≡ get_or xs i x → (done ++ take i xs) ++ x ∷ [] ≡ done ++ take (i + 1) xs
@@ -52,6 +84,27 @@ take_one done xs i x l is =
 
 pub take_whole : (done xs : List Note) (i : ℕ) → length xs ≤ i → done ++ take i xs ≡ done ++ xs
 take_whole done xs i l = ap (λ ys. done ++ ys) (take_all i xs l)
+
+pub row_notes : {X A : Type 0} (P : A → Type 0) (f : X → List A) (xs : List X) (i : ℕ) (x : X) → i < length xs → x ≡ get_or xs i x → All P (flat_map f xs) → All P (f x)
+row_notes P f xs i x m is all = λ k d l.
+    let inside : k < length (f (get_or xs i x)) = subst (λ y. k < length (f y)) is l in
+    let room = length-flat_map-take f xs i x m in
+    subst P (get_or-flat_map f xs i k x d m inside ∙ ap (λ y. get_or (f y) k d) (sym is))
+    (all (length (flat_map f (take i xs)) + k) d (omega (arith, room, inside)))
+
+pub front_notes : {A : Type 0} (P : A → Type 0) (xs ys : List A) → All P (xs ++ ys) → All P xs
+front_notes P xs ys all = λ k d l. subst P (get_or_append_left xs ys d k l) (all k d (let n = length-append xs ys in omega (arith, l, n)))
+
+pub last_notes : {A : Type 0} (P : A → Type 0) (xs ys : List A) → All P (xs ++ ys) → All P ys
+last_notes P xs ys all = λ k d l. subst P (get_or-append-add xs ys k d) (all (length xs + k) d (let n = length-append xs ys in omega (arith, l, n)))
+
+pub take_row : {X A : Type 0} (f : X → List A) (done : List A) (xs : List X) (i : ℕ) (x : X) → i < length xs → x ≡ get_or xs i x
+    → (done ++ flat_map f (take i xs)) ++ f x ≡ done ++ flat_map f (take (i + 1) xs)
+take_row f done xs i x l is =
+    flat_map_more f done (take i xs) x ∙ ap (λ ys. done ++ flat_map f ys) (ap (λ y. take i xs ++ y ∷ []) is ∙ sym (take_more xs i x l))
+
+pub take_rows : {X A : Type 0} (f : X → List A) (done : List A) (xs : List X) (i : ℕ) → length xs ≤ i → done ++ flat_map f (take i xs) ≡ done ++ flat_map f xs
+take_rows f done xs i l = ap (λ ys. done ++ flat_map f ys) (take_all i xs l)
 
 -- ---- winners
 
@@ -63,9 +116,10 @@ pub winner_small : (w : Walk) (g : ℕ) (found : Option ℕ) → found ≡ winne
 winner_small w g None e l = tt
 winner_small w g (Some k) e l = let b : k < count w = subst (λ o. IfSome o (λ x. x < count w)) (sym e) (winner_within w g) in omega (arith, b, l)
 
-pub winner_more : (w : Walk) (g : ℕ) (old new : List ℕ) (found : Option ℕ) → g < length old → ((k : ℕ) → k < g → found_in old k ≡ winner w k) → IsPut old new g found → found ≡ winner w g
-    → (k : ℕ) → k < g + 1 → found_in new k ≡ winner w k
-winner_more w g old new found l told put is k m = elim (cases_eq k g) [
-  | inl same ↦ subst (λ j. found_in new j ≡ winner w j) (sym same) (put.here l ∙ is)
+-- what is put at a place joins what stands before it
+pub put_more : (f : ℕ → Option ℕ) (old new : List ℕ) (i : ℕ) (found : Option ℕ) → i < length old → ((k : ℕ) → k < i → found_in old k ≡ f k) → IsPut old new i found → found ≡ f i
+    → (k : ℕ) → k < i + 1 → found_in new k ≡ f k
+put_more f old new i found l told put is k m = elim (cases_eq k i) [
+  | inl same ↦ subst (λ j. found_in new j ≡ f j) (sym same) (put.here l ∙ is)
   | inr differ ↦ put.others k differ ∙ told k (omega (arith, m, differ))
 ]

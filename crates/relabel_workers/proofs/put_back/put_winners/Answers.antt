@@ -1,12 +1,13 @@
 use Rattle.std.proofs.Common.{◌∙◌, sym, subst, arith}
+use Rattle.relabel_core.specs.Walk.{winner}
 use Rattle.relabel_core.specs.Walked.{walk_of}
-use Rattle.relabel_workers.proofs.PutLemmas.{winner_few, winner_more, winner_small}
+use Rattle.relabel_workers.proofs.PutLemmas.{put_more, winner_few, winner_small}
 use Rattle.relabel_workers.proofs.put_back.put_winners.Goals as goal
 
 pub groups-preserved : goal.groups-preserved
 groups-preserved c = record {
   room = c.put_winner.ensures.winners.room ∙ c.groups.invariant.room;
-  told = winner_more (walk_of c.args.input.now) c.groups.g _ _ c.winner_in.result
+  told = put_more (winner (walk_of c.args.input.now)) _ _ c.groups.g c.winner_in.result
       (let room = c.groups.invariant.room in let test = c.groups-test.true in let count = c.groups-g-end.ensures in omega (arith, room, test, count)) c.groups.invariant.told
       c.put_winner.ensures.winners (c.winner_in.ensures ∙ c.requires.winners.each c.groups.g (let test = c.groups-test.true in let count = c.groups-g-end.ensures in omega (arith, test, count)));
   decided = c.put_winner.ensures.decided ∙ c.groups.invariant.decided;
