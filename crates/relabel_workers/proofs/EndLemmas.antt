@@ -308,20 +308,20 @@ module _ (w : Walk) (up : ByPath w.entries) where
 
 -- the law of ends, for one shape
 abbrev pub HaveOneEnd : Shape → Type 0
-HaveOneEnd shape =
-    (open_job wanted : ℕ → Bool) (claimed : List ℕ) (state : WalkState) → Leads shape open_job wanted → Sound shape state → WordsAreLeast shape claimed state.words
-    → HasEnded shape open_job wanted claimed state → IsTheEnd shape open_job wanted state
+HaveOneEnd given =
+    (open_job wanted : ℕ → Bool) (claimed : List ℕ) (state : WalkState) → Leads given open_job wanted → Sound given state → WordsAreLeast given claimed state.words
+    → HasEnded given open_job wanted claimed state → IsTheEnd given open_job wanted state
 
 pub record IsSettled (w : Walk) (notes : List Note) (winners : Winners) : Type 0 where
   pub noted : AreAllNoted w notes
   pub won : AreWinners w winners
   pub enough : count_wanted w ≤ winners.claims
 
-pub settled : (w : Walk) (up : ByPath w.entries) → count w < 2 ^ 32 → (shape : Shape) → shape ≡ shape_of w.entries → HaveOneEnd shape
+pub settled : (w : Walk) (up : ByPath w.entries) → count w < 2 ^ 32 → (given : Shape) → given ≡ shape_of w.entries → HaveOneEnd given
     → (q : QueueView) (k : ClaimView) (notes : List Note) (winners : Winners) → IsDone w [] q.taken q.given k.calls notes → Sound shape (one_worker q)
     → (groups : ℕ) → groups ≡ groups_in w.entries → Wins groups k.calls winners → TellsAll groups k.calls winners → winners.claims ≡ min (length k.calls) NONE_WORD
     → IsSettled w notes winners
-settled w up few shape is one q k notes winners done sound groups same wins all claims =
+settled w up few given is one q k notes winners done sound groups same wins all claims =
     let law : HaveOneEnd (shape_of w.entries) = subst HaveOneEnd is one in
     let s : Sound (shape_of w.entries) (one_worker q) = subst (λ x. Sound x (one_worker q)) is sound in
     let v : Wins (groups_in w.entries) k.calls winners = subst (λ n. Wins n k.calls winners) same wins in

@@ -6,4 +6,5 @@ pub mod EndLemmas
 pub mod HandsLemmas
 pub mod SkipLemmas
 pub mod PutLemmas
+pub mod RowLemmas
 pub mod Sending
