@@ -318,7 +318,7 @@ pub record IsSettled (w : Walk) (notes : List Note) (winners : Winners) : Type 0
   pub enough : count_wanted w ≤ winners.claims
 
 pub settled : (w : Walk) (up : ByPath w.entries) → count w < 2 ^ 32 → (given : Shape) → given ≡ shape_of w.entries → HaveOneEnd given
-    → (q : QueueView) (k : ClaimView) (notes : List Note) (winners : Winners) → IsDone w [] q.taken q.given k.calls notes → Sound shape (one_worker q)
+    → (q : QueueView) (k : ClaimView) (notes : List Note) (winners : Winners) → IsDone w [] q.taken q.given k.calls notes → Sound given (one_worker q)
     → (groups : ℕ) → groups ≡ groups_in w.entries → Wins groups k.calls winners → TellsAll groups k.calls winners → winners.claims ≡ min (length k.calls) NONE_WORD
     → IsSettled w notes winners
 settled w up few given is one q k notes winners done sound groups same wins all claims =
