@@ -51,7 +51,7 @@ module _ (w : Walk) (up : ByPath w.entries) (done : List Note) (note : Note) (no
         winners_room = room;
       }
 
-pub few_more : (found : Option ℕ) (n : ℕ) → IfSome found (λ i. i < n) → n < 2 ^ 32 → IfSome found (λ i. i + 1 < 2 ^ 32)
+pub few_more : (found : Option ℕ) (n : ℕ) → IfSome found (λ i. i < n) → n < 2 ^ 32 → IfSome found (λ i. i + 1 < 4294967296)
 few_more None n h l = tt
 few_more (Some i) n h l = omega (arith, h, l)
 
@@ -108,11 +108,11 @@ take_rows f done xs i l = ap (λ ys. done ++ flat_map f ys) (take_all i xs l)
 
 -- ---- winners
 
-pub winner_few : (w : Walk) (g : ℕ) (found : Option ℕ) → found ≡ winner w g → count w < 2 ^ 32 → IfSome found (λ k. k + 1 < 2 ^ 32)
+pub winner_few : (w : Walk) (g : ℕ) (found : Option ℕ) → found ≡ winner w g → count w < 2 ^ 32 → IfSome found (λ k. k + 1 < 4294967296)
 winner_few w g None e l = tt
 winner_few w g (Some k) e l = let b : k < count w = subst (λ o. IfSome o (λ x. x < count w)) (sym e) (winner_within w g) in omega (arith, b, l)
 
-pub winner_small : (w : Walk) (g : ℕ) (found : Option ℕ) → found ≡ winner w g → count w < 2 ^ 32 → IfSome found (λ k. k < 2 ^ 32)
+pub winner_small : (w : Walk) (g : ℕ) (found : Option ℕ) → found ≡ winner w g → count w < 2 ^ 32 → IfSome found (λ k. k < 4294967296)
 winner_small w g None e l = tt
 winner_small w g (Some k) e l = let b : k < count w = subst (λ o. IfSome o (λ x. x < count w)) (sym e) (winner_within w g) in omega (arith, b, l)
 

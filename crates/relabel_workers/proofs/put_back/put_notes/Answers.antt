@@ -1,7 +1,7 @@
 use Rattle.std.proofs.Common.{List, ◌++◌, ◌∙◌, ap, append_assoc, sym, subst, OnOk}
 use Rattle.std.specs.Prelude.{All}
 use Rattle.std.specs.List.{flat_map}
-use Rattle.std.specs.declared.vec.Vec.{Vec}
+use Rattle.std.specs.Global.{Vec}
 use Rattle.relabel_core.specs.Walked.{walk_of}
 use Rattle.relabel_workers.specs.PutBack.{ArePut, IsOpenNote}
 use Rattle.relabel_workers.specs.declared.note.Note.{Note}
@@ -13,16 +13,18 @@ notes_in rows = flat_map (λ row. row.items) rows
 
 pub put_rows-requires-clause-notes : goal.put_rows-requires-clause-notes
 put_rows-requires-clause-notes c =
-    front_notes (IsOpenNote (walk_of c.args.input.now)) _ _ (subst (All (IsOpenNote (walk_of c.args.input.now))) c.notes.view_is c.requires.notes)
+    front_notes (IsOpenNote (walk_of c.args.input.now)) _ _ (subst (All (IsOpenNote (walk_of c.args.input.now))) (sym c.notes.view_is) c.requires.notes)
 
 pub put_row-requires-clause-notes : goal.put_row-requires-clause-notes
 put_row-requires-clause-notes c =
-    last_notes (IsOpenNote (walk_of c.args.input.now)) _ _ (subst (All (IsOpenNote (walk_of c.args.input.now))) c.notes.view_is c.requires.notes)
+    last_notes (IsOpenNote (walk_of c.args.input.now)) _ _ (subst (All (IsOpenNote (walk_of c.args.input.now))) (sym c.notes.view_is) c.requires.notes)
 
 pub returns : goal.returns
-returns c = λ done p.
-    let full = notes_in c.notes.inside.full.items in
-    let last = c.notes.inside.last.items in
-    subst (λ xs. OnOk c.put_row.result (ArePut (walk_of c.args.input.now) xs c.put_row.new.noted c.put_row.new.passed))
-    (append_assoc done full last ∙ ap (λ xs. done ++ xs) (sym c.notes.view_is))
-    (c.put_row.ensures.put (done ++ full) (c.in_ok-put_rows.ensures.put done p))
+returns c = record {
+  put = λ done p.
+      let full = notes_in c.notes.inside.full.items in
+      let last = c.notes.inside.last.items in
+      subst (λ xs. OnOk c.put_row.result (ArePut (walk_of c.args.input.now) xs c.put_row.new.noted c.put_row.new.passed))
+      (append_assoc done full last ∙ ap (λ xs. done ++ xs) c.notes.view_is)
+      (c.put_row.ensures.put (done ++ full) (c.in_ok-put_rows.ensures.put done p));
+}

@@ -17,6 +17,8 @@ notes-preserved c = λ done p.
     (take_one done c.args.notes.now c.notes.note-index c.note-item.result c.notes-test.true c.note-item.is)
     (c.in_ok-put_note.ensures.put (done ++ take c.notes.note-index c.args.notes.now) (c.notes.invariant done p))
 
-pub returns-clause-put : goal.returns-clause-put
-returns-clause-put c = λ done p.
-    subst (λ xs. ArePut (walk_of c.args.input.now) xs c.notes.noted c.notes.passed) (take_whole done c.args.notes.now c.notes.note-index c.notes-test.false) (c.notes.invariant done p)
+pub returns : goal.returns
+returns c = record {
+  put = λ done p.
+      subst (λ xs. ArePut (walk_of c.args.input.now) xs c.notes.noted c.notes.passed) (take_whole done c.args.notes.now c.notes.note-index c.notes-test.false) (c.notes.invariant done p);
+}

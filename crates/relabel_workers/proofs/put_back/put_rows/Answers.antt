@@ -1,6 +1,6 @@
 use Rattle.std.proofs.Common.{List, append-nil, sym, subst, ◌++◌, take}
 use Rattle.std.specs.List.{flat_map}
-use Rattle.std.specs.declared.vec.Vec.{Vec}
+use Rattle.std.specs.Global.{Vec}
 use Rattle.relabel_core.specs.Walked.{walk_of}
 use Rattle.relabel_workers.specs.PutBack.{ArePut, IsOpenNote}
 use Rattle.relabel_workers.specs.declared.note.Note.{Note}
@@ -23,6 +23,8 @@ rows-preserved c = λ done p.
     (take_row items_of done c.args.rows.now c.rows.row-index c.row-item.result c.rows-test.true c.row-item.is)
     (c.in_ok-put_row.ensures.put (done ++ flat_map items_of (take c.rows.row-index c.args.rows.now)) (c.rows.invariant done p))
 
-pub returns-clause-put : goal.returns-clause-put
-returns-clause-put c = λ done p.
-    subst (λ xs. ArePut (walk_of c.args.input.now) xs c.rows.noted c.rows.passed) (take_rows items_of done c.args.rows.now c.rows.row-index c.rows-test.false) (c.rows.invariant done p)
+pub returns : goal.returns
+returns c = record {
+  put = λ done p.
+      subst (λ xs. ArePut (walk_of c.args.input.now) xs c.rows.noted c.rows.passed) (take_rows items_of done c.args.rows.now c.rows.row-index c.rows-test.false) (c.rows.invariant done p);
+}
