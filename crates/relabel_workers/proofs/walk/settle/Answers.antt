@@ -9,17 +9,17 @@ use Rattle.relabel_workers.proofs.walk.settle.Goals as goal
 pub returns-clause-notes : goal.returns-clause-notes
 returns-clause-notes c =
     (settled (walk_of c.args.input.now) c.requires.fit.by_path (let few = c.requires.fit.few in omega (arith, few)) c.args.shape.now c.requires.shape.0 c.ends_are_one.ensures.end
-    (queue_view c.args.hands.queue) (claim_view c.args.hands.claims) c.args.hands.notes c.close.result c.requires.done c.requires.sound
-    _ c.requires.groups c.close.ensures.wins (c.close.ensures.all c.requires.all) c.close.ensures.claims).noted
+    (queue_view c.args.hands.queue) (claim_view c.args.hands.claims) c.args.hands.notes c.close-winners.result c.requires.done c.requires.sound
+    _ c.requires.groups c.close-winners.ensures.wins (c.close-winners.ensures.all c.requires.all) c.close-winners.ensures.claims).noted
 
 pub returns-clause-winners : goal.returns-clause-winners
 returns-clause-winners c =
     (settled (walk_of c.args.input.now) c.requires.fit.by_path (let few = c.requires.fit.few in omega (arith, few)) c.args.shape.now c.requires.shape.0 c.ends_are_one.ensures.end
-    (queue_view c.args.hands.queue) (claim_view c.args.hands.claims) c.args.hands.notes c.close.result c.requires.done c.requires.sound
-    _ c.requires.groups c.close.ensures.wins (c.close.ensures.all c.requires.all) c.close.ensures.claims).won
+    (queue_view c.args.hands.queue) (claim_view c.args.hands.claims) c.args.hands.notes c.close-winners.result c.requires.done c.requires.sound
+    _ c.requires.groups c.close-winners.ensures.wins (c.close-winners.ensures.all c.requires.all) c.close-winners.ensures.claims).won
 
 pub returns-clause-claims : goal.returns-clause-claims
 returns-clause-claims c =
     (settled (walk_of c.args.input.now) c.requires.fit.by_path (let few = c.requires.fit.few in omega (arith, few)) c.args.shape.now c.requires.shape.0 c.ends_are_one.ensures.end
-    (queue_view c.args.hands.queue) (claim_view c.args.hands.claims) c.args.hands.notes c.close.result c.requires.done c.requires.sound
-    _ c.requires.groups c.close.ensures.wins (c.close.ensures.all c.requires.all) c.close.ensures.claims).enough
+    (queue_view c.args.hands.queue) (claim_view c.args.hands.claims) c.args.hands.notes c.close-winners.result c.requires.done c.requires.sound
+    _ c.requires.groups c.close-winners.ensures.wins (c.close-winners.ensures.all c.requires.all) c.close-winners.ensures.claims).enough
