@@ -5,14 +5,14 @@ use Rattle.relabel_workers.proofs.RowLemmas.{rows_made}
 use Rattle.relabel_workers.proofs.walk.settle_all.Goals as goal
 
 pub gather-requires-clause-site : goal.gather-requires-clause-site
-gather-requires-clause-site g c = record {
+gather-requires-clause-site g c κs within = record {
   fit = c.requires.fit;
   shape = c.in_ok-queue.ensures.shape ∙ c.requires.shape.0;
   groups = c.in_ok-claims.ensures.groups ∙ c.groups.ensures;
 }
 
 pub gather-requires-clause-rows : goal.gather-requires-clause-rows
-gather-requires-clause-rows g c =
+gather-requires-clause-rows g c κs within =
     rows_made c.in_ok-queue.queue c.in_ok-claims.claims c.args.shape.now c.args.workers c.in_ok-queue.queue_passes c.in_ok-claims.claim_passes c.in_ok-queue.ensures.shape
     c.in_ok-queue.ensures.passes.0 c.in_ok-queue.ensures.passes.1 c.in_ok-claims.ensures.passes.1 c.in_ok-queue.ensures.each c.in_ok-claims.ensures.each
 
