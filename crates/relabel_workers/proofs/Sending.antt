@@ -10,11 +10,9 @@ use Rattle.atomic_table.specs.contracts.shared.Shared as Shared
 use Rattle.atomic_table.specs.contracts.send_lease.SendLease as SendLease
 use Rattle.atomic_table.proofs.Sent.{shares_keyless}
 use Rattle.atomic_table.proofs.Rights.{right_send}
-use Rattle.inode_claims.specs.contracts.claims.ClaimPass as ClaimPass
 use Rattle.inode_claims.specs.contracts.claims.Claims as Claims
-use Rattle.dir_queue.proofs.Sending.{job_send, pass_send, seat_send}
+use Rattle.dir_queue.proofs.Sending.{job_send, seat_send}
 use Rattle.relabel_workers.specs.contracts.note.Note as Note
-use Rattle.relabel_workers.specs.contracts.notes.Notes as Notes
 use Rattle.relabel_workers.specs.contracts.hands.Hands as Hands
 
 shared_sync : (S V K P : RattleType) (g : Rule.Ghosts P.Denot S.Denot V.Denot K.Denot) → IsSend S → IsSync (Shared.the_row S V K P g)
@@ -24,17 +22,11 @@ shared_sync S V K P g s = let fields : IsSync (Struct (shape (Shared.the_type S 
 lease_sync : (T A : RattleType) (g : Ghosts A.Denot) → IsSend A → Frees g g.dealloc_token → IsSync (SendLease.the_row T A g)
 lease_sync T A g s f = record { shared = λ d b o ν q. part_keyless (SendLease.the_row T A g) (right_send T A g f) q d b o }
 
-pub claim_pass_send : IsSend ClaimPass.the_row
-claim_pass_send = search (sendable, crosses, seat_send) depth 40
-
 pub claims_sync : IsSync Claims.the_row
 claims_sync = search (sendable, crosses, shared_sync, lease_sync) depth 40
 
 note_send : IsSend Note.the_row
 note_send = search (sendable, crosses) depth 40
 
-notes_send : IsSend Notes.the_row
-notes_send = search (sendable, crosses, note_send) depth 40
-
 pub hands_send : IsSend Hands.the_row
-hands_send = search (sendable, crosses, pass_send, claim_pass_send, notes_send) depth 40
+hands_send = search (sendable, crosses, seat_send, job_send, note_send) depth 60
