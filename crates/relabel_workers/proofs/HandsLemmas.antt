@@ -103,7 +103,12 @@ pub first_left : (w : Walk) (left : List ℕ) (e : ℕ) (rest : List ℕ) (q : Q
 first_left w left e rest q k notes is d =
     let t : IsDone w (e ∷ rest) q.taken q.given k.calls notes = subst (λ l. IsDone w l q.taken q.given k.calls notes) is d in
     let h = t.held e (let z = hit_same e e refl in omega (arith, z)) in
-    (h.0, (h.1, λ g. not_given w e rest q.taken q.given k.calls notes t g))
+    (h.0, h.1, λ g. not_given w e rest q.taken q.given k.calls notes t g)
+
+-- and what is done is that all but it and the rest is
+pub next_done : (w : Walk) (left : List ℕ) (e : ℕ) (rest : List ℕ) (q : QueueView) (k : ClaimView) (notes : List Note) → left ≡ e ∷ rest → IsDone w left q.taken q.given k.calls notes
+    → IsDone w (e ∷ rest) q.taken q.given k.calls notes
+next_done w left e rest q k notes is d = subst (λ l. IsDone w l q.taken q.given k.calls notes) is d
 
 -- a job more where one is to be given, and a call more where a context is given
 pub given_is : (w : Walk) (e : ℕ) (q r : QueueView) → is_to_be_given w e ≡ true → r ≡ passes.with_given q (job_of w.entries e) → r.given ≡ given_with (is_to_be_given w e) q.given (job_of w.entries e)
