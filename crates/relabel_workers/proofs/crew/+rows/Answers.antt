@@ -41,18 +41,18 @@ run_both-returns-clause-done g t c =
     let q = c.args.queue.now in let k = c.args.claims.now in let w = walk_of c.args.input.now in
     let a = IfOk-at_ok (λ (after : Hands). AreHandsOf q k after × AreDone w [] after × StandFor c.args.hands 0 after) c.in_ok-mine.was c.join-mine.ensures.first in
     let b = IfOk-at_ok (λ (after : Hands). AreHandsOf q k after × AreDone w [] after × StandFor c.args.next (length c.args.queue_passes) after) c.in_ok-others.was c.join-mine.ensures.second in
-    c.join_hands.ensures.done w a.1.0 b.1.0
+    c.join_hands.ensures.done w a.1 b.1
 
 pub run_both-returns-clause-queue_stands : goal.run_both-returns-clause-queue_stands
 run_both-returns-clause-queue_stands g t c =
     let q = c.args.queue.now in let k = c.args.claims.now in let w = walk_of c.args.input.now in
     let a = IfOk-at_ok (λ (after : Hands). AreHandsOf q k after × AreDone w [] after × StandFor c.args.hands 0 after) c.in_ok-mine.was c.join-mine.ensures.first in
     let b = IfOk-at_ok (λ (after : Hands). AreHandsOf q k after × AreDone w [] after × StandFor c.args.next (length c.args.queue_passes) after) c.in_ok-others.was c.join-mine.ensures.second in
-    queue_both c.args.hands c.in_ok-mine.field-0 c.args.next c.in_ok-others.field-0 (length c.args.queue_passes) c.join_hands.result a.1.1 b.1.1 c.join_hands.ensures.stands
+    queue_both c.args.hands c.in_ok-mine.field-0 c.args.next c.in_ok-others.field-0 (length c.args.queue_passes) c.join_hands.result a.2 b.2 c.join_hands.ensures.stands
 
 pub run_both-returns-clause-claims_stand : goal.run_both-returns-clause-claims_stand
 run_both-returns-clause-claims_stand g t c =
     let q = c.args.queue.now in let k = c.args.claims.now in let w = walk_of c.args.input.now in
     let a = IfOk-at_ok (λ (after : Hands). AreHandsOf q k after × AreDone w [] after × StandFor c.args.hands 0 after) c.in_ok-mine.was c.join-mine.ensures.first in
     let b = IfOk-at_ok (λ (after : Hands). AreHandsOf q k after × AreDone w [] after × StandFor c.args.next (length c.args.queue_passes) after) c.in_ok-others.was c.join-mine.ensures.second in
-    claims_both c.args.hands c.in_ok-mine.field-0 c.args.next c.in_ok-others.field-0 (length c.args.queue_passes) c.join_hands.result a.1.1 b.1.1 c.join_hands.ensures.stands
+    claims_both c.args.hands c.in_ok-mine.field-0 c.args.next c.in_ok-others.field-0 (length c.args.queue_passes) c.join_hands.result a.2 b.2 c.join_hands.ensures.stands
