@@ -1,6 +1,7 @@
 -- What passes show, and what hands hold, after a step.
-use Rattle.std.proofs.Common.{◌≡◌, ◌∙◌, sym, refl, ap, subst, ℕ, ◌+◌, ◌<◌, ◌≤◌, Bool, true, List, [], ◌∷◌, ◌++◌, length, map, Option, Some, None, arith, length-append}
-use Rattle.std.specs.Prelude.{All, not}
+use Rattle.std.proofs.Common.{◌≡◌, ◌∙◌, sym, refl, ap, subst, ℕ, ◌+◌, ◌<◌, ◌≤◌, Bool, true, false, List, [], ◌∷◌, ◌++◌, length, map, Option, Some, None, arith, length-append}
+use Rattle.std.specs.Prelude.{All, IfOk, not}
+use Rattle.std.specs.Prelude.{Result, Ok, Err}
 use Rattle.std.specs.Cmp.{first_so}
 use Rattle.std.proofs.lemmas.List.{length-map}
 use Rattle.std.proofs.lemmas.List.Elements.{All-pop}
@@ -8,6 +9,7 @@ use Rattle.walk_steps.specs.Lists.{times}
 use Rattle.walk_steps.specs.Shaped.{last_job}
 use Rattle.walk_steps.specs.Sound.{Sound}
 use Rattle.walk_steps.specs.declared.shape.Shape.{Shape}
+use Rattle.walk_steps.proofs.ListLemmas.{hit_same}
 use Rattle.inode_claims.specs.declared.claims.ClaimPass.{ClaimPass}
 use Rattle.inode_claims.specs.declared.claims.Claims.{Claims}
 use Rattle.inode_claims.specs.declared.rule.Call.{Call}
@@ -33,7 +35,7 @@ use Rattle.relabel_workers.specs.Worked.{AddsCall, IsDone, given_with, is_to_be_
 use Rattle.relabel_workers.specs.declared.hands.Hands.{Hands}
 use Rattle.relabel_workers.specs.declared.note.Note.{Note}
 use Rattle.relabel_workers.proofs.EndLemmas.{job_within, parent_home}
-use Rattle.relabel_workers.proofs.WorkedLemmas.{both_done, entry_done, job_taken, none_done}
+use Rattle.relabel_workers.proofs.WorkedLemmas.{both_done, entry_done, job_taken, none_done, not_given}
 
 -- ---- rows of passes
 
@@ -95,6 +97,32 @@ entry_added w e rest q r k l m n note took gave called more same right d =
     subst (λ x. IsDone w rest x r.given l.calls n) (sym took)
     (subst (λ x. IsDone w rest q.taken r.given l.calls x) (sym more) (entry_done w e rest q.taken q.given r.given k.calls l.calls m note d gave called same right))
 
+-- what is known of the first entry that is left
+pub first_left : (w : Walk) (left : List ℕ) (e : ℕ) (rest : List ℕ) (q : QueueView) (k : ClaimView) (notes : List Note) → left ≡ e ∷ rest → IsDone w left q.taken q.given k.calls notes
+    → (e < count w) × (0 < times (home_of w.entries e) q.taken) × (is_to_be_given w e ≡ true → times (job_of w.entries e) q.given ≡ 0)
+first_left w left e rest q k notes is d =
+    let t : IsDone w (e ∷ rest) q.taken q.given k.calls notes = subst (λ l. IsDone w l q.taken q.given k.calls notes) is d in
+    let h = t.held e (let z = hit_same e e refl in omega (arith, z)) in
+    (h.0, h.1, λ g. not_given w e rest q.taken q.given k.calls notes t g)
+
+-- and what is done is that all but it and the rest is
+pub next_done : (w : Walk) (left : List ℕ) (e : ℕ) (rest : List ℕ) (q : QueueView) (k : ClaimView) (notes : List Note) → left ≡ e ∷ rest → IsDone w left q.taken q.given k.calls notes
+    → IsDone w (e ∷ rest) q.taken q.given k.calls notes
+next_done w left e rest q k notes is d = subst (λ l. IsDone w l q.taken q.given k.calls notes) is d
+
+-- a job more where one is to be given, and a call more where a context is given
+pub given_is : (w : Walk) (e : ℕ) (q r : QueueView) → is_to_be_given w e ≡ true → r ≡ passes.with_given q (job_of w.entries e) → r.given ≡ given_with (is_to_be_given w e) q.given (job_of w.entries e)
+given_is w e q r give is = ap (λ (v : QueueView). v.given) is ∙ ap (λ b. given_with b q.given (job_of w.entries e)) (sym give)
+
+pub given_none : (w : Walk) (e : ℕ) (q : QueueView) → is_to_be_given w e ≡ false → q.given ≡ given_with (is_to_be_given w e) q.given (job_of w.entries e)
+given_none w e q give = ap (λ b. given_with b q.given (job_of w.entries e)) (sym give)
+
+pub called_is : (w : Walk) (e answer : ℕ) (k l : ClaimView) → gives_alone w e ≡ true → l ≡ claiming.with_call k (group_of w.entries e) e answer → AddsCall (gives_alone w e) (group_of w.entries e) e k.calls l.calls
+called_is w e answer k l give is = subst (λ b. AddsCall b (group_of w.entries e) e k.calls l.calls) (sym give) (answer, ap (λ (v : ClaimView). v.calls) is)
+
+pub called_none : (w : Walk) (e : ℕ) (k : ClaimView) → gives_alone w e ≡ false → AddsCall (gives_alone w e) (group_of w.entries e) e k.calls k.calls
+called_none w e k give = subst (λ b. AddsCall b (group_of w.entries e) e k.calls k.calls) (sym give) refl
+
 -- ---- one job
 
 pub taken_done : (w : Walk) (job : ℕ) (q r : QueueView) (k : ClaimView) (m : List Note) → r ≡ with_taken q job → times job q.taken ≡ 0 → IsDone w [] q.taken q.given k.calls m
@@ -117,6 +145,17 @@ stands_on a b c m n k x y s = record {
   queue_more = (let p = x.queue_more in let q = y.queue_more in omega (arith, p, q, s));
   claims_more = (let p = x.claims_more in let q = y.claims_more in omega (arith, p, q, s));
 }
+
+-- the work of two that stand for themselves and for the rest of the row
+pub queue_both : {E : Type 0} (a b c d : Hands) (n : ℕ) (r : Result Hands E) → StandFor a 0 b → StandFor c n d
+    → IfOk r (λ hands. (queue_stands hands ≡ queue_stands b + queue_stands d) × (claims_stand hands ≡ claims_stand b + claims_stand d)) → IfOk r (λ after. queue_stands after ≡ queue_stands a + queue_stands c + n)
+queue_both a b c d n (Ok h) x y s = let p = x.queue_more in let q = y.queue_more in let z = s.0 in omega (arith, p, q, z)
+queue_both a b c d n (Err e) x y s = tt
+
+pub claims_both : {E : Type 0} (a b c d : Hands) (n : ℕ) (r : Result Hands E) → StandFor a 0 b → StandFor c n d
+    → IfOk r (λ hands. (queue_stands hands ≡ queue_stands b + queue_stands d) × (claims_stand hands ≡ claims_stand b + claims_stand d)) → IfOk r (λ after. claims_stand after ≡ claims_stand a + claims_stand c + n)
+claims_both a b c d n (Ok h) x y s = let p = x.claims_more in let q = y.claims_more in let z = s.1 in omega (arith, p, q, z)
+claims_both a b c d n (Err e) x y s = tt
 
 -- ---- a job may be given
 

@@ -1,4 +1,5 @@
 -- What workers hold, and what belongs together.
+use Rattle.std.specs.Borrow.{Bor}
 use Rattle.std.specs.Prelude.{◌≡◌, ℕ, ◌+◌, List, length, All}
 use Rattle.inode_claims.specs.declared.claims.ClaimPass.{ClaimPass}
 use Rattle.inode_claims.specs.declared.claims.Claims.{Claims}
@@ -9,13 +10,31 @@ use Rattle.dir_queue.specs.declared.queue.DirQueue.{DirQueue}
 use Rattle.dir_queue.specs.declared.queue.QueuePass.{QueuePass}
 use Rattle.dir_queue.specs.Passes.{fresh}
 use Rattle.dir_queue.specs.Answers.{IsQueuePassOf, queue_view, shape_of, passes_of}
+use Rattle.file_paths.specs.Path.{Path}
+use Rattle.find_records.specs.Record.{Record}
 use Rattle.tree_model.specs.Groups.{groups_in}
 use Rattle.tree_model.specs.Jobs as jobs
+use Rattle.tree_model.specs.Selection.{SelectedValue}
+use Rattle.label_rules.specs.declared.rules.Rules.{Rules}
 use Rattle.relabel_core.specs.Walk.{Walk}
 use Rattle.relabel_core.specs.Walked.{IsFit, walk_of}
 use Rattle.relabel_core.specs.declared.input.WalkInput.{WalkInput}
+use Rattle.relabel_core.specs.declared.options.Options.{Options}
+use Rattle.relabel_core.specs.declared.stored.Stored.{Stored}
 use Rattle.relabel_workers.specs.Worked.{IsDone}
 use Rattle.relabel_workers.specs.declared.hands.Hands.{Hands}
+
+-- what is walked over, of its parts
+abbrev pub input_of : Bor (List Record) → Bor SelectedValue → Bor (List Path) → Bor Rules → Options
+    → Bor Stored → WalkInput
+input_of tree chosen operands rules options stored = record {
+  tree = tree;
+  chosen = chosen;
+  operands = operands;
+  rules = rules;
+  options = options;
+  stored = stored;
+}
 
 -- the queue and the claims are those of the tree that is walked
 pub record IsSite (input : WalkInput) (queue : DirQueue) (claims : Claims) : Type 0 where

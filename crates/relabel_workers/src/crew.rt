@@ -1,7 +1,7 @@
 ghost use Rattle.std.specs.Prelude.{◌≡◌, ◌+◌, [], length, IfOk};
 ghost use Rattle.std.specs.Thread.{IsSync};
 ghost use Rattle.relabel_core.specs.Walked.{walk_of};
-ghost use Rattle.relabel_workers.specs.Held.{AreDone, AreHandsOf, AreRows, IsSite, StandFor, claims_stand, queue_stands};
+ghost use Rattle.relabel_workers.specs.Held.{AreDone, AreHandsOf, AreRows, IsSite, StandFor, claims_stand, input_of, queue_stands};
 
 use crate::gate::Gate;
 use crate::hands::{Hands, join_hands, next_hands};
@@ -54,7 +54,8 @@ pub fn run_all<R: Threads + Wait + Sync, G: Gate + Sync>(
     )
 }
 
-// Runs a worker, and at once the next one with those of the rows.
+// Runs a worker, and at once the next one with those of the rows. Each thread is lent the parts of the input: of one that is
+// lent a struct of references it isn't known what it answers.
 #[cycle(rows)]
 fn run_both<R: Threads + Wait + Sync, G: Gate + Sync>(
     rt: &R,
@@ -83,26 +84,56 @@ fn run_both<R: Threads + Wait + Sync, G: Gate + Sync>(
         ≡ claims_stand hands + claims_stand next + length queue_passes) }
 {
     let number = worker.saturating_add(1);
+    let WalkInput {
+        tree,
+        chosen,
+        operands,
+        rules,
+        options,
+        stored,
+    } = *input;
     let (mine, others) = join(
         rt,
         || -> Result<Hands, OutOfMemory>
-            requires { IsSite input.now queue.now claims.now
-                × AreHandsOf queue.now claims.now hands × AreDone (walk_of input.now) [] hands }
+            requires { IsSite (input_of tree chosen operands rules options stored) queue.now
+                claims.now × AreHandsOf queue.now claims.now hands
+                × AreDone (walk_of (input_of tree chosen operands rules options stored)) [] hands }
             ensures { IfOk result (λ after. AreHandsOf queue.entry.now claims.entry.now after
-                × AreDone (walk_of input.entry.now) [] after × StandFor hands 0 after) }
-        { work(rt, alloc, input, queue, claims, gate, worker, hands) },
+                × AreDone (walk_of (input_of tree.entry chosen.entry operands.entry rules.entry
+                options stored.entry)) [] after × StandFor hands 0 after) }
+        {
+            let input = WalkInput {
+                tree,
+                chosen,
+                operands,
+                rules,
+                options,
+                stored,
+            };
+            work(rt, alloc, &input, queue, claims, gate, worker, hands)
+        },
         || -> Result<Hands, OutOfMemory>
-            requires { IsSync R.row × IsSync G.row × IsSite input.now queue.now claims.now
-                × AreHandsOf queue.now claims.now next × AreDone (walk_of input.now) [] next
+            requires { IsSync R.row × IsSync G.row
+                × IsSite (input_of tree chosen operands rules options stored) queue.now claims.now
+                × AreHandsOf queue.now claims.now next
+                × AreDone (walk_of (input_of tree chosen operands rules options stored)) [] next
                 × AreRows queue.now claims.now queue_passes claim_passes }
             ensures { IfOk result (λ after. AreHandsOf queue.entry.now claims.entry.now after
-                × AreDone (walk_of input.entry.now) [] after
-                × StandFor next (length queue_passes) after) }
+                × AreDone (walk_of (input_of tree.entry chosen.entry operands.entry rules.entry
+                options stored.entry)) [] after × StandFor next (length queue_passes) after) }
         {
+            let input = WalkInput {
+                tree,
+                chosen,
+                operands,
+                rules,
+                options,
+                stored,
+            };
             run_all(
                 rt,
                 alloc,
-                input,
+                &input,
                 queue,
                 claims,
                 gate,

@@ -34,6 +34,15 @@ fn add_rows(rows: &mut Vec<Vec<Note>>, more: Vec<Vec<Note>>) -> Result<(), OutOf
     Ok(())
 }
 
+// One note behind others. The look at its digest tells the check of a type that it would miss at the push.
+fn add_note(notes: &mut Vec<Note>, note: Note) -> Result<(), OutOfMemory>
+    ensures { OnOk result (notes.new.items ≡ notes.old.items ++ note ∷ []) }
+{
+    let _ = note.finding.digest.is_some();
+    notes.push(note)?;
+    Ok(())
+}
+
 impl Notes {
     /// Nothing is noted yet.
     pub fn new(alloc: Global) -> Notes
@@ -49,8 +58,7 @@ impl Notes {
     pub fn push(&mut self, note: Note) -> Result<(), OutOfMemory>
         ensures { OnOk result (self.new ≡ self.old ++ note ∷ []) }
     {
-        self.last.push(note)?;
-        Ok(())
+        add_note(&mut self.last, note)
     }
 
     /// The notes of the one, and behind them those of the other. No note is copied.

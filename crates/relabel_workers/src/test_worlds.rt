@@ -1,5 +1,6 @@
 // What the tests walk over. Each helper has one value with a buffer and one `?`, since what has several takes long to prove.
-ghost use Rattle.std.specs.Prelude.{◌≡◌, ◌<◌, ◌≤◌};
+ghost use Rattle.std.specs.Prelude.{◌≡◌, ◌<◌, ◌≤◌, IfOk};
+ghost use Rattle.find_records.specs.Record.{AreOf};
 ghost use Rattle.relabel_core.specs.Walked.{IsFit, walk_of};
 ghost use Rattle.relabel_workers.specs.PutBack.{AreWinners};
 
@@ -8,7 +9,7 @@ use crate::walk::walk_threads;
 use context_syntax::read_customizable;
 use file_paths::NormPath;
 use file_roles::Part;
-use find_records::{RecordLimits, read_records};
+use find_records::{Format, RecordLimits, read_records};
 use inode_claims::Winners;
 use input_output::MemSource;
 use label_base::{Bytes, OutOfMemory, Row};
@@ -45,15 +46,19 @@ pub const VERBOSE: Options = Options {
     warn_unmatched: false,
     strict_links: false,
     ignore_absent: false,
+    format: Format::One,
 };
 
-fn tree_of(alloc: Global, records: &[u8]) -> Result<Tree, Fail> {
+fn tree_of(alloc: Global, records: &[u8], format: Format) -> Result<Tree, Fail>
+    ensures { IfOk result (λ tree. AreOf format tree) }
+{
     let mut source = MemSource::new(Bytes::copy_of(alloc, records)?, 100, Row::new(alloc));
     let limits = RecordLimits {
         records: 99,
         bytes: 9999,
     };
-    Ok(Tree::new(alloc, read_records(alloc, &mut source, limits)?)?)
+    let read = read_records(alloc, &mut source, format, limits)?;
+    Ok(Tree::new(alloc, read)?)
 }
 
 fn subs_of(alloc: Global) -> Result<Subs, Fail> {
@@ -163,7 +168,8 @@ fn answered_choice<R: Threads + Wait + Sync, G: Gate + Sync>(
     workers: u32,
     gate: &G,
 ) -> Result<Answered, OutOfMemory>
-    requires { (0 < workers) × (workers ≤ 64) }
+    requires format { AreOf options.format tree.now }
+    requires workers { (0 < workers) × (workers ≤ 64) }
 {
     let entries = tree.len();
     let operands = choice.operands.len();
@@ -188,7 +194,8 @@ fn answered_rules<R: Threads + Wait + Sync, G: Gate + Sync>(
     workers: u32,
     gate: &G,
 ) -> Result<Answered, Fail>
-    requires { (0 < workers) × (workers ≤ 64) }
+    requires format { AreOf given.now.options.format tree.now }
+    requires workers { (0 < workers) × (workers ≤ 64) }
 {
     let choice = choice_of(alloc, given.operands)?;
     Ok(answered_choice(
@@ -213,7 +220,8 @@ fn answered_tree<R: Threads + Wait + Sync, G: Gate + Sync>(
     workers: u32,
     gate: &G,
 ) -> Result<Answered, Fail>
-    requires { (0 < workers) × (workers ≤ 64) }
+    requires format { AreOf given.now.options.format tree.now }
+    requires workers { (0 < workers) × (workers ≤ 64) }
 {
     let rules = rules_of(alloc, given.specs)?;
     answered_rules(rt, alloc, given, tree, &rules, stored, workers, gate)
@@ -227,7 +235,8 @@ fn answered_stored<R: Threads + Wait + Sync, G: Gate + Sync>(
     workers: u32,
     gate: &G,
 ) -> Result<Answered, Fail>
-    requires { (0 < workers) × (workers ≤ 64) }
+    requires format { AreOf given.now.options.format tree.now }
+    requires workers { (0 < workers) × (workers ≤ 64) }
 {
     let stored = stored_of(alloc, tree, given.kept)?;
     answered_tree(rt, alloc, given, tree, &stored, workers, gate)
@@ -243,6 +252,6 @@ pub fn answer<R: Threads + Wait + Sync, G: Gate + Sync>(
 ) -> Result<Answered, Fail>
     requires { (0 < workers) × (workers ≤ 64) }
 {
-    let tree = tree_of(alloc, given.records)?;
+    let tree = tree_of(alloc, given.records, given.options.format)?;
     answered_stored(rt, alloc, given, &tree, workers, gate)
 }
