@@ -1,5 +1,5 @@
 -- Whether an entry is skipped, by whether its home is open and whether it is skipped by itself.
-use Rattle.std.proofs.Common.{◌≡◌, ◌≢◌, ◌∙◌, sym, refl, ap, ap₂, subst, ℕ, zero, suc, ◌+◌, ◌<◌, ◌≤◌, ◌==◌, ◌&&◌, Bool, true, false, not, inl, inr, arith, eq-eqb, ne_eqb, true≢false, List, length, Option, Some, None, if◌then◌else◌}
+use Rattle.std.proofs.Common.{◌≡◌, ◌≢◌, ◌∙◌, sym, refl, ap, ap₂, subst, ℕ, zero, suc, ◌<◌, ◌≤◌, ◌==◌, ◌&&◌, Bool, true, false, not, inl, inr, arith, eq-eqb, ne_eqb, true≢false, Option, Some, None, if◌then◌else◌}
 use Rattle.std.specs.Prelude.{is_some}
 use Rattle.std.proofs.lemmas.Bool.{and_parts, and_right, cases_eq, cases_lt, false_from_ne_true}
 use Rattle.label_base.specs.Bounded.{any_below}
@@ -13,7 +13,6 @@ use Rattle.tree_model.proofs.JobLaws.{home_told}
 use Rattle.label_rules.specs.LookUp.{given_at, index_for}
 use Rattle.relabel_core.specs.Passed.{skip_of}
 use Rattle.relabel_core.specs.Walk.{Walk, count, deciding, digest_now, is_current, is_live, is_skipped, is_skipped_first, is_wanted, is_whole, skippable, skips, walked, wanted}
-use Rattle.relabel_core.specs.declared.passed.Skip.{Skip}
 use Rattle.relabel_core.specs.declared.passed.Skip.TheVariants.{Not, First, Below}
 use Rattle.tree_model.specs.Extents.{entry_at}
 use Rattle.relabel_workers.specs.Alone.{decided_alone, gives_alone, is_open, lies_open}

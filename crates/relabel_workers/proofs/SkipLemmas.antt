@@ -1,18 +1,18 @@
 -- What is put back, note by note.
-use Rattle.std.proofs.Common.{◌≡◌, ◌≢◌, ◌∙◌, sym, refl, ap, subst, ℕ, zero, suc, ◌+◌, ◌<◌, ◌≤◌, ◌==◌, ◌⊎◌, ⊎_elim, inl, inr, Bool, true, false, true≢false, eq-eqb, ne_eqb, List, [], ◌∷◌, ◌++◌, length, map, get_or, set, replicate, Option, Some, None, arith, if◌then◌else◌, length-set, get_or-set_same, get_or-set_other}
-use Rattle.std.specs.Prelude.{All, is_some, nat_lt}
+use Rattle.std.proofs.Common.{◌≡◌, ◌≢◌, ◌∙◌, sym, refl, ap, subst, ℕ, ◌+◌, ◌<◌, ◌≤◌, ◌==◌, ◌⊎◌, ⊎_elim, inl, inr, Bool, true, false, true≢false, eq-eqb, ne_eqb, List, [], ◌∷◌, ◌++◌, length, get_or, set, Option, Some, None, arith, if◌then◌else◌, length-set, get_or-set_same, get_or-set_other}
+use Rattle.std.specs.Prelude.{is_some, nat_lt}
 use Rattle.std.specs.BTreeMap.{BTreeMap}
-use Rattle.std.proofs.lemmas.Bool.{cases_eq, cases_lt, le-ltb, lt-ltb, false_from_ne_true}
-use Rattle.std.proofs.lemmas.List.{get_or-replicate, length-replicate, map-append}
-use Rattle.walk_steps.specs.Lists.{hit, times}
-use Rattle.walk_steps.proofs.ListLemmas.{hit_same, times_append}
+use Rattle.std.proofs.lemmas.Bool.{cases_eq, cases_lt, lt-ltb}
+use Rattle.std.proofs.lemmas.List.{map-append}
+use Rattle.walk_steps.specs.Lists.{times}
+use Rattle.walk_steps.proofs.ListLemmas.{times_append}
 use Rattle.tree_model.specs.Extents.{extent_of, in_extent}
 use Rattle.tree_model.specs.Groups.{groups_in}
 use Rattle.tree_model.specs.Jobs.{home_of}
 use Rattle.tree_model.specs.Tree.{ByPath}
 use Rattle.tree_model.proofs.ExtentLemmas.{extent_has, extent_told, has_extent}
 use Rattle.relabel_core.specs.Numbers.{IsPut, found_in, put_at}
-use Rattle.relabel_core.specs.Passed.{ArePassed, needed, renewal, skip_of}
+use Rattle.relabel_core.specs.Passed.{ArePassed, renewal, skip_of}
 use Rattle.relabel_core.specs.Stored.{Adds, digests_in}
 use Rattle.relabel_core.specs.Walk.{Walk, count, deciding, is_skipped, skippable, winner}
 use Rattle.relabel_core.specs.Walked.{AreFound}
@@ -21,7 +21,7 @@ use Rattle.relabel_core.specs.declared.passed.Passed.{Passed}
 use Rattle.relabel_core.specs.declared.passed.Skip.{Skip}
 use Rattle.relabel_core.specs.declared.passed.Skip.TheVariants.{Not, First, Below}
 use Rattle.relabel_core.proofs.PassedLemmas.{none_renewed_if_skipped}
-use Rattle.relabel_workers.specs.Alone.{IsNoted, decided_alone, is_open, noted_in}
+use Rattle.relabel_workers.specs.Alone.{is_open, noted_in}
 use Rattle.relabel_workers.specs.PutBack.{AreAllNoted, AreDecidedPut, AreDigestsPut, ArePut, AreSkippedTo, AreSkipsPut, IsOpenNote, KeepsFirst, first_told}
 use Rattle.relabel_workers.specs.declared.note.Note.{Note}
 use Rattle.relabel_workers.proofs.ListLemmas.{hit_is}

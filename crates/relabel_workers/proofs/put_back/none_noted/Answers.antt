@@ -1,5 +1,4 @@
-use Rattle.std.proofs.Common.{◌∙◌, ap, length, subst, sym, arith}
-use Rattle.relabel_core.specs.Walked.{HasRoom, walk_of}
+use Rattle.std.proofs.Common.{◌∙◌, ap, length, sym, arith}
 use Rattle.relabel_workers.proofs.put_back.none_noted.Goals as goal
 
 pub decide_none-requires : goal.decide_none-requires

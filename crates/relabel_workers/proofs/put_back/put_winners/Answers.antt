@@ -1,4 +1,4 @@
-use Rattle.std.proofs.Common.{◌∙◌, sym, subst, arith}
+use Rattle.std.proofs.Common.{◌∙◌, arith}
 use Rattle.relabel_core.specs.Walk.{winner}
 use Rattle.relabel_core.specs.Walked.{walk_of}
 use Rattle.relabel_workers.proofs.PutLemmas.{put_more, winner_few, winner_small}

@@ -1,4 +1,4 @@
-use Rattle.std.proofs.Common.{ap, length, ◌∙◌, sym, subst}
+use Rattle.std.proofs.Common.{sym, subst}
 use Rattle.relabel_core.specs.Walked.{AreFound, walk_of}
 use Rattle.relabel_workers.proofs.PutLemmas.{all_put}
 use Rattle.relabel_workers.proofs.SkipLemmas.{put_found, put_passed}
