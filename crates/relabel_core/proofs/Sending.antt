@@ -1,6 +1,8 @@
 -- What a walk is lent, and what it answers, may be shared by threads.
-use denote.Param.Send.{IsSync, sendable}
+use denote.Param.Send.{IsSync, sendable, struct_sync}
 use denote.Ref.{NamedLft}
+use denote.Struct.Declared.{shape}
+use denote.Struct.Struct.{Struct}
 use Rattle.std.proofs.Crossing.{crosses}
 use Rattle.std.proofs.MapsCrossing.{BTreeMap-sync}
 use Rattle.label_base.proofs.Sending.{bytes_sync, row_sync}
@@ -21,18 +23,24 @@ stored_sync = search (sendable, crosses, bytes_sync, BTreeMap-sync) depth 60
 pub input_sync : (κ : NamedLft) → IsSync (WalkInput.the_row κ)
 input_sync κ = search (sendable, crosses, row_sync, path_sync, tree_sync, selected_sync, rules_sync, stored_sync) depth 60
 
-noted_sync : IsSync Noted.the_row
-noted_sync = search (sendable, crosses) depth 40
+-- a field's row is that of the field, where its type is an enum, is copied or has a drop of its own
+input_field : (κ : NamedLft) → IsSync (WalkInput.the_field κ).row
+input_field κ = search (sendable, crosses, row_sync, path_sync, tree_sync, selected_sync, rules_sync, stored_sync) depth 60
 
--- an enum's row is that of its field
-skip_sync : IsSync (Skip.the_field).row
-skip_sync = search (sendable, crosses) depth 40
+noted_field : IsSync (Noted.the_field).row
+noted_field = search (sendable, crosses) depth 40
 
-passed_sync : IsSync Passed.the_row
-passed_sync = search (sendable, crosses, skip_sync, BTreeMap-sync) depth 60
+skip_field : IsSync (Skip.the_field).row
+skip_field = search (sendable, crosses) depth 40
+
+passed_field : IsSync (Passed.the_field).row
+passed_field = search (sendable, crosses, skip_field, BTreeMap-sync) depth 60
+
+walked_fields : (κ : NamedLft) → IsSync (Struct (shape (Walked.the_type κ)))
+walked_fields κ = struct_sync (shape (Walked.the_type κ)) (input_field κ, (noted_field, (passed_field, tt)))
 
 pub walked_sync : (κ : NamedLft) → IsSync (Walked.the_row κ)
-walked_sync κ = search (sendable, crosses, input_sync, noted_sync, passed_sync) depth 40
+walked_sync κ = search (sendable, walked_fields) depth 20
 
 pub digests_sync : (κ ι : NamedLft) → IsSync (Digests.the_row κ ι)
 digests_sync κ ι = search (sendable, crosses, walked_sync) depth 40

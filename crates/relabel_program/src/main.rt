@@ -18,6 +18,7 @@ use std::alloc::Global;
 use std::env::VarError;
 use std::io::ErrorKind;
 use std::process::ExitCode;
+use std::thread::Threads;
 use std::{env, io, thread};
 
 /// The variable that names the file to which the name of the customizable types leads.
@@ -61,7 +62,7 @@ fn types_named(rt: &HostRuntime) -> Result<String, u8> {
 }
 
 // The number of processors, or 1 where it can't be told.
-fn cores_of(rt: &HostRuntime) -> u32 {
+fn cores_of(rt: &impl Threads) -> u32 {
     match thread::available_parallelism(rt) {
         Ok(cores) => u32::try_from(cores.get()).unwrap_or(1),
         Err(_) => 1,

@@ -4,8 +4,8 @@ use Rattle.relabel_core.specs.Report.{text_below, unflagged_line}
 use Rattle.relabel_core.proofs.ReportLemmas.{none_written, unmatched_text}
 use Rattle.relabel_core.proofs.walked.Walked.add_unmatched.Goals as goal
 
-pub returns-then-not-walked : goal.returns-then-not-walked
-returns-then-not-walked c = rw (c.if-not-self.true) (none_written c.args.to.now)
+pub returns-then-not-self : goal.returns-then-not-walked
+returns-then-not-self c = rw (c.if-not-self.true) (none_written c.args.to.now)
 
 pub returns : goal.returns
 returns c =
