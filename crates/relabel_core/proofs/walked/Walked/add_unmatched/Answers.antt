@@ -4,7 +4,7 @@ use Rattle.relabel_core.specs.Report.{text_below, unflagged_line}
 use Rattle.relabel_core.proofs.ReportLemmas.{none_written, unmatched_text}
 use Rattle.relabel_core.proofs.walked.Walked.add_unmatched.Goals as goal
 
-pub returns-then-not-self : goal.returns-then-not-walked
+pub returns-then-not-self : goal.returns-then-not-self
 returns-then-not-self c = rw (c.if-not-self.true) (none_written c.args.to.now)
 
 pub returns : goal.returns
