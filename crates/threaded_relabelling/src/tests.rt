@@ -4,6 +4,7 @@ ghost use Rattle.tree_relabelling.specs.declared.letters.TheConstants.{MOST_WORK
 use crate::{ByWorkers, Workers, workers_for};
 use input_output::{MemSink, MemSource, MemStore};
 use label_base::{Bytes, Fault, OutOfMemory, Row};
+use policy_files::CUSTOMIZABLE_TYPES;
 use run_faults::Outcome;
 use std::alloc::Global;
 use std::sync::Wait;
@@ -64,6 +65,7 @@ fn run_by<R: Threads + Wait + Sync>(rt: &R, alloc: Global, count: u32) -> Result
     };
     let mut store = MemStore::new(alloc, Row::new(alloc));
     store.put(alloc, "fc", SPECS)?;
+    store.put(alloc, CUSTOMIZABLE_TYPES, b"public_content_t\n")?;
     let mut input = MemSource::new(Bytes::copy_of(alloc, RECORDS)?, 1000, Row::new(alloc));
     let mut out = MemSink::new(alloc, 1000, Row::new(alloc));
     let outcome = run_words(alloc, Ok(by), &mut store, &mut input, &mut out);
