@@ -170,18 +170,6 @@ fn add_unflagged(
     Ok(())
 }
 
-// The lines of the specifications that decide no entry.
-fn add_unmatched(alloc: Global, walked: &Walked<'_>, to: &mut Bytes) -> Result<(), OutOfMemory>
-    ensures { OnOk result (to.new ≡ to.old ++ report_of (unmatched_lines (walk_in walked.now))) }
-{
-    if !walked.input.options.warn_unmatched {
-        return Ok(());
-    }
-    let flags = flags_of(alloc, walked)?;
-    add_unflagged(alloc, walked.input.rules, flags.as_slice(), to)?;
-    Ok(())
-}
-
 impl<'a> Walked<'a> {
     /// Adds at the end the line of an entry, if it has one.
     pub fn add_entry(&self, alloc: Global, e: u32, to: &mut Bytes) -> Result<(), OutOfMemory>
@@ -191,15 +179,36 @@ impl<'a> Walked<'a> {
         add_message(alloc, &self.message_at(e), to)
     }
 
+    /// Adds at the end the lines of the operands without an entry, unless these are ignored: they stand before those of the
+    /// entries.
+    pub fn add_absent(&self, alloc: Global, to: &mut Bytes) -> Result<(), OutOfMemory>
+        ensures { OnOk result (to.new ≡ to.old ++ report_of (absent_lines (walk_in self.now))) }
+    {
+        add_absent(alloc, &self.input, to)
+    }
+
+    /// Adds at the end the lines of the specifications that decide no entry, where these are asked for: they stand behind
+    /// those of the entries.
+    pub fn add_unmatched(&self, alloc: Global, to: &mut Bytes) -> Result<(), OutOfMemory>
+        ensures { OnOk result (to.new ≡ to.old ++ report_of (unmatched_lines (walk_in self.now))) }
+    {
+        if !self.input.options.warn_unmatched {
+            return Ok(());
+        }
+        let flags = flags_of(alloc, self)?;
+        add_unflagged(alloc, self.input.rules, flags.as_slice(), to)?;
+        Ok(())
+    }
+
     /// Adds the lines of all messages at the end: those of the operands without an entry, those of the entries in the order
     /// of their paths, and those of the specifications that decide no entry. After want of memory a front of them may have
     /// been added.
     pub fn add_report(&self, alloc: Global, to: &mut Bytes) -> Result<(), OutOfMemory>
         ensures { OnOk result (to.new ≡ to.old ++ report_of (messages (walk_in self.now))) }
     {
-        add_absent(alloc, &self.input, to)?;
+        self.add_absent(alloc, to)?;
         add_entries(alloc, self, to)?;
-        add_unmatched(alloc, self, to)?;
+        self.add_unmatched(alloc, to)?;
         Ok(())
     }
 }

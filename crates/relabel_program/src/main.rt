@@ -18,7 +18,8 @@ use std::alloc::Global;
 use std::env::VarError;
 use std::io::ErrorKind;
 use std::process::ExitCode;
-use std::{env, io};
+use std::thread::Threads;
+use std::{env, io, thread};
 
 /// The variable that names the file to which the name of the customizable types leads.
 const TYPES_VARIABLE: &str = "RELABEL_CUSTOMIZABLE_TYPES";
@@ -60,6 +61,14 @@ fn types_named(rt: &HostRuntime) -> Result<String, u8> {
     }
 }
 
+// The number of processors, or 1 where it can't be told.
+fn cores_of(rt: &impl Threads) -> u32 {
+    match thread::available_parallelism(rt) {
+        Ok(cores) => u32::try_from(cores.get()).unwrap_or(1),
+        Err(_) => 1,
+    }
+}
+
 fn main(rt: HostRuntime) -> ExitCode {
     let alloc = rt.alloc();
     let words = match words_of(alloc, &rt) {
@@ -73,6 +82,14 @@ fn main(rt: HostRuntime) -> ExitCode {
     let mut store = FileStore::redirected(&rt, CUSTOMIZABLE_TYPES, types.as_str());
     let mut input = ReadSource::new(rt.reader());
     let mut out = WriteSink::new(io::writer(&rt));
-    let outcome = top(alloc, words.as_slice(), 1, &mut store, &mut input, &mut out);
+    let outcome = top(
+        &rt,
+        alloc,
+        words.as_slice(),
+        cores_of(&rt),
+        &mut store,
+        &mut input,
+        &mut out,
+    );
     ExitCode::from(outcome.status)
 }

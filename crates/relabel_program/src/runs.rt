@@ -1,6 +1,7 @@
-ghost use Rattle.std.specs.Prelude.{◌≡◌, ◌+◌, ◌<◌, ◌^◌, Err, Option, Some, length};
-ghost use Rattle.label_base.specs.Answers.{cause_of};
+ghost use Rattle.std.specs.Prelude.{◌≡◌, ◌+◌, ◌<◌, ◌^◌, Err, IfOk, Ok, Option, Result, Some, length};
+ghost use Rattle.label_base.specs.Answers.{Answers, cause_of};
 ghost use Rattle.tool_words.specs.Words.{usage, word_texts};
+ghost use Rattle.tool_words.specs.declared.usage.Usage.{Usage};
 ghost use Rattle.tool_words.specs.declared.usage.UsageWhy.TheVariants.{UnknownTool};
 ghost use Rattle.run_faults.specs.Faults.{status_of};
 ghost use Rattle.tool_runs.specs.Plan.{is_soft_in, planned};
@@ -8,6 +9,7 @@ ghost use Rattle.tool_runs.specs.Complete.{Complete};
 ghost use Rattle.tool_runs.specs.Run.{Run};
 ghost use Rattle.tree_relabelling.specs.Plan.{relabel_plan};
 ghost use Rattle.tree_relabelling.specs.Words.{restorecon_words, setfiles_words};
+ghost use Rattle.tree_relabelling.specs.declared.words.RelabelWords.{RelabelWords};
 ghost use Rattle.path_lookups.specs.Plan.{lookup_plan};
 ghost use Rattle.path_lookups.specs.Words.{lookup_words};
 ghost use Rattle.home_contexts.specs.Asked.{homes_words};
@@ -26,9 +28,12 @@ use policy_rehearsal::{REHEARSE_TOOL, read_rehearse};
 use run_faults::Outcome;
 use sample_tree::{SAMPLE, SampleWords, read_sample};
 use std::alloc::Global;
+use std::sync::Wait;
+use std::thread::Threads;
+use threaded_relabelling::{ByWorkers, Workers, fewest_for, workers_for};
 use tool_runs::run_words;
 use tool_words::{Usage, UsageWhy};
-use tree_relabelling::{RESTORECON, SETFILES, read_restorecon, read_setfiles};
+use tree_relabelling::{RESTORECON, RelabelWords, SETFILES, read_restorecon, read_setfiles};
 
 // The index of the first word behind a tool's name.
 const FIRST: u32 = 1;
@@ -266,12 +271,132 @@ pub fn plain<S: Store, I: Source, O: Sink>(
     run_asked(alloc, words, store, input, out)
 }
 
-/// Runs the tool that the first word names. `cores` is the number of processors; one worker does all
-/// the work.
-pub fn top<S: Store, I: Source, O: Sink>(
+// Runs setfiles or restorecon by its words, by as many workers as they ask for.
+fn run_relabelling<R: Threads + Wait + Sync, S: Store, I: Source, O: Sink>(
+    rt: &R,
+    alloc: Global,
+    words: RelabelWords,
+    cores: u32,
+    store: &mut S,
+    input: &mut I,
+    out: &mut O,
+) -> Outcome
+    requires { length words.choice.operands < 2 ^ 31 }
+    ensures status { result.status ≡ status_of words.soft_errors result.cause }
+    ensures run { Run S.files S.calls S.read_faults S.write_faults I.left I.faults O.written O.faults
+        (Ok (relabel_plan words)) store.old store.new input.old input.new
+        out.old out.new result.cause }
+{
+    let count = workers_for(words.workers, cores);
+    if count == 1 {
+        return run_words(alloc, Ok(words), store, input, out);
+    }
+    let workers = Workers::new(rt, count, fewest_for(&words.options));
+    run_words(
+        alloc,
+        Ok(ByWorkers { words, workers }),
+        store,
+        input,
+        out,
+    )
+}
+
+// Runs setfiles or restorecon by what its words were read as.
+fn run_read<R: Threads + Wait + Sync, S: Store, I: Source, O: Sink>(
+    rt: &R,
+    alloc: Global,
+    asked: Result<RelabelWords, Fault<Usage>>,
+    cores: u32,
+    store: &mut S,
+    input: &mut I,
+    out: &mut O,
+) -> Outcome
+    requires { IfOk asked (λ words. length words.choice.operands < 2 ^ 31) }
+    ensures status { (meant : Result RelabelWords Usage)
+        → Answers (λ words. words) cause_of asked meant
+        → result.status ≡ status_of (is_soft_in (planned relabel_plan meant)) result.cause }
+    ensures run { (meant : Result RelabelWords Usage)
+        → Answers (λ words. words) cause_of asked meant
+        → Run S.files S.calls S.read_faults S.write_faults I.left I.faults O.written O.faults
+        (planned relabel_plan meant) store.old store.new input.old input.new
+        out.old out.new result.cause }
+{
+    match asked {
+        Ok(words) => run_relabelling(rt, alloc, words, cores, store, input, out),
+        Err(fault) => run_words::<RelabelWords, S, I, O>(alloc, Err(fault), store, input, out),
+    }
+}
+
+// Runs a tool by the words behind its name. Those that walk a tree do so by as many workers as their words
+// ask for.
+fn run_named_by<R: Threads + Wait + Sync, S: Store, I: Source, O: Sink>(
+    rt: &R,
+    alloc: Global,
+    tool: Option<ToolName>,
+    words: &[String],
+    cores: u32,
+    store: &mut S,
+    input: &mut I,
+    out: &mut O,
+) -> Outcome
+    requires { length words.now + FIRST < 2 ^ 31 }
+    ensures status { result.status ≡ status_of (is_soft_in (asked_for tool (word_texts words.now))) result.cause }
+    ensures run { Run S.files S.calls S.read_faults S.write_faults I.left I.faults O.written O.faults
+        (asked_for tool (word_texts words.now)) store.old store.new input.old input.new
+        out.old out.new result.cause }
+{
+    match tool {
+        Some(ToolName::Setfiles) => {
+            let asked = read_setfiles(alloc, words, FIRST);
+            run_read(rt, alloc, asked, cores, store, input, out)
+        }
+        Some(ToolName::Restorecon) => {
+            let asked = read_restorecon(alloc, words, FIRST);
+            run_read(rt, alloc, asked, cores, store, input, out)
+        }
+        _ => run_named(alloc, tool, words, store, input, out),
+    }
+}
+
+// Runs the tool that the first word names, by as many workers as its words ask for.
+fn run_asked_by<R: Threads + Wait + Sync, S: Store, I: Source, O: Sink>(
+    rt: &R,
     alloc: Global,
     words: &[String],
-    _cores: u32,
+    cores: u32,
+    store: &mut S,
+    input: &mut I,
+    out: &mut O,
+) -> Outcome
+    requires { length words.now < 2 ^ 31 }
+    ensures status { result.status ≡ status_of (is_soft_in (asked_of (word_texts words.now))) result.cause }
+    ensures run { Run S.files S.calls S.read_faults S.write_faults I.left I.faults O.written O.faults
+        (asked_of (word_texts words.now)) store.old store.new input.old input.new
+        out.old out.new result.cause }
+{
+    let [word, rest @ ..] = words else {
+        return refuse_tool(alloc, store, input, out);
+    };
+    run_named_by(
+        rt,
+        alloc,
+        tool_named(word.as_str()),
+        rest,
+        cores,
+        store,
+        input,
+        out,
+    )
+}
+
+/// Runs the tool that the first word names. `cores` is the number of processors, which is the number of
+/// workers where the words ask for none; what is read and written is the same for every number. There
+/// are fewer than 2^31 words. It may wait, where several workers are asked for.
+pub fn top<R: Threads + Wait + Sync, S: Store, I: Source, O: Sink>(
+    rt: &R,
+    alloc: Global,
+    words: &[String],
+    cores: u32,
     store: &mut S,
     input: &mut I,
     out: &mut O,
@@ -286,5 +411,5 @@ pub fn top<S: Store, I: Source, O: Sink>(
         O.faults (asked_of (word_texts words.now)) store.old store.new input.old input.new out.old
         out.new result.status result.cause }
 {
-    plain(alloc, words, store, input, out)
+    run_asked_by(rt, alloc, words, cores, store, input, out)
 }

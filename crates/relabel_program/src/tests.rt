@@ -5,7 +5,9 @@ use input_output::{MemSink, MemSource, MemStore};
 use label_base::{Bytes, OutOfMemory, Row};
 use run_faults::{Cause, Outcome};
 use std::alloc::Global;
+use std::sync::Wait;
 use std::test::Fail;
+use std::thread::Threads;
 
 pub(crate) const WORDS: &[&str] = &["setfiles", "-n", "-v", "-F", "fc", "/"];
 
@@ -640,14 +642,21 @@ fn a_substitution_file_at_its_limit(rt: HostRuntime) -> Result<(), Fail> {
     Ok(())
 }
 
-// The status of the first example by the top call, or none where it wrote something else. All that is left is
-// handed to the sink at once, so there is no second call, which would fail.
-fn by_top(alloc: Global) -> Result<Option<u8>, OutOfMemory> {
+// The status of the first example by the top call with so many workers, or none where it wrote something else. All that is
+// left is handed to the sink at once, so there is no second call, which would fail.
+fn by_top<R: Threads + Wait + Sync>(
+    rt: &R,
+    alloc: Global,
+    workers: &str,
+) -> Result<Option<u8>, OutOfMemory> {
     let mut store = store_of(alloc, &[("fc", SPECS)], 0)?;
     let mut input = input_of(alloc, RECORDS, 0)?;
     let mut out = MemSink::new(alloc, 1000, failing_at(alloc, 2)?);
-    let words = words_of(alloc, WORDS)?;
-    let outcome = top(alloc, words.as_slice(), 4, &mut store, &mut input, &mut out);
+    let words = words_of(
+        alloc,
+        &["setfiles", "-n", "-v", "-F", "-T", workers, "fc", "/"],
+    )?;
+    let outcome = top(rt, alloc, words.as_slice(), 4, &mut store, &mut input, &mut out);
     if out.written() == REPORT {
         return Ok(Some(outcome.status));
     }
@@ -656,6 +665,18 @@ fn by_top(alloc: Global) -> Result<Option<u8>, OutOfMemory> {
 
 #[test]
 fn the_top_call_answers_as_the_plain_one(rt: HostRuntime) -> Result<(), Fail> {
-    assert_eq!(rt; by_top(rt.alloc())?, Some(0));
+    assert_eq!(rt; by_top(&rt, rt.alloc(), "1")?, Some(0));
+    Ok(())
+}
+
+#[test]
+fn the_top_call_answers_the_same_by_two_workers(rt: HostRuntime) -> Result<(), Fail> {
+    assert_eq!(rt; by_top(&rt, rt.alloc(), "2")?, Some(0));
+    Ok(())
+}
+
+#[test]
+fn the_top_call_answers_the_same_by_as_many_workers_as_cores(rt: HostRuntime) -> Result<(), Fail> {
+    assert_eq!(rt; by_top(&rt, rt.alloc(), "0")?, Some(0));
     Ok(())
 }

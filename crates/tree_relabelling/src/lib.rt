@@ -6,10 +6,13 @@ mod answer;
 mod found;
 mod letters;
 mod tool;
+mod walker;
 mod words;
 
+pub use answer::answer_of;
 pub use found::RelabelFiles;
 pub use letters::MOST_WORKERS;
+pub use walker::{OneWorker, Walker};
 pub use words::{RelabelWords, read_restorecon, read_setfiles};
 
 /// The name of the tool that always goes below its paths.

@@ -3,6 +3,7 @@ ghost use Rattle.tree_relabelling.specs.Plan.{stored_names};
 
 use crate::answer::answer_of;
 use crate::found::{RelabelFiles, read_found};
+use crate::walker::OneWorker;
 use crate::words::RelabelWords;
 use file_roles::{FileList, FileRole, Part};
 use find_records::Format;
@@ -76,6 +77,6 @@ impl Tool for RelabelWords {
     }
 
     fn answer(&self, alloc: Global, found: &RelabelFiles, tree: &Tree) -> Result<Ending, Cause> {
-        Ok(answer_of(alloc, self, found, tree)?)
+        Ok(answer_of(&OneWorker, alloc, self, found, tree)?)
     }
 }

@@ -1,0 +1,99 @@
+ghost use Rattle.std.specs.Prelude.{◌≡◌, ◌<◌, ◌≤◌, IfOk};
+ghost use Rattle.tree_relabelling.specs.declared.letters.TheConstants.{MOST_WORKERS};
+ghost use Rattle.report_text.specs.Texts.{report_of};
+ghost use Rattle.relabel_core.specs.Answer.{walk_in};
+ghost use Rattle.relabel_core.specs.Walk.{messages};
+ghost use Rattle.relabel_core.specs.Walked.{IsFit, walk_of};
+
+use crate::entry_texts::{add_lines, add_sections};
+use label_base::{Bytes, OutOfMemory};
+use relabel_core::{WalkInput, Walked, uses_digests};
+use relabel_workers::{OpenGate, walk_threads};
+use std::alloc::Global;
+use std::sync::Wait;
+use std::thread::Threads;
+use threaded_texts::text_for;
+use tree_relabelling::{OneWorker, Walker};
+
+/// So many workers, of whom one alone works where a tree has too few entries.
+#[derive(Drop)]
+pub struct Workers<'r, R: Threads + Wait + Sync> {
+    rt: &'r R,
+    count: u32,
+    // The fewest entries for which several work.
+    fewest: u32,
+    ghost some: { 0 < count },
+    ghost few: { count ≤ MOST_WORKERS },
+}
+
+impl<'r, R: Threads + Wait + Sync> Workers<'r, R> {
+    /// So many workers, who work for a tree of at least so many entries.
+    pub fn new(rt: &'r R, count: u32, fewest: u32) -> Workers<'r, R>
+        requires some { 0 < count }
+        requires few { count ≤ MOST_WORKERS }
+    {
+        Workers { rt, count, fewest }
+    }
+
+    // How many work for a tree of so many entries.
+    fn count_for(&self, entries: u32) -> u32 {
+        if entries < self.fewest {
+            return 1;
+        }
+        self.count
+    }
+}
+
+// Walks over a tree by so many workers.
+fn walk_shared<'a, R: Threads + Wait + Sync>(
+    rt: &R,
+    alloc: Global,
+    input: &WalkInput<'a>,
+    workers: u32,
+) -> Result<Walked<'a>, OutOfMemory>
+    requires fit { IsFit input.now }
+    requires some { 0 < workers }
+    requires few { workers ≤ MOST_WORKERS }
+    ensures { IfOk result (λ walked. walk_in walked ≡ walk_of input.now) }
+{
+    let (walked, _) = walk_threads(rt, alloc, input, workers, &OpenGate)?;
+    Ok(walked)
+}
+
+// The report of a walk, whose lines so many workers make.
+fn report_by<R: Threads + Sync>(
+    rt: &R,
+    alloc: Global,
+    walked: &Walked<'_>,
+    workers: u32,
+) -> Result<Bytes, OutOfMemory>
+    ensures { IfOk result (λ report. report ≡ report_of (messages (walk_in walked.now))) }
+{
+    let mut before = text_for(alloc, walked.len());
+    walked.add_absent(alloc, &mut before)?;
+    let mut report = add_lines(rt, alloc, walked, workers, before)?;
+    walked.add_unmatched(alloc, &mut report)?;
+    Ok(report)
+}
+
+impl<'r, R: Threads + Wait + Sync> Walker for Workers<'r, R> {
+    // Workers take the directories of a queue as they come, so one after the other is seldom near the last in the tree, by
+    // which one worker saves most of a look-up. That pays where digests are made.
+    fn walk<'a>(&self, alloc: Global, input: &WalkInput<'a>) -> Result<Walked<'a>, OutOfMemory> {
+        let workers = self.count_for(input.tree.len());
+        if workers == 1 || !uses_digests(&input.options) {
+            return OneWorker.walk(alloc, input);
+        }
+        walk_shared(self.rt, alloc, input, workers)
+    }
+
+    fn report(&self, alloc: Global, walked: &Walked<'_>) -> Result<Bytes, OutOfMemory> {
+        report_by(self.rt, alloc, walked, self.count_for(walked.len()))
+    }
+
+    fn dump(&self, alloc: Global, walked: &Walked<'_>) -> Result<Bytes, OutOfMemory> {
+        let digests = walked.digests(alloc)?;
+        let room = text_for(alloc, walked.len());
+        add_sections(self.rt, alloc, &digests, self.count_for(walked.len()), room)
+    }
+}

@@ -1,0 +1,138 @@
+ghost use Rattle.std.specs.Prelude.{◌≡◌, ◌+◌, ◌<◌, ◌≤◌, ◌^◌, ◌++◌, [], IfOk};
+ghost use Rattle.std.specs.Thread.{IsSync};
+ghost use Rattle.threaded_texts.specs.Stretch.{share_of, stretch};
+
+use crate::texts::Texts;
+use label_base::{Bytes, OutOfMemory};
+use std::alloc::Global;
+use std::thread::{Threads, join};
+
+// About as many bytes as a text has.
+const TEXT_ROOM: usize = 64;
+
+/// An empty text, with room for so many if there is: a text that grows step by step leaves its earlier places behind.
+pub fn text_for(alloc: Global, texts: u32) -> Bytes
+    ensures { result ≡ [] }
+{
+    match Bytes::with_capacity(alloc, texts as usize * TEXT_ROOM) {
+        Ok(text) => text,
+        Err(_) => Bytes::new(alloc),
+    }
+}
+
+// Adds so many texts, one after the other.
+fn add_stretch<T: Texts>(
+    alloc: Global,
+    texts: &T,
+    first: u32,
+    count: u32,
+    mut to: Bytes,
+) -> Result<Bytes, OutOfMemory>
+    requires within { first + count ≤ T.count texts.now }
+    requires few { first + count < 2 ^ 32 }
+    ensures { IfOk result (λ made. made ≡ to ++ stretch (T.text texts.now) first count) }
+{
+    let mut buffer = Bytes::new(alloc);
+    'texts: for i in 0..count {
+        texts.add(alloc, first + i, &mut buffer, &mut to)?;
+    }
+    Ok(to)
+}
+
+// How many of so many texts fall to some of the workers.
+#[tactic(auto, using(crate::proofs::StretchLemmas::share_within))]
+fn share_of(count: u32, workers: u32, some: u32) -> u32
+    requires workers { 0 < workers }
+    requires some { some ≤ workers }
+    ensures value { result ≡ share_of count workers some }
+    ensures within { result ≤ count }
+{
+    count / workers * some
+}
+
+// Adds so many texts, by two halves of the workers at once.
+#[cycle(stretches)]
+fn add_halves<R: Threads + Sync, T: Texts + Sync>(
+    rt: &R,
+    alloc: Global,
+    texts: &T,
+    first: u32,
+    count: u32,
+    workers: u32,
+    to: Bytes,
+) -> Result<Bytes, OutOfMemory>
+    requires within { first + count ≤ T.count texts.now }
+    requires few { first + count < 2 ^ 32 }
+    requires workers { 1 < workers }
+    ensures { IfOk result (λ made. made ≡ to ++ stretch (T.text texts.now) first count) }
+{
+    let behind = workers / 2;
+    let ahead = workers - behind;
+    let back = share_of(count, workers, behind);
+    let front = count - back;
+    let middle = first + front;
+    let (made_behind, made) = join(
+        rt,
+        || -> Result<Bytes, OutOfMemory>
+            requires { IsSync R.row × IsSync T.row × (middle + back ≤ T.count texts.now)
+                × (middle + back < 2 ^ 32) }
+            ensures { IfOk result (λ made. made ≡ stretch (T.text texts.entry.now) middle back) }
+        {
+            add_stretches(
+                rt,
+                alloc,
+                texts,
+                middle,
+                back,
+                behind,
+                text_for(alloc, back),
+            )
+        },
+        || -> Result<Bytes, OutOfMemory>
+            requires { IsSync R.row × IsSync T.row × (first + front ≤ T.count texts.now)
+                × (first + front < 2 ^ 32) }
+            ensures { IfOk result (λ made.
+                made ≡ to ++ stretch (T.text texts.entry.now) first front) }
+        { add_stretches(rt, alloc, texts, first, front, ahead, to) },
+    );
+    let mut made = made?;
+    made.push(made_behind?.as_slice())?;
+    Ok(made)
+}
+
+// Adds so many texts, by so many workers at once.
+#[cycle(stretches)]
+fn add_stretches<R: Threads + Sync, T: Texts + Sync>(
+    rt: &R,
+    alloc: Global,
+    texts: &T,
+    first: u32,
+    count: u32,
+    workers: u32,
+    to: Bytes,
+) -> Result<Bytes, OutOfMemory>
+    requires within { first + count ≤ T.count texts.now }
+    requires few { first + count < 2 ^ 32 }
+    ensures { IfOk result (λ made. made ≡ to ++ stretch (T.text texts.now) first count) }
+{
+    if workers < 2 {
+        return add_stretch(alloc, texts, first, count, to);
+    }
+    add_halves(rt, alloc, texts, first, count, workers, to)
+}
+
+/// Adds so many texts at the end of one, in the order of their numbers, by so many workers at once: each makes a stretch of
+/// them. Where no thread can be started, one after the other makes its own. It fails for want of memory alone.
+pub fn add_texts<R: Threads + Sync, T: Texts + Sync>(
+    rt: &R,
+    alloc: Global,
+    texts: &T,
+    count: u32,
+    workers: u32,
+    to: Bytes,
+) -> Result<Bytes, OutOfMemory>
+    requires { count ≤ T.count texts.now }
+    ensures { IfOk result (λ made. made ≡ to ++ stretch (T.text texts.now) 0 count) }
+{
+    add_stretches(rt, alloc, texts, 0, count, workers, to)
+}
