@@ -6,10 +6,12 @@
 #include <dlfcn.h>
 #include <errno.h>
 #include <fcntl.h>
+#include <pthread.h>
 #include <stdarg.h>
 #include <stdio.h>
 #include <stdlib.h>
 #include <string.h>
+#include <sys/mman.h>
 #include <sys/types.h>
 #include <unistd.h>
 
@@ -42,8 +44,7 @@ __attribute__((destructor)) static void end(void) {
 
 static int fails(const char *call, int fd) {
     if (!ready || strcmp(call, name) != 0 || (only >= 0 && fd != only)) return 0;
-    count += 1;
-    if (count != at) return 0;
+    if (__atomic_add_fetch(&count, 1, __ATOMIC_SEQ_CST) != at) return 0;
     errno = error;
     return 1;
 }
@@ -99,3 +100,14 @@ void *malloc(size_t size) { return fails("malloc", -1) ? NULL : __libc_malloc(si
 void *realloc(void *old, size_t size) {
     return fails("malloc", -1) ? NULL : __libc_realloc(old, size);
 }
+
+/* A thread that isn't started is told by the answer, not by errno. */
+int pthread_create(pthread_t *thread, const pthread_attr_t *how, void *(*run)(void *), void *with) {
+    REAL(int, pthread_create, pthread_t *, const pthread_attr_t *, void *(*)(void *), void *);
+    return fails("thread", -1) ? error : real(thread, how, run, with);
+}
+void *mmap(void *where, size_t size, int access, int flags, int fd, off_t from) {
+    REAL(void *, mmap, void *, size_t, int, int, int, off_t);
+    return fails("mmap", -1) ? MAP_FAILED : real(where, size, access, flags, fd, from);
+}
+void *mmap64(void *, size_t, int, int, int, off_t) __attribute__((alias("mmap")));
