@@ -1,18 +1,37 @@
 use Rattle.std.proofs.Common.{[], length}
+use Rattle.std.specs.Prelude.{codes}
 use Rattle.std.specs.Prelude.{IfOk}
 use Rattle.std.proofs.lemmas.Result.{IfOk-at_ok}
-use denote.Param.Send.{sendable}
-use Rattle.std.proofs.Crossing.{crosses}
+use denote.Param.Send.{AllSend, IsSend, param_send, sendable, shr_send}
+use denote.Param.{param}
+use denote.Struct.Tuple.{TupleAt}
+use denote.RattleType.{RattleType}
+use denote.Ref.{ShrRef}
+use denote.Struct.Field.{u32-field}
+use mathlib.Core.List.{List, ◌∷◌}
+use mir.Syntax.{named}
+use Rattle.std.specs.contracts.alloc.Global as Global
+use Rattle.file_paths.proofs.Sending.{path_sync}
+use Rattle.file_paths.specs.contracts.path.NormPath as NormPath
+use Rattle.tree_model.proofs.Sending.{selected_sync, tree_sync}
+use Rattle.tree_model.specs.contracts.tree.Tree as Tree
+use Rattle.tree_model.specs.contracts.selection.Selected as Selected
+use Rattle.label_rules.proofs.Sending.{rules_sync}
+use Rattle.label_rules.specs.contracts.rules.Rules as Rules
+use Rattle.relabel_core.proofs.Sending.{stored_sync}
+use Rattle.relabel_core.specs.contracts.options.Options as Options
+use Rattle.relabel_core.specs.contracts.stored.Stored as Stored
+use Rattle.label_base.specs.contracts.row.Row as Row
+use Rattle.dir_queue.specs.contracts.queue.DirQueue as DirQueue
+use Rattle.inode_claims.specs.contracts.claims.Claims as Claims
+use Rattle.relabel_workers.specs.contracts.hands.Hands as HandsType
+use Rattle.std.proofs.Crossing.{crosses, sync}
 use Rattle.dir_queue.proofs.Sending.{queue_sync}
 use Rattle.label_base.proofs.Sending.{row_sync}
-use Rattle.file_paths.proofs.Sending.{path_sync}
-use Rattle.tree_model.proofs.Sending.{selected_sync, tree_sync}
-use Rattle.label_rules.proofs.Sending.{rules_sync}
-use Rattle.relabel_core.proofs.Sending.{stored_sync}
 use Rattle.relabel_core.specs.Walked.{walk_of}
 use Rattle.relabel_workers.specs.Held.{AreDone, AreHandsOf, StandFor}
 use Rattle.relabel_workers.specs.declared.hands.Hands.{Hands}
-use Rattle.relabel_workers.proofs.Sending.{claims_sync, hands_send}
+use Rattle.relabel_workers.proofs.Sending.{captures_send, claims_sync, hands_send, options_sync, word_sync}
 use Rattle.relabel_workers.proofs.HandsLemmas.{claims_both, queue_both}
 use Rattle.relabel_workers.proofs.crew.+rows.Goals as goal
 
@@ -21,7 +40,12 @@ run_both-join-mine-requires-send-A g t c κs within = search (sendable, crosses,
 
 pub run_both-join-mine-requires-send-F : goal.run_both-join-mine-requires-send-F
 run_both-join-mine-requires-send-F g t c κs within =
-    search (sendable, crosses, hands_send, path_sync, row_sync, tree_sync, selected_sync, rules_sync, stored_sync, claims_sync, queue_sync) depth 20
+    
+    let lent : List RattleType = ShrRef (named 6) κs.1.1.1.1.1.1.0 Tree.the_row ∷ ShrRef (named 7) κs.1.1.1.1.1.1.1.0 Selected.the_row ∷ ShrRef (named 8) κs.1.1.1.1.1.1.1.1.0 (Row.the_row NormPath.the_row) ∷ ShrRef (named 9) κs.1.1.1.1.1.1.1.1.1.0 Rules.the_row ∷ ShrRef (named 10) κs.1.1.1.1.1.1.1.1.1.1.0 Options.the_row ∷ ShrRef (named 11) κs.1.1.1.1.1.1.1.1.1.1.1.0 Stored.the_row ∷ ShrRef (named 12) κs.1.1.1.1.1.1.1.1.1.1.1.1.0 (param 0 g.row.R) ∷ ShrRef (named 13) κs.1.1.1.1.1.1.1.1.1.1.1.1.1.0 Global.the_row ∷ ShrRef (named 14) κs.1.1.1.1.1.1.1.1.1.1.1.1.1.1.0 DirQueue.the_row ∷ ShrRef (named 15) κs.1.1.1.1.1.1.1.1.1.1.1.1.1.1.1.0 Claims.the_row ∷ ShrRef (named 16) κs.1.1.1.1.1.1.1.1.1.1.1.1.1.1.1.1.0 (param 1 g.row.G) ∷ ShrRef (named 17) κs.1.1.1.1.1.1.1.1.1.1.1.1.1.1.1.1.1.0 (u32-field).row ∷ HandsType.the_row ∷ [] in
+    let each : AllSend lent = (shr_send _ _ _ tree_sync, (shr_send _ _ _ selected_sync, (shr_send _ _ _ (row_sync NormPath.the_row path_sync), (shr_send _ _ _ rules_sync, (shr_send _ _ _ options_sync, (shr_send _ _ _ stored_sync, (shr_send _ _ _ c.requires-raw.1.1.1.0, (shr_send _ _ _ sync, (shr_send _ _ _ queue_sync, (shr_send _ _ _ claims_sync, (shr_send _ _ _ c.requires-raw.1.1.1.1.0, (shr_send _ _ _ word_sync, (hands_send, tt))))))))))))) in
+    let T = TupleAt (codes "relabel_workers::crew::fn::run_both::join+arg2") lent in
+    let whole : IsSend T = captures_send (codes "relabel_workers::crew::fn::run_both::join+arg2") lent each in
+    record { owned = whole.owned; leaving = (param_send 1 T whole).leaving }
 
 pub run_all-run_both-requires-clause-next_done : goal.run_all-run_both-requires-clause-next_done
 run_all-run_both-requires-clause-next_done g t c κs within = c.in-Some.ensures.done (walk_of c.args.input.now)
