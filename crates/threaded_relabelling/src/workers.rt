@@ -77,6 +77,10 @@ fn report_by<R: Threads + Sync>(
 }
 
 impl<'r, R: Threads + Wait + Sync> Walker for Workers<'r, R> {
+    ghost use Rattle.std.specs.Thread.{IsSync};
+
+    ghost IsReady = { λ workers. IsSync R.row };
+
     // Workers take the directories of a queue as they come, so one after the other is seldom near the last in the tree, by
     // which one worker saves most of a look-up. That pays where digests are made.
     fn walk<'a>(&self, alloc: Global, input: &WalkInput<'a>) -> Result<Walked<'a>, OutOfMemory> {

@@ -1,0 +1,12 @@
+use Rattle.std.proofs.Common.{◌∙◌, ap, ◌++◌}
+use Rattle.std.proofs.lemmas.Result.{IfOk-weaker}
+use Rattle.setfattr_dump.specs.Texts.{dump_text}
+use Rattle.relabel_core.specs.Changes.{changes}
+use Rattle.relabel_core.specs.Digests.{walk_before}
+use Rattle.threaded_relabelling.proofs.workers.WorkersWalker.dump.Goals as goal
+
+pub returns : goal.returns
+returns g c =
+    IfOk-weaker _ _ _ (λ made m. m
+    ∙ ap (λ t. t ++ dump_text (changes (walk_before c.in_ok-digests.digests))) c.text_for-room.ensures
+    ∙ ap (λ w. dump_text (changes w)) c.in_ok-digests.ensures) c.add_sections.ensures
