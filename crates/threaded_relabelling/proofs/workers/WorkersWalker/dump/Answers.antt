@@ -1,12 +1,7 @@
-use Rattle.std.proofs.Common.{◌∙◌, ap, ◌++◌}
-use Rattle.std.proofs.lemmas.Result.{IfOk-weaker}
-use Rattle.setfattr_dump.specs.Texts.{dump_text}
-use Rattle.relabel_core.specs.Changes.{changes}
-use Rattle.relabel_core.specs.Digests.{walk_before}
 use Rattle.threaded_relabelling.proofs.workers.WorkersWalker.dump.Goals as goal
 
-pub returns : goal.returns
-returns g c =
-    IfOk-weaker _ _ _ (λ made m. m
-    ∙ ap (λ t. t ++ dump_text (changes (walk_before c.in_ok-digests.digests))) c.text_for-room.ensures
-    ∙ ap (λ w. dump_text (changes w)) c.in_ok-digests.ensures) c.add_sections.ensures
+pub count_for-requires-sync-R : goal.count_for-requires-sync-R
+count_for-requires-sync-R g c κs within = c.requires
+
+pub dump_by-requires-sync-R : goal.dump_by-requires-sync-R
+dump_by-requires-sync-R g c κs within = c.requires
