@@ -17,3 +17,7 @@ workers_for asked cores = if asked == 0 then within cores else within asked
 -- the fewest entries for which several workers are quicker than one
 abbrev pub fewest_for : Options → ℕ
 fewest_for options = if uses_digests options then FEWEST_WITH_DIGESTS else FEWEST
+
+-- how many of so many work for a tree of so many entries
+abbrev pub count_for : (count fewest entries : ℕ) → ℕ
+count_for count fewest entries = if nat_lt entries fewest then 1 else count

@@ -31,6 +31,7 @@ impl<R: Threads + Wait + Sync> Drop for ByWorkers<'_, R> {
 
 impl<'r, R: Threads + Wait + Sync> Tool for ByWorkers<'r, R> {
     ghost use Rattle.std.specs.Prelude.{◌<◌, ◌^◌, Ok, Some, length};
+    ghost use Rattle.std.specs.Thread.{IsSync};
     ghost use Rattle.tree_relabelling.specs.Answer.{answer_of};
     ghost use Rattle.tree_relabelling.specs.Found.{found_for};
     ghost use Rattle.tree_relabelling.specs.Plan.{relabel_names};
@@ -47,7 +48,7 @@ impl<'r, R: Threads + Wait + Sync> Tool for ByWorkers<'r, R> {
 
     ghost files_say = { λ by. found_for by.words (relabel_names by.words) };
 
-    ghost IsFit = { λ by. length by.words.choice.operands < 2 ^ 31 };
+    ghost IsFit = { λ by. (length by.words.choice.operands < 2 ^ 31) × IsSync R.row };
 
     ghost answered = { λ by found entries. Ok (answer_of by.words found entries) };
 

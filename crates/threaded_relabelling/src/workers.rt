@@ -1,6 +1,9 @@
 ghost use Rattle.std.specs.Prelude.{◌≡◌, ◌<◌, ◌≤◌, IfOk};
 ghost use Rattle.tree_relabelling.specs.declared.letters.TheConstants.{MOST_WORKERS};
 ghost use Rattle.report_text.specs.Texts.{report_of};
+ghost use Rattle.setfattr_dump.specs.Texts.{dump_text};
+ghost use Rattle.relabel_core.specs.Changes.{changes};
+ghost use Rattle.threaded_relabelling.specs.Counts.{count_for};
 ghost use Rattle.relabel_core.specs.Answer.{walk_in};
 ghost use Rattle.relabel_core.specs.Walk.{messages};
 ghost use Rattle.relabel_core.specs.Walked.{IsFit, walk_of};
@@ -36,7 +39,12 @@ impl<'r, R: Threads + Wait + Sync> Workers<'r, R> {
     }
 
     // How many work for a tree of so many entries.
-    fn count_for(&self, entries: u32) -> u32 {
+    fn count_for(&self, entries: u32) -> u32
+        ensures value { result ≡ count_for self.now.count self.now.fewest entries }
+        ensures some { 0 < result }
+        ensures few { result ≤ MOST_WORKERS }
+    {
+        let _ = &self.count;
         if entries < self.fewest {
             return 1;
         }
@@ -76,7 +84,26 @@ fn report_by<R: Threads + Sync>(
     Ok(report)
 }
 
+// The dump of a walk, whose sections so many workers make.
+fn dump_by<R: Threads + Sync>(
+    rt: &R,
+    alloc: Global,
+    walked: &Walked<'_>,
+    workers: u32,
+) -> Result<Bytes, OutOfMemory>
+    ensures { IfOk result (λ dump. dump ≡ dump_text (changes (walk_in walked.now))) }
+{
+    let digests = walked.digests(alloc)?;
+    let room = text_for(alloc, walked.len());
+    let dump = add_sections(rt, alloc, &digests, workers, room)?;
+    Ok(dump)
+}
+
 impl<'r, R: Threads + Wait + Sync> Walker for Workers<'r, R> {
+    ghost use Rattle.std.specs.Thread.{IsSync};
+
+    ghost IsReady = { λ workers. IsSync R.row };
+
     // Workers take the directories of a queue as they come, so one after the other is seldom near the last in the tree, by
     // which one worker saves most of a look-up. That pays where digests are made.
     fn walk<'a>(&self, alloc: Global, input: &WalkInput<'a>) -> Result<Walked<'a>, OutOfMemory> {
@@ -92,8 +119,6 @@ impl<'r, R: Threads + Wait + Sync> Walker for Workers<'r, R> {
     }
 
     fn dump(&self, alloc: Global, walked: &Walked<'_>) -> Result<Bytes, OutOfMemory> {
-        let digests = walked.digests(alloc)?;
-        let room = text_for(alloc, walked.len());
-        add_sections(self.rt, alloc, &digests, self.count_for(walked.len()), room)
+        dump_by(self.rt, alloc, walked, self.count_for(walked.len()))
     }
 }

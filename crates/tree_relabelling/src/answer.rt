@@ -33,6 +33,7 @@ fn saved_by<W: Walker>(
     output: &Name,
     walked: &Walked<'_>,
 ) -> Result<Saved, OutOfMemory>
+    requires { W.IsReady walker.now }
     ensures { IfOk result (λ saved. saved ≡ record {
       name = output.now;
       text = dump_text (changes (walk_in walked.now));
@@ -51,6 +52,7 @@ fn saved_as<W: Walker>(
     output: &Option<Name>,
     walked: &Walked<'_>,
 ) -> Result<Option<Saved>, OutOfMemory>
+    requires { W.IsReady walker.now }
     ensures { IfOk result (λ saved. saved
         ≡ saved_as output.now (dump_text (changes (walk_in walked.now)))) }
 {
@@ -67,6 +69,7 @@ fn ending_of<W: Walker>(
     output: &Option<Name>,
     walked: &Walked<'_>,
 ) -> Result<Ending, OutOfMemory>
+    requires { W.IsReady walker.now }
     ensures { IfOk result (λ ending. ending ≡ ending_of output.now (walk_in walked.now)) }
 {
     let report = walker.report(alloc, walked)?;
@@ -85,7 +88,8 @@ fn ending_over<W: Walker>(
     output: &Option<Name>,
     input: &WalkInput<'_>,
 ) -> Result<Ending, OutOfMemory>
-    requires { IsFit input.now }
+    requires ready { W.IsReady walker.now }
+    requires fit { IsFit input.now }
     ensures { IfOk result (λ ending. ending ≡ ending_of output.now (walk_of input.now)) }
 {
     let walked = walker.walk(alloc, input)?;
@@ -101,6 +105,7 @@ fn ending_stored<W: Walker>(
     tree: &Tree,
     stored: &Stored,
 ) -> Result<Ending, OutOfMemory>
+    requires ready { W.IsReady walker.now }
     requires tree { length tree.now < 2 ^ 31 }
     requires words { length words.now.choice.operands < 2 ^ 31 }
     requires format { AreOf words.now.options.format tree.now }
@@ -130,6 +135,7 @@ pub fn answer_of<W: Walker>(
     found: &RelabelFiles,
     tree: &Tree,
 ) -> Result<Ending, OutOfMemory>
+    requires ready { W.IsReady walker.now }
     requires tree { length tree.now < 2 ^ 31 }
     requires words { length words.now.choice.operands < 2 ^ 31 }
     requires format { AreOf words.now.options.format tree.now }

@@ -16,17 +16,23 @@ use threaded_texts::text_for;
 /// Who walks, and makes the texts of a walk: one worker, or several. What is found and made is the
 /// same.
 pub trait Walker {
+    /// What it works by may be shared, where that is needed.
+    ghost IsReady: { Self → Type 0 };
+
     /// Walks over a tree.
     fn walk<'a>(&self, alloc: Global, input: &WalkInput<'a>) -> Result<Walked<'a>, OutOfMemory>
-        requires { IsFit input.now }
+        requires ready { IsReady self.now }
+        requires fit { IsFit input.now }
         ensures { IfOk result (λ walked. walk_in walked ≡ walk_of input.now) };
 
     /// The report of a walk.
     fn report(&self, alloc: Global, walked: &Walked<'_>) -> Result<Bytes, OutOfMemory>
+        requires { IsReady self.now }
         ensures { IfOk result (λ report. report ≡ report_of (messages (walk_in walked.now))) };
 
     /// The dump of a walk.
     fn dump(&self, alloc: Global, walked: &Walked<'_>) -> Result<Bytes, OutOfMemory>
+        requires { IsReady self.now }
         ensures { IfOk result (λ dump. dump ≡ dump_text (changes (walk_in walked.now))) };
 }
 
@@ -51,6 +57,8 @@ fn walk_by<'a, L: Ledger>(
 }
 
 impl Walker for OneWorker {
+    ghost IsReady = { λ walker. Unit {0} };
+
     fn walk<'a>(&self, alloc: Global, input: &WalkInput<'a>) -> Result<Walked<'a>, OutOfMemory> {
         walk_by::<Brand>(alloc, input, Blank::new(1))
     }
