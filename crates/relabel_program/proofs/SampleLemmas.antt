@@ -5,7 +5,6 @@ use Rattle.std.specs.FinMap as map
 use Rattle.input_output.specs.Source.{Rose}
 use Rattle.input_output.specs.Store.{Files}
 use Rattle.tool_words.specs.declared.usage.Usage.{Usage}
-use Rattle.run_faults.specs.Causes.{Explained}
 use Rattle.run_faults.specs.declared.cause.Cause.{Cause}
 use Rattle.run_faults.specs.declared.cause.Cause.TheVariants.{Done, OutOfMemory, ReadFault, WriteFault, WalkErrors, Differs}
 use Rattle.run_endings.specs.Endings.{cause_of}
@@ -23,6 +22,7 @@ use Rattle.sample_tree.proofs.AcceptedLemmas.{always_done, few_in_words}
 use Rattle.relabel_program.specs.Samples.{AskForSample, EndsSample, RunsSample}
 use Rattle.relabel_program.specs.Tools.{asked_for, asked_of}
 use Rattle.relabel_program.specs.declared.runs.TheConstants.{FIRST}
+use Rattle.relabel_program.specs.declared.runs.ToolName.{ToolName}
 
 -- ---- what the words ask for
 
@@ -43,7 +43,7 @@ by_words tool words (Err wrong) is plan good = cc
 asks : (words : List (List ℕ)) → AskForSample words → AsksSample words
 asks [] h = absurd h
 asks (tool ∷ words) h =
-    by_words tool words (sample_words FIRST words) refl (ap (λ named. asked_for named words) h.0) h.1
+    by_words tool words (sample_words FIRST words) refl (ap (λ (named : Option ToolName). asked_for named words) h.0) h.1
 
 -- ---- how a run of it ends
 

@@ -63,7 +63,7 @@ few_in_words first words asked e = few_of (length words + first) (items_read sam
 ending_for : ℕ → Ending
 ending_for count = sample_ending sample_rules (tree.entries_of (sampled count))
 
-pub answered : (count : ℕ) → count ≤ MOST_FILES → answered_for sample_rules count ≡ Ok (ending_for count)
+answered : (count : ℕ) → count ≤ MOST_FILES → answered_for sample_rules count ≡ Ok (ending_for count)
 unfolding answered_for ending_for
 answered count few = ap (λ entries. and_then entries (λ (found : List Record). Ok (sample_ending sample_rules found))) (sample_accepted count few)
 

@@ -31,7 +31,7 @@ use Rattle.sample_tree.proofs.OwnFile.{specs_ok}
 content_is : (name : List ℕ) (same : Bool) → eq_by_cmp (slice_cmp nat_cmp) name OWN_FILE.now ≡ same → content own_files name ≡ cond same (Some SPECS.now) None
 content_is name same e =
     get-insert nat_list_cmp_total map.empty OWN_FILE.now SPECS.now name
-    ∙ ap (λ b. cond b (Some SPECS.now) (map.get map.empty name)) e
+    ∙ ap (λ b. cond b (Some SPECS.now) (map.get {R = slice_cmp nat_cmp} map.empty name)) e
     ∙ ap (cond same (Some SPECS.now)) (get-empty (slice_cmp nat_cmp) name)
 
 base_bytes : part_bytes own_names (role Base 0) own_files ≡ Ok SPECS.now

@@ -15,7 +15,7 @@ run_join format front rest first others (more bytes left found later ends good r
     subst (λ t. IsRun format t (found ∷ (later ++ others))) (sym (append_assoc bytes (0 ∷ left) rest))
     (more bytes (left ++ rest) found (later ++ others) ends good (run_join format left rest later others run behind))
 
-abbrev IsPlaced : Record → Type 0
+abbrev pub IsPlaced : Record → Type 0
 IsPlaced found = placed_at found.path ≡ found
 
 all_join : (first others : List Record) → AllByRecursion IsPlaced first → AllByRecursion IsPlaced others → AllByRecursion IsPlaced (first ++ others)

@@ -1,3 +1,4 @@
+use Rattle.tool_words.specs.Words.{word_texts}
 use Rattle.tool_runs.proofs.Completeness.{complete}
 use Rattle.relabel_program.proofs.SampleLemmas.{runs_sample}
 use Rattle.relabel_program.proofs.runs.plain.Goals as goal
@@ -8,4 +9,5 @@ returns-clause-complete g c =
 
 pub returns-clause-sample : goal.returns-clause-sample
 returns-clause-sample g c =
-    runs_sample _ _ _ _ _ _ _ _ _ _ _ _ _ _ _ _ c.run_asked.ensures.run
+    runs_sample _ _ _ _ _ _ _ _ _ _ _ _ _ _ _ (word_texts c.args.words.now)
+    c.run_asked.ensures.run
