@@ -1,5 +1,5 @@
 -- A sample refuses nothing.
-use Rattle.std.proofs.Common.{◌≡◌, ◌∙◌, ap, refl, sym, subst, ℕ, ◌+◌, ◌≤◌, Bool, true, false, cond, List, length, arith}
+use Rattle.std.proofs.Common.{◌≡◌, ◌∙◌, ap, refl, subst, ℕ, ◌+◌, ◌≤◌, Bool, true, false, cond, List, length, arith}
 use Rattle.std.specs.Prelude.{Option, Some, None, Result, Ok, Err, nat_le}
 use Rattle.std.specs.Option.{option_and_then, unwrap_or}
 use Rattle.std.proofs.lemmas.Bool.Decides.{nat_tests}
@@ -12,15 +12,14 @@ use Rattle.tool_words.specs.Values.{number_named, up_to}
 use Rattle.tool_words.specs.Words.{items_read, unless_wrong, value_of}
 use Rattle.tool_words.specs.declared.usage.Usage.{Usage}
 use Rattle.run_faults.specs.Causes.{and_then}
-use Rattle.run_faults.specs.declared.cause.Cause.{Cause}
 use Rattle.run_input.specs.Records.{entries_for}
 use Rattle.run_endings.specs.declared.ending.End.TheVariants.{Done}
 use Rattle.run_endings.specs.declared.ending.Ending.{Ending}
 use Rattle.tool_runs.specs.Plan.{answer_by, refusal_in}
 use Rattle.sample_tree.specs.Accepted.{IsAlwaysDone}
-use Rattle.sample_tree.specs.Plan.{answered_for, own_rules, sample_plan}
+use Rattle.sample_tree.specs.Plan.{answered_for, sample_plan}
 use Rattle.sample_tree.specs.Walks.{sample_ending}
-use Rattle.sample_tree.specs.Words.{asked_by, asked_of, count_of, end_wrong, sample, sample_words}
+use Rattle.sample_tree.specs.Words.{asked_by, asked_of, end_wrong, sample, sample_words}
 use Rattle.sample_tree.specs.declared.words.SampleWords.{SampleWords}
 use Rattle.sample_tree.specs.declared.words.TheConstants.{COUNT, MOST_FILES}
 use Rattle.sample_tree.proofs.EntryLemmas.{sample_accepted}

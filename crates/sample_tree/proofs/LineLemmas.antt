@@ -1,6 +1,6 @@
 -- Each text of a sample is a record.
-use Rattle.std.proofs.Common.{◌≡◌, ◌∙◌, ap, refl, sym, subst, ℕ, ◌+◌, ◌-◌, ◌/◌, ◌%◌, ◌<◌, ◌≤◌, ◌^◌, Bool, true, false, List, [], ◌∷◌, ◌++◌, length, take, drop, decimal, append_assoc, length-append, arith}
-use Rattle.std.specs.Prelude.{Option, Some, None, Ok, Contains, ◌&&◌, not, ◌==◌, if◌then◌else◌}
+use Rattle.std.proofs.Common.{◌≡◌, ◌∙◌, ap, refl, ℕ, ◌+◌, ◌-◌, ◌/◌, ◌%◌, ◌<◌, ◌≤◌, ◌^◌, Bool, true, false, List, [], ◌∷◌, ◌++◌, length, take, drop, decimal, append_assoc, length-append, arith}
+use Rattle.std.specs.Prelude.{Some, None, Ok, Contains, ◌&&◌, not, ◌==◌, if◌then◌else◌}
 use Rattle.std.specs.List.{list_all}
 use Rattle.std.specs.Option.{unwrap_or}
 use Rattle.std.proofs.lemmas.Bool.{and_from}
@@ -11,7 +11,6 @@ use Rattle.label_base.specs.declared.kind.EntryKind.TheVariants.{Directory, Regu
 use Rattle.label_base.proofs.FirstCut.{lacks_more, lacks_nothing}
 use Rattle.file_paths.specs.Path.{Path, path_read}
 use Rattle.context_syntax.specs.Label.{label_of}
-use Rattle.context_syntax.specs.declared.label.Label.{Label}
 use Rattle.find_records.specs.Record.{Record}
 use Rattle.find_records.specs.declared.format.Format.TheVariants.{One}
 use Rattle.find_records.specs.Grammar.{Spells, kind_of}

@@ -1,11 +1,11 @@
 -- The paths of a sample are read back.
-use Rattle.std.proofs.Common.{◌≡◌, ◌∙◌, ap, refl, sym, ℕ, ◌+◌, ◌<◌, ◌≤◌, Bool, true, false, List, [], ◌∷◌, ◌++◌, length, append-nil, length-append, arith}
+use Rattle.std.proofs.Common.{◌≡◌, ◌∙◌, ap, refl, sym, ℕ, ◌≤◌, true, false, List, [], ◌∷◌, ◌++◌, length, append-nil, length-append, arith}
 use Rattle.std.specs.Prelude.{Ok}
 use Rattle.std.specs.List.{list_all, list_any}
 use Rattle.std.proofs.lemmas.Bool.{and_from}
 use Rattle.std.proofs.lemmas.Bool.Decides.{nat_tests}
 use Rattle.label_base.specs.Number.{is_digit}
-use Rattle.file_paths.specs.Path.{Path, are_names, is_dot_part, is_name, is_name_byte, path_read, path_text, with_slashes}
+use Rattle.file_paths.specs.Path.{Path, are_names, is_dot_part, is_name_byte, path_read, path_text, with_slashes}
 use Rattle.file_paths.proofs.PathLemmas.{names_back, normal_of_names}
 use Rattle.file_paths.proofs.PathTexts.{normal_reads_back}
 use Rattle.sample_tree.proofs.DigitLemmas.{all_more}

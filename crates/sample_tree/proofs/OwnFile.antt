@@ -1,5 +1,5 @@
 -- The file of a sample is accepted.
-use Rattle.std.proofs.Common.{◌≡◌, refl}
+use Rattle.std.proofs.Common.{refl}
 use Rattle.std.specs.Prelude.{IsOk}
 use Rattle.file_roles.specs.declared.role.Part.TheVariants.{Base}
 use Rattle.spec_reader.specs.SpecLines.{specs_of, with_decision, with_pattern}

@@ -1,6 +1,6 @@
 -- What a sample's own files say: the base file is accepted, and the others are absent.
-use Rattle.std.proofs.Common.{◌≡◌, ◌∙◌, ap, refl, sym, ℕ, ◌-◌, ◌≤◌, Bool, true, false, cond, List, [], ◌∷◌, ◌++◌, length, arith}
-use Rattle.std.specs.Prelude.{Option, Some, None, IsOk, Result, Ok, Err}
+use Rattle.std.proofs.Common.{◌≡◌, ◌∙◌, ap, refl, ℕ, ◌-◌, Bool, true, false, cond, List, [], ◌++◌, length, arith}
+use Rattle.std.specs.Prelude.{Some, None, IsOk, Result, Ok, Err}
 use Rattle.std.specs.FinMap as map
 use Rattle.std.specs.FinMap.{get-empty, get-insert}
 use Rattle.std.specs.Ordering.{eq_by_cmp, nat_cmp}
@@ -16,7 +16,6 @@ use Rattle.spec_reader.specs.SpecLines.{specs_of}
 use Rattle.spec_reader.specs.SpecValue.{SpecValue}
 use Rattle.spec_order.specs.Order.{in_order}
 use Rattle.run_faults.specs.Causes.{and_then}
-use Rattle.run_faults.specs.declared.cause.Cause.{Cause}
 use Rattle.run_input.specs.Files.{FilesSay, bytes_from, just, part_bytes, part_says, read_on}
 use Rattle.policy_files.specs.Files.{customizable_types, list_of, part_specs, part_subs, specs_from, subs_for}
 use Rattle.policy_files.specs.Rules.{rest_for, rules_for, rules_with}
