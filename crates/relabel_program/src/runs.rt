@@ -18,6 +18,7 @@ ghost use Rattle.policy_rehearsal.specs.Plan.{rehearse_plan};
 ghost use Rattle.policy_rehearsal.specs.Words.{rehearse_words};
 ghost use Rattle.sample_tree.specs.Plan.{sample_plan};
 ghost use Rattle.sample_tree.specs.Words.{sample_words};
+ghost use Rattle.relabel_program.specs.Samples.{RunsSample};
 ghost use Rattle.relabel_program.specs.Tools.{asked_for, asked_of, tool_named};
 
 use home_contexts::{GENHOMEDIRCON, read_homes};
@@ -267,6 +268,8 @@ pub fn plain<S: Store, I: Source, O: Sink>(
     ensures complete { Complete S.files S.read_faults S.write_faults I.left I.faults O.written
         O.faults (asked_of (word_texts words.now)) store.old store.new input.old input.new out.old
         out.new result.status result.cause }
+    ensures sample { RunsSample (word_texts words.now) (S.read_faults store.old) (I.faults input.old)
+        result.cause }
 {
     run_asked(alloc, words, store, input, out)
 }
@@ -410,6 +413,8 @@ pub fn top<R: Threads + Wait + Sync, S: Store, I: Source, O: Sink>(
     ensures complete { Complete S.files S.read_faults S.write_faults I.left I.faults O.written
         O.faults (asked_of (word_texts words.now)) store.old store.new input.old input.new out.old
         out.new result.status result.cause }
+    ensures sample { RunsSample (word_texts words.now) (S.read_faults store.old) (I.faults input.old)
+        result.cause }
 {
     run_asked_by(rt, alloc, words, cores, store, input, out)
 }

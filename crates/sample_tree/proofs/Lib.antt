@@ -1,3 +1,11 @@
+pub mod AcceptedLemmas
+pub mod DigitLemmas
+pub mod EntryLemmas
+pub mod LineLemmas
+pub mod NameLemmas
+pub mod OwnFile
 pub mod OwnLemmas
+pub mod OwnRules
+pub mod RunLemmas
 pub mod TextLemmas
 pub mod WalkLemmas

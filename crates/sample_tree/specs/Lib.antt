@@ -4,3 +4,4 @@ pub mod Words
 pub mod Choice
 pub mod Walks
 pub mod Plan
+pub mod Accepted

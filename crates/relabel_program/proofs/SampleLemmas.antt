@@ -1,0 +1,91 @@
+-- A run of a sample is never refused.
+use Rattle.std.proofs.Common.{◌≡◌, ◌∙◌, ap, refl, sym, subst, ℕ, List, [], ◌∷◌, ◌⊎◌, inl, inr, ◌≤◌}
+use Rattle.std.specs.Prelude.{Option, Some, None, Result, Ok, Err, IfOk, IsOk}
+use Rattle.std.specs.FinMap as map
+use Rattle.input_output.specs.Source.{Rose}
+use Rattle.input_output.specs.Store.{Files}
+use Rattle.tool_words.specs.declared.usage.Usage.{Usage}
+use Rattle.run_faults.specs.declared.cause.Cause.{Cause}
+use Rattle.run_faults.specs.declared.cause.Cause.TheVariants.{Done, OutOfMemory, ReadFault, WriteFault, WalkErrors, Differs}
+use Rattle.run_endings.specs.Endings.{cause_of}
+use Rattle.run_endings.specs.declared.ending.End.{End}
+use Rattle.run_endings.specs.declared.ending.End.TheVariants as ends
+use Rattle.run_endings.specs.declared.ending.Ending.{Ending}
+use Rattle.tool_runs.specs.Plan.{Plan, planned}
+use Rattle.tool_runs.specs.Run.{EndsAlone, FileFailed, InputFailed, ReportsAlone, Run}
+use Rattle.sample_tree.specs.Accepted.{IsAlwaysDone}
+use Rattle.sample_tree.specs.Plan.{sample_plan}
+use Rattle.sample_tree.specs.Words.{sample_words}
+use Rattle.sample_tree.specs.declared.words.SampleWords.{SampleWords}
+use Rattle.sample_tree.specs.declared.words.TheConstants.{MOST_FILES}
+use Rattle.sample_tree.proofs.AcceptedLemmas.{always_done, few_in_words}
+use Rattle.relabel_program.specs.Samples.{AskForSample, EndsSample, RunsSample}
+use Rattle.relabel_program.specs.Tools.{asked_for, asked_of}
+use Rattle.relabel_program.specs.declared.runs.TheConstants.{FIRST}
+use Rattle.relabel_program.specs.declared.runs.ToolName.{ToolName}
+
+-- ---- what the words ask for
+
+-- the plan is that of a sample that the words admit
+record AsksSample (words : List (List ℕ)) : Type 0 where
+  asked : SampleWords
+  plan : asked_of words ≡ Ok (sample_plan asked)
+  few : asked.count ≤ MOST_FILES
+
+by_words : (tool : List ℕ) (words : List (List ℕ)) (read : Result SampleWords Usage) → sample_words FIRST words ≡ read → asked_of (tool ∷ words) ≡ planned sample_plan (sample_words FIRST words) → IsOk read → AsksSample (tool ∷ words)
+by_words tool words (Ok asked) is plan good = record {
+  asked = asked;
+  plan = plan ∙ ap (planned sample_plan) is;
+  few = few_in_words FIRST words asked is;
+}
+by_words tool words (Err wrong) is plan good = cc
+
+asks : (words : List (List ℕ)) → AskForSample words → AsksSample words
+asks [] h = absurd h
+asks (tool ∷ words) h =
+    by_words tool words (sample_words FIRST words) refl (ap (λ (named : Option ToolName). asked_for named words) h.0) h.1
+
+-- ---- how a run of it ends
+
+-- the end of a walk without errors is no other
+other_end : {O : Type 0} (written : O → Option (List ℕ)) (out out_now : O) (meant : Result Ending Cause) (cause : Cause) (ending : Ending) → meant ≡ Ok ending → ending.end ≡ ends.Done → ReportsAlone written out out_now meant cause → cause ≡ Done
+other_end written out out_now meant cause ending is done reports =
+    let same : reports.reported ≡ ending = cc in
+    reports.cause_is ∙ ap (λ (e : Ending). cause_of e.end) same ∙ ap cause_of done
+
+not_refused : (meant : Result Ending Cause) (ending : Ending) (cause : Cause) → meant ≡ Ok ending → meant ≡ Err cause → ⊥
+not_refused meant ending cause is refused = cc
+
+module _ {O : Type 0} (written : O → Option (List ℕ)) (out out_now : O) (meant : Result Ending Cause) (ending : Ending) (is : meant ≡ Ok ending) (done : ending.end ≡ ends.Done) (read_faults input_faults : ℕ) where
+  ends_so : (cause : Cause) → EndsAlone written out out_now meant cause → (cause ≡ ReadFault → Rose read_faults read_faults ⊎ Rose input_faults input_faults) → EndsSample read_faults input_faults cause
+  ends_so Done so read = tt
+  ends_so WriteFault so read = tt
+  ends_so OutOfMemory so read = tt
+  ends_so ReadFault so read = read refl
+  ends_so (WalkErrors count) so read =
+      let same : WalkErrors count ≡ Done = other_end written out out_now meant (WalkErrors count) ending is done so in cc
+  ends_so (Differs count) so read =
+      let same : Differs count ≡ Done = other_end written out out_now meant (Differs count) ending is done so in cc
+  ends_so cause so read = absurd (not_refused meant ending cause is so)
+
+module _ {S I O : Type 0} (files : S → Option Files) (calls : S → Option ℕ) (read_faults write_faults : S → ℕ) (left : I → Option (List ℕ)) (input_faults : I → ℕ) (written : O → Option (List ℕ)) (out_faults : O → ℕ) (store store_now : S) (input input_now : I) (out out_now : O) (cause : Cause) where
+  -- a failed read raised a count of an object that is as it was
+  read_so : (words : SampleWords) → Run files calls read_faults write_faults left input_faults written out_faults (Ok (sample_plan words)) store store_now input input_now out out_now cause → cause ≡ ReadFault → Rose (read_faults store) (read_faults store) ⊎ Rose (input_faults input) (input_faults input)
+  read_so words run is = elim (run.read_failed is) [
+    | inl failed ↦ inl (subst (λ (s : S). Rose (read_faults store) (read_faults s)) (run.no_files refl refl) failed.0)
+    | inr failed ↦ inr (subst (λ (i : I). Rose (input_faults input) (input_faults i)) (run.no_records refl) failed.rose)
+  ]
+
+  ends_of : (words : SampleWords) → IsAlwaysDone (sample_plan words) → Run files calls read_faults write_faults left input_faults written out_faults (Ok (sample_plan words)) store store_now input input_now out out_now cause → EndsSample (read_faults store) (input_faults input) cause
+  ends_of words always run =
+      let answer = always.answers map.empty [] in
+      ends_so written out out_now ((sample_plan words).answer map.empty []) answer.0 answer.1 answer.2 (read_faults store) (input_faults input) cause (run.is_meant_alone refl map.empty) (read_so words run)
+
+  pub runs_sample : (words : List (List ℕ)) → Run files calls read_faults write_faults left input_faults written out_faults (asked_of words) store store_now input input_now out out_now cause → RunsSample words (read_faults store) (input_faults input) cause
+  runs_sample words run = λ ask.
+      let sample = asks words ask in
+      let always = always_done sample.asked sample.few in
+      let moved = subst (λ (asked : Result Plan Usage). Run files calls read_faults write_faults left input_faults written out_faults asked store store_now input input_now out out_now cause) sample.plan run in (
+        subst (λ (asked : Result Plan Usage). IfOk asked IsAlwaysDone) (sym sample.plan) always,
+        ends_of sample.asked always moved,
+      )
