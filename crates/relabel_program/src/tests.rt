@@ -123,6 +123,19 @@ pub(crate) fn first(alloc: Global, failing: &Failing) -> Result<Ran, OutOfMemory
 
 /// Words that are refused, and what stands behind `relabel: usage: word `.
 const REFUSED_WORDS: &[(&[&str], &[u8])] = &[
+    (
+        &["audit", "rep", "matchpathcon", "/a"],
+        b"relabel: usage: word 2: unknown tool\n",
+    ),
+    (&["audit"], b"relabel: usage: word 1: missing operand\n"),
+    (
+        &["audit", "", "setfiles"],
+        b"relabel: usage: word 1: bad path\n",
+    ),
+    (
+        &["audit", "--", "setfiles", "-n", "-q", "fc", "/"],
+        b"relabel: usage: word 4: unknown option\n",
+    ),
     (&[], b"relabel: usage: word 0: unknown tool\n"),
     (&["setfile"], b"relabel: usage: word 0: unknown tool\n"),
     (
@@ -438,6 +451,50 @@ fn refused_homes_are_not_written(rt: HostRuntime) -> Result<(), Fail> {
 }
 
 // A sample looks at no file and no record: no call of the store or the input may fail.
+const AUDIT_WORDS: &[&str] = &[
+    "audit",
+    "rep",
+    "restorecon",
+    "-v",
+    "-S",
+    "fc",
+    "-o",
+    "out",
+    "/srv/b",
+];
+
+const TURNED_REPORT: &[u8] =
+    b"Relabeled /srv/b from unconfined_u:object_r:usr_t:s0-s0:c0.c1023 to unconfined_u:object_r:var_t:s0-s0:c0.c1023\n";
+
+const LONGER_DUMP: &[u8] =
+    b"# file: /srv/b\nsecurity.selinux=\"unconfined_u:object_r:var_t:s0-s0:c0.c1023\"\n\n\n";
+
+/// Reports and dumps of one run, and what an audit tells of them.
+const AUDITED: &[(&[u8], &[u8], u8, &[u8])] = &[
+    (ROW_REPORT, ROW_DUMP, 0, b"agrees\n"),
+    (TURNED_REPORT, ROW_DUMP, 1, b"report differs at /srv/b\n"),
+    (b"", ROW_DUMP, 1, b"report differs at /srv/b\n"),
+    (ROW_REPORT, LONGER_DUMP, 1, b"dump differs at its end\n"),
+];
+
+#[test]
+fn an_audit_tells_the_first_piece_that_differs(rt: HostRuntime) -> Result<(), Fail> {
+    for (report, dump, status, line) in AUDITED {
+        let files: &[(&str, &[u8])] = &[("fc", VAR_SPECS), ("rep", *report), ("out", *dump)];
+        let ran = run(rt.alloc(), AUDIT_WORDS, files, ROW_RECORDS, &NONE_FAILS)?;
+        assert!(rt; ran.ended(*status, *line), "at {line:?}");
+    }
+    Ok(())
+}
+
+#[test]
+fn an_absent_report_is_told_before_the_input(rt: HostRuntime) -> Result<(), Fail> {
+    let files: &[(&str, &[u8])] = &[("fc", VAR_SPECS), ("out", ROW_DUMP)];
+    let ran = run(rt.alloc(), AUDIT_WORDS, files, ROW_RECORDS, &NONE_FAILS)?;
+    assert!(rt; ran.refused(255, b"relabel: rep: not found\n"));
+    Ok(())
+}
+
 #[test]
 fn a_sample_is_walked_twice(rt: HostRuntime) -> Result<(), Fail> {
     let first = Failing {

@@ -14,7 +14,7 @@ use Rattle.run_input.specs.Records.{input_for}
 use Rattle.run_faults.specs.Faults.{fault_line}
 use Rattle.run_faults.specs.declared.cause.Cause.{Cause}
 use Rattle.run_faults.specs.declared.cause.Cause.TheVariants as causes
-use Rattle.run_faults.specs.declared.cause.Cause.TheVariants.{Done, WalkErrors, Differs, ReadFault, WriteFault, OutOfMemory}
+use Rattle.run_faults.specs.declared.cause.Cause.TheVariants.{Done, WalkErrors, Differs, Denied, ReadFault, WriteFault, OutOfMemory}
 use Rattle.run_endings.specs.declared.ending.Saved.{Saved}
 use Rattle.run_endings.specs.declared.ending.Ending.{Ending}
 
@@ -78,6 +78,8 @@ Ends files written store out out_now known meant (WalkErrors count) =
     Reports files written store out out_now known meant (WalkErrors count)
 Ends files written store out out_now known meant (Differs count) =
     Reports files written store out out_now known meant (Differs count)
+Ends files written store out out_now known meant (Denied finding) =
+    Reports files written store out out_now known meant (Denied finding)
 Ends files written store out out_now known meant WriteFault = IsOk meant
 Ends files written store out out_now known meant cause = Explained meant cause
 
