@@ -16,11 +16,11 @@ use crate::words::AuditWords;
 use file_paths::PathRef;
 use label_base::{Bytes, OutOfMemory, write_escaped};
 use label_rules::{Rules, spec_at};
-use relabel_core::{Options, Stored, WalkInput};
+use relabel_core::{Stored, WalkInput, walk_input};
 use run_endings::{End, Ending};
 use run_faults::{Finding, Piece};
 use std::alloc::Global;
-use tree_model::{Choice, Selected, Tree};
+use tree_model::Tree;
 
 // What is told of a finding.
 const AGREES: &str = "agrees";
@@ -178,35 +178,6 @@ fn ending_over(
     })
 }
 
-// The walk of a run over a tree, of what its choice selected there, with the operands at hand.
-fn run_input<'a>(
-    tree: &'a Tree,
-    choice: &'a Choice,
-    chosen: &'a Selected,
-    rules: &'a Rules,
-    options: Options,
-    stored: &'a Stored,
-) -> WalkInput<'a>
-    requires chosen { chosen.now ≡ selected_by choice.now tree.now }
-    requires format { AreOf options.format tree.now }
-    requires few { length tree.now + length choice.now.operands < 2 ^ 32 }
-    ensures fit { IsFit result }
-    ensures walk { walk_of result
-        ≡ walk_for tree.now choice.now rules.now options (digests_of stored.now) }
-    ensures operands { result.operands.now ≡ choice.now.operands }
-    ensures absent { result.chosen.now ≡ selected_by choice.now tree.now }
-{
-    tree.rises();
-    WalkInput {
-        tree,
-        chosen,
-        operands: &choice.operands,
-        rules,
-        options,
-        stored,
-    }
-}
-
 // What is written of the audit of a walk over a tree whose directories have these digests.
 fn ending_stored(
     alloc: Global,
@@ -223,10 +194,16 @@ fn ending_stored(
         words.now.inner.options (digests_of stored.now)) words.now.inner.choice.operands
         (selected_by words.now.inner.choice tree.now).absent found.now) }
 {
-    let choice = &words.inner.choice;
-    let chosen = tree.select(alloc, choice)?;
-    let options = words.inner.options;
-    let input = run_input(tree, choice, &chosen, &found.run.rules, options, stored);
+    let run = &words.inner;
+    let chosen = tree.select(alloc, &run.choice)?;
+    let input = walk_input(
+        tree,
+        &run.choice,
+        &chosen,
+        &found.run.rules,
+        run.options,
+        stored,
+    );
     ending_over(alloc, &input, found)
 }
 

@@ -1,4 +1,4 @@
-ghost use Rattle.std.specs.Prelude.{◌≡◌};
+ghost use Rattle.std.specs.Prelude.{◌<◌, ◌^◌, length};
 ghost use Rattle.file_roles.specs.Roles.{role};
 ghost use Rattle.file_roles.specs.declared.role.Part.TheVariants as parts;
 ghost use Rattle.run_input.specs.Files.{Reads, part_says};
@@ -41,6 +41,7 @@ fn read_run<S: Store>(
     words: &RelabelWords,
     store: &mut S,
 ) -> Result<RelabelFiles, Cause>
+    requires { length words.now.choice.operands < 2 ^ 31 }
     ensures { Reads S.files S.calls S.read_faults S.write_faults (run_found words.now)
         store.old store.new result }
 {
@@ -102,6 +103,7 @@ pub fn read_found<S: Store>(
     list: &FileList,
     store: &mut S,
 ) -> Result<AuditFiles, Cause>
+    requires { length words.now.inner.choice.operands < 2 ^ 31 }
     ensures { Reads S.files S.calls S.read_faults S.write_faults (audit_found words.now list.now)
         store.old store.new result }
 {

@@ -450,7 +450,6 @@ fn refused_homes_are_not_written(rt: HostRuntime) -> Result<(), Fail> {
     Ok(())
 }
 
-// A sample looks at no file and no record: no call of the store or the input may fail.
 const AUDIT_WORDS: &[&str] = &[
     "audit",
     "rep",
@@ -495,6 +494,7 @@ fn an_absent_report_is_told_before_the_input(rt: HostRuntime) -> Result<(), Fail
     Ok(())
 }
 
+// A sample looks at no file and no record: no call of the store or the input may fail.
 #[test]
 fn a_sample_is_walked_twice(rt: HostRuntime) -> Result<(), Fail> {
     let first = Failing {
