@@ -11,12 +11,11 @@ ghost use Rattle.label_audit.specs.Answer.{answer_of, ending_of, finding_end, fi
 
 use crate::auditing::audit;
 use crate::found::AuditFiles;
-use crate::lines::operand_at;
 use crate::words::AuditWords;
 use file_paths::PathRef;
 use label_base::{Bytes, OutOfMemory, write_escaped};
 use label_rules::{Rules, spec_at};
-use relabel_core::{Stored, WalkInput, walk_input};
+use relabel_core::{Stored, WalkInput, operand_at, walk_input};
 use run_endings::{End, Ending};
 use run_faults::{Finding, Piece};
 use std::alloc::Global;

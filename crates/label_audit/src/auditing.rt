@@ -11,10 +11,10 @@ ghost use Rattle.label_audit.specs.Pieces.{Placed, differing_in, dump_pieces, re
 use crate::ahead::Ahead;
 use crate::compared::Compared;
 use crate::entries::{Audit, Texts, audit_entries};
-use crate::lines::{compare_operands, compare_specs, no_flags};
+use crate::lines::{compare_operands, compare_specs};
 use crate::looking::{LookUps, look_ups};
 use label_base::{Bytes, OutOfMemory, Steps};
-use relabel_core::WalkInput;
+use relabel_core::{WalkInput, no_flags};
 use run_faults::{Finding, Piece};
 use std::alloc::Global;
 use std::marker::Brand;

@@ -1,6 +1,5 @@
 ghost use Rattle.std.specs.Prelude.{◌≡◌, ◌<◌, ◌&&◌, IfOk, OnOk, None, is_some, not};
-ghost use Rattle.std.specs.Option.{option_copied};
-ghost use Rattle.relabel_core.specs.Changes.{digest_change, unless_stored};
+ghost use Rattle.relabel_core.specs.Changes.{digest_change};
 ghost use Rattle.relabel_core.specs.Passed.{renewal};
 ghost use Rattle.relabel_core.specs.Walk.{count};
 ghost use Rattle.relabel_core.specs.Walked.{IsFit, walk_of};
@@ -12,23 +11,9 @@ use crate::ahead::{Ahead, has_changed};
 use crate::looking::LookUps;
 use dir_digest::Digest;
 use label_base::{OutOfMemory, Steps};
-use relabel_core::{WalkInput, digest_change};
+use relabel_core::{WalkInput, digest_change, unless_stored};
 use std::alloc::Global;
 use std::sync::ledger::Ledger;
-
-// The digest, unless it is the stored one.
-fn unless_stored(digest: Digest, stored: Option<&[u8]>) -> Option<Digest>
-    ensures { result ≡ unless_stored digest (option_copied stored.entry) }
-{
-    match stored {
-        None => Some(digest),
-        Some(stored) => if digest.as_bytes() == stored {
-            None
-        } else {
-            Some(digest)
-        },
-    }
-}
 
 // Whether a digest is stored for an entry, and may give way to the void one.
 fn may_change(input: &WalkInput<'_>, e: u32) -> bool

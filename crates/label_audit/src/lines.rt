@@ -1,18 +1,17 @@
-ghost use Rattle.std.specs.Prelude.{◌≡◌, ◌++◌, ◌∷◌, [], IfOk, List, None, OnOk, Some, false, get_or, if◌then◌else◌, length, map, option_map, replicate, slice_get};
-ghost use Rattle.file_paths.specs.PathRef.{path_of};
+ghost use Rattle.std.specs.Prelude.{◌≡◌, ◌++◌, ◌∷◌, List, OnOk, length, map, option_map};
 ghost use Rattle.label_base.specs.Bounded.{all_numbers};
 ghost use Rattle.report_text.specs.Message.{message_of};
-ghost use Rattle.relabel_core.specs.Report.{AreRaised, optional_text, raised_at};
-ghost use Rattle.relabel_core.specs.Walk.{count, line_of_spec};
+ghost use Rattle.relabel_core.specs.Report.{AreRaised, optional_text};
+ghost use Rattle.relabel_core.specs.Walk.{count};
 ghost use Rattle.relabel_core.specs.Walked.{walk_of};
 ghost use Rattle.label_audit.specs.Compared.{behind, unflagged_piece};
 ghost use Rattle.label_audit.specs.Pieces.{Placed, operand_piece, operand_pieces, spec_pieces};
 
 use crate::compared::Compared;
-use file_paths::{NormPath, PathRef};
+use file_paths::NormPath;
 use label_base::{Bytes, OutOfMemory};
-use label_rules::{Rules, given_by, spec_at};
-use relabel_core::WalkInput;
+use label_rules::Rules;
+use relabel_core::{WalkInput, operand_at, unflagged_line};
 use report_text::{Message, add_line};
 use run_faults::Piece;
 use std::alloc::Global;
@@ -29,16 +28,6 @@ pub fn make_line(
     match message {
         None => Ok(()),
         Some(message) => add_line(alloc, message, piece),
-    }
-}
-
-/// The operand with an index.
-pub fn operand_at<'a>(operands: &'a [NormPath], i: u32) -> PathRef<'a>
-    ensures { path_of result ≡ get_or operands.now i [] }
-{
-    match operands.get(i as usize) {
-        Some(path) => path.path(),
-        None => PathRef::of_text(b""),
     }
 }
 
@@ -100,68 +89,6 @@ pub fn compare_operands(
     )
 }
 
-/// A flag for each specification, none of them raised.
-pub fn no_flags(alloc: Global, count: u32) -> Result<Vec<bool>, OutOfMemory>
-    ensures { IfOk result (λ flags. flags.items ≡ replicate count false) }
-{
-    let mut flags = Vec::with_capacity(alloc, count as usize)?;
-    'places: for _ in 0..count {
-        flags.push(false)?;
-    }
-    Ok(flags)
-}
-
-fn raise_at(flags: &mut Vec<bool>, i: u32)
-    ensures { flags.new.items ≡ raised_at flags.old.items (Some i) }
-{
-    if (i as usize) < flags.len() {
-        flags[i as usize] = true;
-    }
-}
-
-/// Raises the flag of a specification that decides an entry.
-pub fn raise(flags: &mut Vec<bool>, decided: Option<u32>)
-    ensures { flags.new.items ≡ raised_at flags.old.items decided }
-{
-    match decided {
-        Some(i) => raise_at(flags, i),
-        None => {}
-    }
-}
-
-fn flag_at(flags: &[bool], i: u32) -> bool
-    ensures { result ≡ get_or flags.now i false }
-{
-    match flags.get(i as usize) {
-        Some(flag) => *flag,
-        None => false,
-    }
-}
-
-fn line_of_spec(rules: &Rules, i: u32) -> Option<Message<'_>>
-    ensures { option_map message_of result ≡ line_of_spec (slice_get rules.now.rules i) }
-{
-    match spec_at(rules, Some(i)) {
-        None => None,
-        Some(spec) => Some(Message::NoMatches {
-            text: spec.text.as_slice(),
-            kind: spec.kind,
-            context: given_by(spec),
-        }),
-    }
-}
-
-// The line of a specification, unless its flag is raised.
-fn line_unless<'a>(rules: &'a Rules, i: u32, flag: bool) -> Option<Message<'a>>
-    ensures { option_map message_of result
-        ≡ (if flag then None else line_of_spec (slice_get rules.now.rules i)) }
-{
-    if flag {
-        return None;
-    }
-    line_of_spec(rules, i)
-}
-
 // Compares the line of a specification, unless its flag is raised.
 fn compare_spec(
     alloc: Global,
@@ -174,7 +101,7 @@ fn compare_spec(
     ensures { OnOk result ((rest : List Placed) → behind report.new rest
         ≡ behind report.old (unflagged_piece rules.now flags.now i ∷ rest)) }
 {
-    make_line(alloc, &line_unless(rules, i, flag_at(flags, i)), piece)?;
+    make_line(alloc, &unflagged_line(rules, flags, i), piece)?;
     report.compare(Piece::Rule(i), piece.as_slice());
     Ok(())
 }
