@@ -1,4 +1,4 @@
-ghost use Rattle.std.specs.Prelude.{◌≡◌, ◌==◌, ℕ, ◌<◌, IfOk, OnOk, Some, false, if◌then◌else◌};
+ghost use Rattle.std.specs.Prelude.{◌≡◌, ◌==◌, ℕ, ◌<◌, IfOk, OnOk, Some, false, get_or, if◌then◌else◌, length};
 ghost use Rattle.std.specs.BTreeMap.{get};
 ghost use Rattle.std.specs.Ordering.{nat_cmp};
 ghost use Rattle.spec_match.specs.Scratches.{IsScratchOf};
@@ -155,6 +155,13 @@ fn first_winner<L: Ledger>(
     decide_name(alloc, input, first, scratch, steps)
 }
 
+fn first_of(names: &[u32]) -> u32
+    requires { 0 < length names.now }
+    ensures { result ≡ get_or names.now 0 0 }
+{
+    names[0]
+}
+
 /// The winner of the group of an entry that isn't skipped, and that this specification decides.
 pub fn winner_of<L: Ledger>(
     alloc: Global,
@@ -176,9 +183,13 @@ pub fn winner_of<L: Ledger>(
     ensures found { IfOk result (IsWinner (walk_of input.now) (group_of input.now.tree.now e)) }
 {
     let names = input.tree.names_of(input.tree.group(e));
-    let found = first_winner(alloc, input, e, decided, names[0], scratch, steps)?;
-    if found.name.is_some() || names.len() == 1 {
+    let first = first_of(names);
+    let found = first_winner(alloc, input, e, decided, first, scratch, steps)?;
+    if found.name.is_some() {
         return Ok(found);
+    }
+    if names.len() == 1 {
+        return Ok(NO_WINNER);
     }
     later_winner(alloc, input, e, scratch, winners, steps)
 }
