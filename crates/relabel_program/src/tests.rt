@@ -59,6 +59,18 @@ impl Ran {
     pub(crate) fn lacks(&self, name: &str) -> bool {
         self.store.file(name).is_none()
     }
+
+    pub(crate) fn report(&self) -> &[u8] {
+        self.out.written()
+    }
+
+    /// What the file of `-o` has.
+    pub(crate) fn dump(&self) -> &[u8] {
+        match self.store.file("out") {
+            Some(dump) => dump,
+            None => b"",
+        }
+    }
 }
 
 fn failing_at(alloc: Global, number: u64) -> Result<Row<u64>, OutOfMemory> {
@@ -290,7 +302,7 @@ fn stored_digests_are_read_last_and_must_be_there(rt: HostRuntime) -> Result<(),
 
 const ROW_WORDS: &[&str] = &["restorecon", "-v", "-S", "fc", "-o", "out", "/srv/b"];
 
-const ROW_RECORDS: &[u8] = b"f 1 21 unconfined_u:object_r:tmp_t:s0-s0:c0.c1023 /srv/b\0";
+pub(crate) const ROW_RECORDS: &[u8] = b"f 1 21 unconfined_u:object_r:tmp_t:s0-s0:c0.c1023 /srv/b\0";
 
 pub(crate) const ROW_REPORT: &[u8] =
     b"Relabeled /srv/b from unconfined_u:object_r:tmp_t:s0-s0:c0.c1023 to unconfined_u:object_r:var_t:s0-s0:c0.c1023\n";
@@ -447,50 +459,6 @@ fn refused_homes_are_not_written(rt: HostRuntime) -> Result<(), Fail> {
             "at {line:?}"
         );
     }
-    Ok(())
-}
-
-const AUDIT_WORDS: &[&str] = &[
-    "audit",
-    "rep",
-    "restorecon",
-    "-v",
-    "-S",
-    "fc",
-    "-o",
-    "out",
-    "/srv/b",
-];
-
-const TURNED_REPORT: &[u8] =
-    b"Relabeled /srv/b from unconfined_u:object_r:usr_t:s0-s0:c0.c1023 to unconfined_u:object_r:var_t:s0-s0:c0.c1023\n";
-
-const LONGER_DUMP: &[u8] =
-    b"# file: /srv/b\nsecurity.selinux=\"unconfined_u:object_r:var_t:s0-s0:c0.c1023\"\n\n\n";
-
-/// Reports and dumps of one run, and what an audit tells of them.
-const AUDITED: &[(&[u8], &[u8], u8, &[u8])] = &[
-    (ROW_REPORT, ROW_DUMP, 0, b"agrees\n"),
-    (TURNED_REPORT, ROW_DUMP, 1, b"report differs at /srv/b\n"),
-    (b"", ROW_DUMP, 1, b"report differs at /srv/b\n"),
-    (ROW_REPORT, LONGER_DUMP, 1, b"dump differs at its end\n"),
-];
-
-#[test]
-fn an_audit_tells_the_first_piece_that_differs(rt: HostRuntime) -> Result<(), Fail> {
-    for (report, dump, status, line) in AUDITED {
-        let files: &[(&str, &[u8])] = &[("fc", VAR_SPECS), ("rep", *report), ("out", *dump)];
-        let ran = run(rt.alloc(), AUDIT_WORDS, files, ROW_RECORDS, &NONE_FAILS)?;
-        assert!(rt; ran.ended(*status, *line), "at {line:?}");
-    }
-    Ok(())
-}
-
-#[test]
-fn an_absent_report_is_told_before_the_input(rt: HostRuntime) -> Result<(), Fail> {
-    let files: &[(&str, &[u8])] = &[("fc", VAR_SPECS), ("out", ROW_DUMP)];
-    let ran = run(rt.alloc(), AUDIT_WORDS, files, ROW_RECORDS, &NONE_FAILS)?;
-    assert!(rt; ran.refused(255, b"relabel: rep: not found\n"));
     Ok(())
 }
 
