@@ -114,20 +114,20 @@ winner_found w g = least_found (count w) (λ e. group_of w.entries e == g) (is_w
 
 -- ---- what is known of a name
 
+-- one that passes, before others
+with_head : (q : ℕ → Bool) (P : ℕ → Type 0) (x : ℕ) (ys : List ℕ) → P x → q x ≡ true
+    → ((i : ℕ) → i < length ys → P (get_or ys i 0) × (q (get_or ys i 0) ≡ true))
+    → (i : ℕ) → i < length (x ∷ ys) → P (get_or (x ∷ ys) i 0) × (q (get_or (x ∷ ys) i 0) ≡ true)
+with_head q P x ys here passes rest zero l = (here, passes)
+with_head q P x ys here passes rest (suc i) l = rest i (omega (arith, l))
+
 filtered : (q : ℕ → Bool) (P : ℕ → Type 0) (xs : List ℕ) → ((i : ℕ) → i < length xs → P (get_or xs i 0))
     → (i : ℕ) → i < length (filter q xs) → P (get_or (filter q xs) i 0) × (q (get_or (filter q xs) i 0) ≡ true)
-filtered q P [] each i l = absurd (omega (arith, l))
+filtered q P [] each = λ i l. absurd (omega (arith, l))
 filtered q P (x ∷ xs) each =
     cond_both (q x) (x ∷ filter q xs) (filter q xs) (λ ys. (i : ℕ) → i < length ys → P (get_or ys i 0) × (q (get_or ys i 0) ≡ true))
-    (λ passes. with_head passes)
-    (λ _. rest)
-  where
-    rest : (i : ℕ) → i < length (filter q xs) → P (get_or (filter q xs) i 0) × (q (get_or (filter q xs) i 0) ≡ true)
-    rest = filtered q P xs (λ i l. each (suc i) (omega (arith, l)))
-
-    with_head : q x ≡ true → (i : ℕ) → i < length (x ∷ filter q xs) → P (get_or (x ∷ filter q xs) i 0) × (q (get_or (x ∷ filter q xs) i 0) ≡ true)
-    with_head passes zero l = (each zero (omega arith), passes)
-    with_head passes (suc i) l = rest i (omega (arith, l))
+    (λ passes. with_head q P x (filter q xs) (each zero (omega arith)) passes (filtered q P xs (λ i l. each (suc i) (omega (arith, l)))))
+    (λ _. filtered q P xs (λ i l. each (suc i) (omega (arith, l))))
 
 numbers_within : (n i : ℕ) → i < length (all_numbers n) → get_or (all_numbers n) i 0 < n
 numbers_within n i l =

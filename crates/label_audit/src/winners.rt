@@ -93,6 +93,16 @@ fn search_names<L: Ledger>(
     Ok(NO_WINNER)
 }
 
+// What is kept of a group.
+fn kept_winner(group: u32, winners: &Winners) -> Option<Winner>
+    ensures { result ≡ get nat_cmp winners.now group }
+{
+    match winners.get(&group) {
+        None => None,
+        Some(winner) => Some(*winner),
+    }
+}
+
 fn keep_winner(group: u32, winner: Winner, winners: &mut Winners) -> Result<(), OutOfMemory>
     ensures { OnOk result ((g : ℕ) → get nat_cmp winners.new g
         ≡ (if group == g then Some winner else get nat_cmp winners.old g)) }
@@ -120,8 +130,8 @@ fn later_winner<L: Ledger>(
     ensures found { IfOk result (IsWinner (walk_of input.now) (group_of input.now.tree.now e)) }
 {
     let group = input.tree.group(e);
-    match winners.get(&group) {
-        Some(winner) => return Ok(*winner),
+    match kept_winner(group, winners) {
+        Some(winner) => return Ok(winner),
         None => {}
     }
     let names = input.tree.names_of(group);
