@@ -123,6 +123,7 @@ pub alone_explained : {O : Type 0} (written : O → Option (List ℕ)) (out out_
 alone_explained written out out_now meant Done unwritten is = absurd (unwritten tt)
 alone_explained written out out_now meant (WalkErrors count) unwritten is = absurd (unwritten tt)
 alone_explained written out out_now meant (Differs count) unwritten is = absurd (unwritten tt)
+alone_explained written out out_now meant (Denied finding) unwritten is = absurd (unwritten tt)
 alone_explained written out out_now meant WriteFault unwritten is = absurd (unwritten tt)
 alone_explained written out out_now meant cause unwritten is = is
 
@@ -202,6 +203,7 @@ pub file_calls : (old now : Option ℕ) (opened writes : ℕ) (cause : Cause) �
 file_calls old now opened writes Done kind opens = absurd kind
 file_calls old now opened writes (WalkErrors count) kind opens = absurd kind
 file_calls old now opened writes (Differs count) kind opens = absurd kind
+file_calls old now opened writes (Denied finding) kind opens = absurd kind
 file_calls old now opened writes WriteFault kind opens = absurd kind
 file_calls old now opened writes ReadFault kind opens = opens
 file_calls old now opened writes OutOfMemory kind opens =
@@ -213,6 +215,7 @@ pub input_calls : (old now : Option ℕ) (opened writes : ℕ) (cause : Cause) �
 input_calls old now opened writes Done kind made = absurd kind
 input_calls old now opened writes (WalkErrors count) kind made = absurd kind
 input_calls old now opened writes (Differs count) kind made = absurd kind
+input_calls old now opened writes (Denied finding) kind made = absurd kind
 input_calls old now opened writes WriteFault kind made = absurd kind
 input_calls old now opened writes ReadFault kind made = (opened, omega arith, made)
 input_calls old now opened writes OutOfMemory kind made = all_up_to old now opened writes made
@@ -223,6 +226,7 @@ pub written_calls : (old now : Option ℕ) (opened writes : ℕ) (cause : Cause)
 written_calls old now opened writes Done kind made = made
 written_calls old now opened writes (WalkErrors count) kind made = made
 written_calls old now opened writes (Differs count) kind made = made
+written_calls old now opened writes (Denied finding) kind made = made
 written_calls old now opened writes WriteFault kind made = made
 written_calls old now opened writes cause kind made = absurd kind
 
@@ -334,6 +338,7 @@ pub alone_reported : {O : Type 0} (written : O → Option (List ℕ)) (out out_n
 alone_reported written out out_now meant ends.Done answers = answers
 alone_reported written out out_now meant (ends.WalkErrors count) answers = answers
 alone_reported written out out_now meant (ends.Differs count) answers = answers
+alone_reported written out out_now meant (ends.Denied finding) answers = answers
 
 pub same_known : (old new : Option Files) → new ≡ old → IfSome old (λ known. new ≡ Some known)
 same_known None new is = tt

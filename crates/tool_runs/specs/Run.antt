@@ -99,6 +99,8 @@ EndsAlone written out out_now meant (WalkErrors count) =
     ReportsAlone written out out_now meant (WalkErrors count)
 EndsAlone written out out_now meant (Differs count) =
     ReportsAlone written out out_now meant (Differs count)
+EndsAlone written out out_now meant (Denied finding) =
+    ReportsAlone written out out_now meant (Denied finding)
 EndsAlone written out out_now meant WriteFault = IsOk meant
 EndsAlone written out out_now meant cause = Explained meant cause
 
@@ -114,6 +116,7 @@ CallsMade old now opened writes WriteFault = Calls old now (opened + writes)
 CallsMade old now opened writes Done = Calls old now (opened + writes)
 CallsMade old now opened writes (WalkErrors count) = Calls old now (opened + writes)
 CallsMade old now opened writes (Differs count) = Calls old now (opened + writes)
+CallsMade old now opened writes (Denied finding) = Calls old now (opened + writes)
 CallsMade old now opened writes cause = Calls old now opened
 
 -- a read of a file failed, before the input was touched
