@@ -1,8 +1,8 @@
 -- Pieces compared with a file, one after the other.
-use Rattle.std.proofs.Common.{◌≡◌, ◌∙◌, sym, refl, ap, ap₂, ℕ, zero, suc, ◌+◌, ◌<◌, ◌≤◌, ◌||◌, ◌==◌, Bool, true, false, List, [], ◌∷◌, ◌++◌, drop, get_or, length, map, set, Option, Some, None, inl, inr, arith, eq-eqb, ne_eqb, add-one, append_assoc, if◌then◌else◌}
+use Rattle.std.proofs.Common.{◌≡◌, ◌∙◌, sym, refl, ap, ap₂, ℕ, zero, suc, ◌+◌, ◌<◌, ◌≤◌, ◌||◌, ◌==◌, Bool, true, false, List, [], ◌∷◌, ◌++◌, drop, get_or, length, map, replicate, set, Option, Some, None, inl, inr, arith, eq-eqb, ne_eqb, add-one, append_assoc, if◌then◌else◌}
 use Rattle.std.specs.Prelude.{is_none, is_some, nat_lt, slice_get}
 use Rattle.std.proofs.lemmas.Bool.{cases_eq, cases_lt, le-ltb, lt-ltb}
-use Rattle.std.proofs.lemmas.List.{at_drop_all, at_drop_more, get_or-set_other, get_or-set_same, length-set, map-append}
+use Rattle.std.proofs.lemmas.List.{at_drop_all, at_drop_more, get_or-replicate, get_or-set_other, get_or-set_same, length-replicate, length-set, map-append}
 use Rattle.label_base.specs.Bounded.{all_numbers, any_below}
 use Rattle.relabel_core.specs.Report.{AreRaised, optional_text, raised_at, unflagged_line}
 use Rattle.relabel_core.specs.Walk.{Walk, count, deciding, is_at, line_of_spec, unmatched_line}
@@ -107,6 +107,13 @@ raised_here flags (Some k) i l = elim (cases_lt k (length flags)) [
       ap (λ b. get_or (if b then set flags k true else flags) i false) (le-ltb k (length flags) ge) ∙ or_none (get_or flags i false)
       ∙ ap (λ b. get_or flags i false || b) (sym (ne_eqb k i (λ s. omega (arith, l, ge, s))))
 ]
+
+-- no entry was decided yet
+pub none_raised : (w : Walk) (n : ℕ) (flags : List Bool) → n ≡ length w.rules.rules → flags ≡ replicate n false → AreRaised w 0 flags
+none_raised w n flags each is = record {
+  each_spec = ap length is ∙ length-replicate n false ∙ each;
+  raised = λ i l. ap (λ fs. get_or fs i false) is ∙ get_or-replicate n i false false (omega (arith, l, each));
+}
 
 -- the flag of what decides one entry more is raised
 pub raised_more : (w : Walk) (e : ℕ) (old now : List Bool) (found : Option ℕ) → AreRaised w e old → found ≡ deciding w e → now ≡ raised_at old found → AreRaised w (e + 1) now

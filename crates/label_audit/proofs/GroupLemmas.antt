@@ -12,7 +12,7 @@ use Rattle.std.proofs.lemmas.List.Elements.{filter-append}
 use Rattle.std.proofs.lemmas.List.Folds.{find-append}
 use Rattle.label_base.specs.Bounded.{all_below, all_numbers, any_below, found_or, implies, least_below}
 use Rattle.label_base.proofs.BoundedLemmas.{all_at, any_at, any_has, count_numbers, implies_at, least_none}
-use Rattle.tree_model.specs.Extents.{in_extent, is_directory}
+use Rattle.tree_model.specs.Extents.{entry_at, in_extent, is_directory}
 use Rattle.tree_model.specs.Groups.{closed_at, group_of, holds_groups, holds_names, names_in}
 use Rattle.tree_model.specs.Selection.{whole_at}
 use Rattle.tree_model.proofs.DeadLemmas.{number_at}
@@ -74,7 +74,7 @@ unwanted_if live false index h = absurd cc
 unwanted : (w : Walk) (e : ℕ) → is_skipped w e ≡ true → is_wanted w e ≡ false
 unfolding wanted deciding walked
 unwanted w e h =
-    ap (λ index. is_some (given_at w.rules.rules index)) (unwanted_if (is_live w e) (is_skipped w e) (index_for w.rules _) h)
+    ap (λ index. is_some (given_at w.rules.rules index)) (unwanted_if (is_live w e) (is_skipped w e) (index_for w.rules (entry_at w.entries e)) h)
 
 no_name : (w : Walk) (e : ℕ) → e < count w → is_skipped w e ≡ true → winner w (group_of w.entries e) ≡ None
 unfolding winner

@@ -3,13 +3,13 @@ ghost use Rattle.std.specs.Option.{option_copied};
 ghost use Rattle.file_paths.specs.PathRef.{path_of};
 ghost use Rattle.find_records.specs.Record.{AreOf};
 ghost use Rattle.report_text.specs.Texts.{shown_path};
-ghost use Rattle.tree_model.specs.Extents.{entry_at};
 ghost use Rattle.tree_model.specs.Selection.{selected_by};
 ghost use Rattle.relabel_core.specs.Stored.{digests_of};
 ghost use Rattle.relabel_core.specs.Walked.{IsFit, walk_for, walk_of};
 ghost use Rattle.label_audit.specs.Answer.{answer_of, ending_of, finding_end, finding_line, finding_text, pattern_of, piece_text};
 
 use crate::auditing::audit;
+use crate::entries::entry_path;
 use crate::found::AuditFiles;
 use crate::words::AuditWords;
 use file_paths::PathRef;
@@ -35,16 +35,6 @@ const SPECIFICATION: &str = "specification ";
 const ITS_END: &str = "its end";
 
 const LINE_FEED: &str = "\n";
-
-// The path of an entry.
-fn entry_path<'a>(tree: &'a Tree, e: u32) -> PathRef<'a>
-    ensures { path_of result ≡ (entry_at tree.now e).path }
-{
-    if e < tree.len() {
-        return tree.entry(e).path;
-    }
-    PathRef::of_text(b"")
-}
 
 fn add_path(alloc: Global, path: &PathRef<'_>, text: &mut Bytes) -> Result<(), OutOfMemory>
     ensures { OnOk result (text.new ≡ text.old ++ shown_path (path_of path.now)) }

@@ -1,5 +1,7 @@
 ghost use Rattle.std.specs.Prelude.{◌≡◌, ◌+◌, ◌++◌, ◌∷◌, ◌<◌, false, IfOk, List, OnOk, option_map};
 ghost use Rattle.context_syntax.specs.ContextRef.{context_lent};
+ghost use Rattle.file_paths.specs.PathRef.{path_of};
+ghost use Rattle.tree_model.specs.Extents.{entry_at};
 ghost use Rattle.relabel_core.specs.Changes.{change_at, digest_change, optional_section, section_at};
 ghost use Rattle.relabel_core.specs.KnownEntry.{index_known, walk_known};
 ghost use Rattle.relabel_core.specs.Passed.{renewal};
@@ -19,11 +21,13 @@ use crate::lines::make_line;
 use crate::looking::{LookUps, decide_at, known_of, skip_at};
 use context_syntax::ContextRef;
 use dir_digest::Digest;
+use file_paths::PathRef;
 use label_base::{Bytes, OutOfMemory, Steps};
 use relabel_core::{Known, WalkInput, add_section_of, raise};
 use run_faults::Piece;
 use std::alloc::Global;
 use std::sync::ledger::Ledger;
+use tree_model::Tree;
 
 /// What the piece at hand is made in.
 #[derive(Drop)]
@@ -62,8 +66,17 @@ fn compare_line(
     Ok(())
 }
 
+/// The path of an entry, or the empty one.
+pub fn entry_path<'a>(tree: &'a Tree, e: u32) -> PathRef<'a>
+    ensures { path_of result ≡ (entry_at tree.now e).path }
+{
+    if e < tree.len() {
+        return tree.entry(e).path;
+    }
+    PathRef::of_text(b"")
+}
+
 // Makes the section of an entry whose label and whose digest change to these.
-#[tactic(auto, using(relabel_core::proofs::ChangeLemmas::section_told))]
 fn make_section(
     alloc: Global,
     input: &WalkInput<'_>,
@@ -72,13 +85,12 @@ fn make_section(
     digest: &Option<Digest>,
     texts: &mut Texts,
 ) -> Result<(), OutOfMemory>
-    requires entry { e < count (walk_of input.now) }
     requires change { option_map context_lent change.now ≡ change_at (walk_of input.now) e }
     requires digest { digest.now ≡ digest_change (walk_of input.now) e }
     ensures { OnOk result (texts.new.piece ≡ optional_section (section_at (walk_of input.now) e)) }
 {
     texts.piece.clear();
-    let path = input.tree.entry(e).path;
+    let path = entry_path(input.tree, e);
     add_section_of(
         alloc,
         &path,
@@ -86,7 +98,8 @@ fn make_section(
         digest,
         &mut texts.spelled,
         &mut texts.piece,
-    )
+    )?;
+    Ok(())
 }
 
 // Whether there is a dump, all pieces of which stood so far.

@@ -1,4 +1,4 @@
-use Rattle.std.proofs.Common.{◌≡◌, ◌∙◌, refl, sym, subst, arith}
+use Rattle.std.proofs.Common.{◌≡◌, ◌<◌, ◌∙◌, refl, sym, subst, arith}
 use Rattle.std.proofs.lemmas.List.{length-map}
 use Rattle.label_base.specs.Bounded.{all_numbers}
 use Rattle.label_base.proofs.BoundedLemmas.{count_numbers}
@@ -26,7 +26,7 @@ pub entries-preserved : goal.entries-preserved
 entries-preserved g c =
     let w = walk_of c.args.input.now in
     let e = c.entries.e in
-    let here = omega (arith, c.entries-test.true, c.len-e-end.ensures) in
+    let here : e < count w = omega (arith, c.entries-test.true, c.len-e-end.ensures) in
     record {
       ready = c.audit_entry-end.ensures.ready;
       covers = c.in_ok-end.ensures.covers;

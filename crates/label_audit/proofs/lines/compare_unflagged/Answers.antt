@@ -1,4 +1,4 @@
-use Rattle.std.proofs.Common.{◌≡◌, refl, arith, length, map}
+use Rattle.std.proofs.Common.{◌≡◌, ◌<◌, refl, arith, length, map}
 use Rattle.std.proofs.lemmas.List.{length-map}
 use Rattle.label_base.specs.Bounded.{all_numbers}
 use Rattle.label_base.proofs.BoundedLemmas.{count_numbers}
@@ -14,7 +14,7 @@ pub specs-preserved : goal.specs-preserved
 specs-preserved c =
     let n = length c.args.rules.now.rules in
     let piece = unflagged_piece c.args.rules.now c.args.flags.now in
-    let here = omega (arith, c.specs-test.true, c.len-i-end.ensures) in
+    let here : c.specs.i < n = omega (arith, c.specs-test.true, c.len-i-end.ensures) in
     next_compared (behind c.specs.report) (behind c.compare_spec.new.report) _ (map piece (all_numbers n)) c.specs.i (piece c.specs.i)
     (omega (arith, here, length-map (all_numbers n) piece, count_numbers n)) (mapped_at piece n c.specs.i (piece c.specs.i) here)
     c.specs.invariant c.in_ok-compare_spec.ensures
