@@ -28,14 +28,14 @@ entries-preserved g c =
     let e = c.entries.e in
     let here : e < count w = omega (arith, c.entries-test.true, c.len-e-end.ensures) in
     record {
-      ready = c.audit_entry-end.ensures.ready;
+      ready = c.in_ok-end.ensures.ready;
       covers = c.in_ok-end.ensures.covers;
       ahead = c.in_ok-end.ensures.ahead;
       flags = c.in_ok-end.ensures.flags;
-      report = next_compared (behind c.entries.audit.report) (behind c.audit_entry-end.new.audit.report) _ (entry_pieces w) e (entry_piece w e)
+      report = next_compared (behind c.entries.audit.report) (behind c.audit_entry.new.audit.report) _ (entry_pieces w) e (entry_piece w e)
           (omega (arith, here, length-map (all_numbers (count w)) (entry_piece w), count_numbers (count w))) (mapped_at (entry_piece w) (count w) e (entry_piece w e) here)
           c.entries.invariant.report c.in_ok-end.ensures.report;
-      dump = next_compared (behind_of c.entries.audit.dump) (behind_of c.audit_entry-end.new.audit.dump) _ (dump_pieces w) e (section_piece w e)
+      dump = next_compared (behind_of c.entries.audit.dump) (behind_of c.audit_entry.new.audit.dump) _ (dump_pieces w) e (section_piece w e)
           (omega (arith, here, length-map (all_numbers (count w)) (section_piece w), count_numbers (count w))) (mapped_at (section_piece w) (count w) e (section_piece w e) here)
           c.entries.invariant.dump c.in_ok-end.ensures.dump;
     }
