@@ -1,9 +1,9 @@
 -- The files of a run by their roles.
 use Rattle.std.specs.Prelude.{ℕ, ◌==◌, ◌&&◌, Bool, true, false, List, [], ◌∷◌, if◌then◌else◌}
 use Rattle.file_roles.specs.declared.role.Part.{Part}
-use Rattle.file_roles.specs.declared.role.Part.TheVariants.{Base, Homedirs, Local, Subs, SubsDist, Customizable, Kept, Template, Users}
+use Rattle.file_roles.specs.declared.role.Part.TheVariants.{Base, Homedirs, Local, Subs, SubsDist, Customizable, Kept, Template, Users, Report, Output}
 use Rattle.file_roles.specs.declared.role.FileRole.{FileRole}
-use Rattle.file_roles.specs.declared.role.TheConstants.{MOST_LIST_BYTES, MOST_SPEC_BYTES, MOST_STORED_BYTES}
+use Rattle.file_roles.specs.declared.role.TheConstants.{MOST_LIST_BYTES, MOST_OUTPUT_BYTES, MOST_REPORT_BYTES, MOST_SPEC_BYTES, MOST_STORED_BYTES}
 use Rattle.file_roles.specs.declared.list.NamedFile.{NamedFile}
 
 abbrev pub part_number : Part → ℕ
@@ -16,6 +16,8 @@ part_number Customizable = 5
 part_number Kept = 6
 part_number Template = 7
 part_number Users = 8
+part_number Report = 9
+part_number Output = 10
 
 abbrev pub same_part : Part → Part → Bool
 same_part a b = part_number a == part_number b
@@ -37,6 +39,8 @@ most_bytes Customizable = MOST_LIST_BYTES
 most_bytes Kept = MOST_STORED_BYTES
 most_bytes Template = MOST_SPEC_BYTES
 most_bytes Users = MOST_LIST_BYTES
+most_bytes Report = MOST_REPORT_BYTES
+most_bytes Output = MOST_OUTPUT_BYTES
 
 -- an absent file counts as an empty one
 abbrev pub may_be_absent : Part → Bool
@@ -49,6 +53,8 @@ may_be_absent Customizable = true
 may_be_absent Kept = false
 may_be_absent Template = false
 may_be_absent Users = false
+may_be_absent Report = false
+may_be_absent Output = false
 
 abbrev pub named : FileRole → List ℕ → NamedFile
 named role name = record { role = role; name = name }

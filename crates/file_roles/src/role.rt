@@ -5,6 +5,10 @@ ghost use Rattle.file_roles.specs.Roles.{may_be_absent, most_bytes, part_number,
 pub const MOST_SPEC_BYTES: usize = 67_108_864;
 /// The greatest number of bytes of a file of stored digests.
 pub const MOST_STORED_BYTES: usize = 268_435_456;
+/// The greatest number of bytes of a report that is audited.
+pub const MOST_REPORT_BYTES: usize = 536_870_912;
+/// The greatest number of bytes of a dump that is audited.
+pub const MOST_OUTPUT_BYTES: usize = 268_435_456;
 /// The greatest number of bytes of a file of substitutions, of type names or of users.
 pub const MOST_LIST_BYTES: usize = 1_048_576;
 
@@ -29,6 +33,10 @@ pub enum Part {
     Template,
     /// The users for whose homes a file is made.
     Users,
+    /// The report that is audited.
+    Report,
+    /// The dump that is audited.
+    Output,
 }
 
 /// The role of a file: its part, and the policy to which it belongs, of which a run may have several.
@@ -53,6 +61,8 @@ fn part_number(part: Part) -> u32
         Part::Kept => 6,
         Part::Template => 7,
         Part::Users => 8,
+        Part::Report => 9,
+        Part::Output => 10,
     }
 }
 
@@ -78,6 +88,8 @@ impl FileRole {
             Part::Base | Part::Homedirs | Part::Local | Part::Template => MOST_SPEC_BYTES,
             Part::Subs | Part::SubsDist | Part::Customizable | Part::Users => MOST_LIST_BYTES,
             Part::Kept => MOST_STORED_BYTES,
+            Part::Report => MOST_REPORT_BYTES,
+            Part::Output => MOST_OUTPUT_BYTES,
         }
     }
 
@@ -87,6 +99,7 @@ impl FileRole {
     {
         match self.part {
             Part::Base | Part::Kept | Part::Template | Part::Users => false,
+            Part::Report | Part::Output => false,
             Part::Homedirs | Part::Local | Part::Subs | Part::SubsDist | Part::Customizable => true,
         }
     }

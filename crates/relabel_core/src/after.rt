@@ -30,8 +30,8 @@ fn void_if(is_void: bool) -> DigestAfter
     DigestAfter::Stays
 }
 
-// The digest, unless it is the stored one.
-fn unless_stored(digest: Digest, stored: Option<&[u8]>) -> Option<Digest>
+/// The digest, unless it is the stored one.
+pub fn unless_stored(digest: Digest, stored: Option<&[u8]>) -> Option<Digest>
     ensures { result ≡ unless_stored digest (option_copied stored.entry) }
 {
     match stored {

@@ -40,6 +40,8 @@ pub fn walk_input<'a>(
     ensures fit { IsFit result }
     ensures walk { walk_of result
         ≡ walk_for tree.now choice.now rules.now options (digests_of stored.now) }
+    ensures operands { result.operands.now ≡ choice.now.operands }
+    ensures selected { result.chosen.now ≡ selected_by choice.now tree.now }
 {
     tree.rises();
     WalkInput {

@@ -24,7 +24,7 @@ mod stored;
 mod walked;
 mod walking;
 
-pub use after::{DigestAfter, digest_after, digest_change};
+pub use after::{DigestAfter, digest_after, digest_change, unless_stored};
 pub use deciding::{decide_entry, is_walked};
 pub use digesting::{Buffers, buffers_for, digest_of, listings_by};
 pub use digests::Digests;
@@ -38,7 +38,7 @@ pub use next::{label_of, next_digests, next_labels};
 pub use noting::{Noted, note_entry};
 pub use options::Options;
 pub use passed::{Passed, Skip, does_skip, is_first, is_skipped};
-pub use report::add_absent_of;
+pub use report::{add_absent_of, no_flags, operand_at, raise, unflagged_line};
 pub use stored::Stored;
 pub use walked::Walked;
 pub use walking::walk;

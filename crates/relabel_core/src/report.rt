@@ -28,8 +28,8 @@ fn add_message(
     }
 }
 
-// The operand with an index.
-fn operand_at<'a>(operands: &'a [NormPath], i: u32) -> PathRef<'a>
+/// The operand with an index, or the empty path.
+pub fn operand_at<'a>(operands: &'a [NormPath], i: u32) -> PathRef<'a>
     ensures { path_of result ≡ get_or operands.now i [] }
 {
     match operands.get(i as usize) {
@@ -81,8 +81,8 @@ fn add_entries(alloc: Global, walked: &Walked<'_>, to: &mut Bytes) -> Result<(),
     Ok(())
 }
 
-// So many flags that are not raised.
-fn no_flags(alloc: Global, count: u32) -> Result<Vec<bool>, OutOfMemory>
+/// So many flags that are not raised.
+pub fn no_flags(alloc: Global, count: u32) -> Result<Vec<bool>, OutOfMemory>
     ensures { IfOk result (λ flags. flags.items ≡ replicate count false) }
 {
     let mut flags = Vec::with_capacity(alloc, count as usize)?;
@@ -100,7 +100,8 @@ fn raise_at(flags: &mut Vec<bool>, i: u32)
     }
 }
 
-fn raise(flags: &mut Vec<bool>, found: Option<u32>)
+/// Raises the flag of a specification, where one is found.
+pub fn raise(flags: &mut Vec<bool>, found: Option<u32>)
     ensures { flags.new.items ≡ raised_at flags.old.items found }
 {
     match found {
@@ -154,6 +155,13 @@ fn flag_at(flags: &[bool], i: u32) -> bool
     }
 }
 
+/// The line of a specification, unless its flag is raised.
+pub fn unflagged_line<'a>(rules: &'a Rules, flags: &[bool], i: u32) -> Option<Message<'a>>
+    ensures { option_map message_of result ≡ unflagged_line rules.now flags.now i }
+{
+    line_unless(rules, i, flag_at(flags, i))
+}
+
 // The lines of the specifications whose flags are not raised.
 fn add_unflagged(
     alloc: Global,
@@ -165,7 +173,7 @@ fn add_unflagged(
         ≡ to.old ++ text_below (unflagged_line rules.now flags.now) (length rules.now.rules)) }
 {
     'specs: for i in 0..rules.rules.len() {
-        add_message(alloc, &line_unless(rules, i, flag_at(flags, i)), to)?;
+        add_message(alloc, &unflagged_line(rules, flags, i), to)?;
     }
     Ok(())
 }

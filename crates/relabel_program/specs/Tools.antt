@@ -20,9 +20,12 @@ use Rattle.policy_rehearsal.specs.declared.TheConstants.{REHEARSE_TOOL}
 use Rattle.sample_tree.specs.Plan.{sample_plan}
 use Rattle.sample_tree.specs.Words.{sample_words}
 use Rattle.sample_tree.specs.declared.TheConstants.{SAMPLE}
+use Rattle.label_audit.specs.Plan.{audit_plan}
+use Rattle.label_audit.specs.Words.{audit_words}
+use Rattle.label_audit.specs.declared.TheConstants.{AUDIT}
 use Rattle.relabel_program.specs.declared.runs.TheConstants.{FIRST}
 use Rattle.relabel_program.specs.declared.runs.ToolName.{ToolName}
-use Rattle.relabel_program.specs.declared.runs.ToolName.TheVariants.{Setfiles, Restorecon, Matchpathcon, Genhomedircon, Rehearse, Sample}
+use Rattle.relabel_program.specs.declared.runs.ToolName.TheVariants.{Setfiles, Restorecon, Matchpathcon, Genhomedircon, Rehearse, Sample, Audit}
 
 -- the tool that a word names
 abbrev pub tool_named : List ℕ → Option ToolName
@@ -33,6 +36,7 @@ tool_named word =
     else if same_bytes word GENHOMEDIRCON.now then Some Genhomedircon
     else if same_bytes word REHEARSE_TOOL.now then Some Rehearse
     else if same_bytes word SAMPLE.now then Some Sample
+    else if same_bytes word AUDIT.now then Some Audit
     else None
 
 -- what the words behind a tool's name ask for: how they are read, and the plan of what they mean
@@ -43,6 +47,7 @@ asked_for (Some Matchpathcon) words = planned lookup_plan (lookup_words FIRST wo
 asked_for (Some Genhomedircon) words = planned homes_plan (homes_words FIRST words)
 asked_for (Some Rehearse) words = planned rehearse_plan (rehearse_words FIRST words)
 asked_for (Some Sample) words = planned sample_plan (sample_words FIRST words)
+asked_for (Some Audit) words = planned audit_plan (audit_words FIRST words)
 asked_for None words = Err (usage 0 UnknownTool)
 
 -- what all words ask for, or the first that is wrong

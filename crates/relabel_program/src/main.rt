@@ -1,10 +1,12 @@
 //! The program: setfiles(8), restorecon(8) and matchpathcon(8) over the files of a policy and the
-//! records of a tree, genhomedircon over a template and a list of users, and a sample of a tree,
-//! walked twice.
+//! records of a tree, rehearsals of several policies there, audits of a report and a dump,
+//! genhomedircon over a template and a list of users, and a sample of a tree, walked twice.
 #![tactic(auto)]
 
 ghost use Rattle.std.specs.Prelude.{◌<◌, ◌^◌, IfOk, length};
 
+#[cfg(test)]
+mod audit_tests;
 #[cfg(test)]
 mod failing_tests;
 mod runs;

@@ -19,10 +19,13 @@ ghost use Rattle.policy_rehearsal.specs.Words.{rehearse_words};
 ghost use Rattle.sample_tree.specs.Plan.{sample_plan};
 ghost use Rattle.sample_tree.specs.Words.{sample_words};
 ghost use Rattle.relabel_program.specs.Samples.{RunsSample};
+ghost use Rattle.label_audit.specs.Plan.{audit_plan};
+ghost use Rattle.label_audit.specs.Words.{audit_words};
 ghost use Rattle.relabel_program.specs.Tools.{asked_for, asked_of, tool_named};
 
 use home_contexts::{GENHOMEDIRCON, read_homes};
 use input_output::{Sink, Source, Store};
+use label_audit::{AUDIT, read_audit};
 use label_base::Fault;
 use path_lookups::{MATCHPATHCON, read_lookup};
 use policy_rehearsal::{REHEARSE_TOOL, read_rehearse};
@@ -48,6 +51,7 @@ enum ToolName {
     Genhomedircon,
     Rehearse,
     Sample,
+    Audit,
 }
 
 // The tool that a word names.
@@ -66,6 +70,8 @@ fn tool_named(word: &str) -> Option<ToolName>
         Some(ToolName::Rehearse)
     } else if word == SAMPLE {
         Some(ToolName::Sample)
+    } else if word == AUDIT {
+        Some(ToolName::Audit)
     } else {
         None
     }
@@ -188,6 +194,23 @@ fn run_sample<S: Store, I: Source, O: Sink>(
     run_words(alloc, read_sample(alloc, words, FIRST), store, input, out)
 }
 
+// Runs audit by the words behind its name.
+fn run_audit<S: Store, I: Source, O: Sink>(
+    alloc: Global,
+    words: &[String],
+    store: &mut S,
+    input: &mut I,
+    out: &mut O,
+) -> Outcome
+    requires { length words.now + FIRST < 2 ^ 31 }
+    ensures status { result.status ≡ status_of (is_soft_in (planned audit_plan (audit_words FIRST (word_texts words.now)))) result.cause }
+    ensures run { Run S.files S.calls S.read_faults S.write_faults I.left I.faults O.written O.faults
+        (planned audit_plan (audit_words FIRST (word_texts words.now))) store.old store.new input.old input.new
+        out.old out.new result.cause }
+{
+    run_words(alloc, read_audit(alloc, words, FIRST), store, input, out)
+}
+
 // Refuses words that name no tool: any tool's words would do.
 fn refuse_tool<S: Store, I: Source, O: Sink>(
     alloc: Global,
@@ -226,6 +249,7 @@ fn run_named<S: Store, I: Source, O: Sink>(
         Some(ToolName::Genhomedircon) => run_homes(alloc, words, store, input, out),
         Some(ToolName::Rehearse) => run_rehearse(alloc, words, store, input, out),
         Some(ToolName::Sample) => run_sample(alloc, words, store, input, out),
+        Some(ToolName::Audit) => run_audit(alloc, words, store, input, out),
         None => refuse_tool(alloc, store, input, out),
     }
 }

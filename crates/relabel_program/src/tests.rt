@@ -61,6 +61,18 @@ impl Ran {
     pub(crate) fn lacks(&self, name: &str) -> bool {
         self.store.file(name).is_none()
     }
+
+    pub(crate) fn report(&self) -> &[u8] {
+        self.out.written()
+    }
+
+    /// What the file of `-o` has.
+    pub(crate) fn dump(&self) -> &[u8] {
+        match self.store.file("out") {
+            Some(dump) => dump,
+            None => b"",
+        }
+    }
 }
 
 fn failing_at(alloc: Global, number: u64) -> Result<Row<u64>, OutOfMemory> {
@@ -125,6 +137,19 @@ pub(crate) fn first(alloc: Global, failing: &Failing) -> Result<Ran, OutOfMemory
 
 /// Words that are refused, and what stands behind `relabel: usage: word `.
 const REFUSED_WORDS: &[(&[&str], &[u8])] = &[
+    (
+        &["audit", "rep", "matchpathcon", "/a"],
+        b"relabel: usage: word 2: unknown tool\n",
+    ),
+    (&["audit"], b"relabel: usage: word 1: missing operand\n"),
+    (
+        &["audit", "", "setfiles"],
+        b"relabel: usage: word 1: bad path\n",
+    ),
+    (
+        &["audit", "--", "setfiles", "-n", "-q", "fc", "/"],
+        b"relabel: usage: word 4: unknown option\n",
+    ),
     (&[], b"relabel: usage: word 0: unknown tool\n"),
     (&["setfile"], b"relabel: usage: word 0: unknown tool\n"),
     (
@@ -279,7 +304,7 @@ fn stored_digests_are_read_last_and_must_be_there(rt: HostRuntime) -> Result<(),
 
 const ROW_WORDS: &[&str] = &["restorecon", "-v", "-S", "fc", "-o", "out", "/srv/b"];
 
-const ROW_RECORDS: &[u8] = b"f 1 21 unconfined_u:object_r:tmp_t:s0-s0:c0.c1023 /srv/b\0";
+pub(crate) const ROW_RECORDS: &[u8] = b"f 1 21 unconfined_u:object_r:tmp_t:s0-s0:c0.c1023 /srv/b\0";
 
 pub(crate) const ROW_REPORT: &[u8] =
     b"Relabeled /srv/b from unconfined_u:object_r:tmp_t:s0-s0:c0.c1023 to unconfined_u:object_r:var_t:s0-s0:c0.c1023\n";

@@ -9,7 +9,7 @@ use Rattle.run_faults.specs.declared.cause.Cause.{Cause}
 use Rattle.run_faults.specs.declared.cause.Cause.TheVariants as causes
 use Rattle.run_faults.specs.declared.cause.Cause.TheVariants.{WriteFault}
 use Rattle.run_endings.specs.declared.ending.End.{End}
-use Rattle.run_endings.specs.declared.ending.End.TheVariants.{Done, WalkErrors, Differs}
+use Rattle.run_endings.specs.declared.ending.End.TheVariants.{Done, WalkErrors, Differs, Denied}
 use Rattle.run_endings.specs.declared.ending.Saved.{Saved}
 use Rattle.run_endings.specs.declared.ending.Ending.{Ending}
 
@@ -18,6 +18,7 @@ abbrev pub cause_of : End → Cause
 cause_of Done = causes.Done
 cause_of (WalkErrors count) = causes.WalkErrors count
 cause_of (Differs count) = causes.Differs count
+cause_of (Denied finding) = causes.Denied finding
 
 -- all of a text was written, and the sink didn't fail
 abbrev pub WritesAll : {O : Type 0} → (O → Option (List ℕ)) → (O → ℕ) → O → O → List ℕ → Type 0

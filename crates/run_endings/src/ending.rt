@@ -1,4 +1,5 @@
 use label_base::{Bytes, Name};
+use run_faults::Finding;
 
 /// How a run ends that writes its report.
 #[derive(Clone, Copy)]
@@ -9,6 +10,8 @@ pub enum End {
     WalkErrors { count: u32 },
     /// So many paths have another label than they should have, or no record.
     Differs { count: u32 },
+    /// What was audited differs from what it should be: this finding isn't [`Finding::Agrees`].
+    Denied { finding: Finding },
 }
 
 /// A text that goes to a file.

@@ -93,6 +93,7 @@ fn cause_of(end: End) -> Cause
         End::Done => Cause::Done,
         End::WalkErrors { count } => Cause::WalkErrors { count },
         End::Differs { count } => Cause::Differs { count },
+        End::Denied { finding } => Cause::Denied { finding },
     }
 }
 

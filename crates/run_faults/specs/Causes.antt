@@ -5,7 +5,7 @@ use Rattle.label_base.specs.declared.fault.Fault.{Fault}
 use Rattle.label_base.specs.declared.fault.Fault.TheVariants as faults
 use Rattle.tool_words.specs.declared.usage.Usage as wrong_word
 use Rattle.run_faults.specs.declared.cause.Cause.{Cause}
-use Rattle.run_faults.specs.declared.cause.Cause.TheVariants.{Done, Usage, Missing, SpecRefused, SubRefused, CustomRefused, DumpRefused, TemplateRefused, UsersRefused, RecordRefused, Unended, Doubled, Limit, WalkErrors, Differs, ReadFault, WriteFault, OutOfMemory}
+use Rattle.run_faults.specs.declared.cause.Cause.TheVariants.{Done, Usage, Missing, SpecRefused, SubRefused, CustomRefused, DumpRefused, TemplateRefused, UsersRefused, RecordRefused, Unended, Doubled, Limit, WalkErrors, Differs, Denied, ReadFault, WriteFault, OutOfMemory}
 use Rattle.run_faults.specs.declared.cause.LimitKind.{LimitKind}
 use Rattle.run_faults.specs.declared.cause.LimitKind.TheVariants.{File, Specs, Records, RecordBytes}
 
@@ -24,6 +24,7 @@ abbrev pub IsReported : Cause → Type 0
 IsReported Done = Unit {0}
 IsReported (WalkErrors count) = Unit {0}
 IsReported (Differs count) = Unit {0}
+IsReported (Denied finding) = Unit {0}
 IsReported cause = ⊥
 
 -- the causes of a run that came to writing the dump or the report, and found memory for it

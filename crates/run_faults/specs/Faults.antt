@@ -17,7 +17,7 @@ use Rattle.tool_words.specs.declared.usage.UsageWhy.{UsageWhy}
 use Rattle.tool_words.specs.declared.usage.UsageWhy.TheVariants as usage
 use Rattle.file_roles.specs.Roles.{first_name, role}
 use Rattle.run_faults.specs.declared.cause.Cause.{Cause}
-use Rattle.run_faults.specs.declared.cause.Cause.TheVariants.{Done, Usage, Missing, SpecRefused, SubRefused, CustomRefused, DumpRefused, TemplateRefused, UsersRefused, RecordRefused, Unended, Doubled, Limit, WalkErrors, Differs, ReadFault, WriteFault, OutOfMemory}
+use Rattle.run_faults.specs.declared.cause.Cause.TheVariants.{Done, Usage, Missing, SpecRefused, SubRefused, CustomRefused, DumpRefused, TemplateRefused, UsersRefused, RecordRefused, Unended, Doubled, Limit, WalkErrors, Differs, Denied, ReadFault, WriteFault, OutOfMemory}
 use Rattle.run_faults.specs.declared.cause.LimitKind.{LimitKind}
 use Rattle.run_faults.specs.declared.cause.LimitKind.TheVariants.{File, Specs, Records, RecordBytes}
 use Rattle.file_roles.specs.declared.list.NamedFile.{NamedFile}
@@ -28,6 +28,7 @@ abbrev pub status_of : (soft : Bool) → Cause → ℕ
 status_of soft Done = 0
 status_of soft (WalkErrors count) = if soft then 1 else 255
 status_of soft (Differs count) = 1
+status_of soft (Denied finding) = 1
 status_of soft ReadFault = 253
 status_of soft WriteFault = 252
 status_of soft OutOfMemory = 254
@@ -111,6 +112,7 @@ reason_text files (Doubled first second) =
 reason_text files (Limit which) = limit_text files which
 reason_text files (WalkErrors count) = []
 reason_text files (Differs count) = []
+reason_text files (Denied finding) = []
 reason_text files ReadFault = texts.READ_FAILED.now
 reason_text files WriteFault = texts.WRITE_FAILED.now
 reason_text files OutOfMemory = texts.OUT_OF_MEMORY.now

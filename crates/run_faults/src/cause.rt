@@ -1,6 +1,7 @@
 ghost use Rattle.std.specs.Prelude.{◌≡◌};
 ghost use Rattle.run_faults.specs.declared.cause.Cause.TheVariants as causes;
 
+use crate::finding::Finding;
 use file_roles::FileRole;
 use find_records::RecordWhy;
 use label_base::{Name, OutOfMemory};
@@ -92,6 +93,11 @@ pub enum Cause {
     /// The report was written, and so many paths differ or have no record.
     Differs {
         count: u32,
+    },
+    /// The report was written, and what was audited differs from what it should be: this finding isn't
+    /// [`Finding::Agrees`].
+    Denied {
+        finding: Finding,
     },
     /// A file or the input could not be read.
     ReadFault,

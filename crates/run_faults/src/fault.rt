@@ -117,7 +117,7 @@ pub fn status(cause: &Cause, soft: bool) -> u8
     match cause {
         Cause::Done => 0,
         Cause::WalkErrors { .. } => errors_status(soft),
-        Cause::Differs { .. } => 1,
+        Cause::Differs { .. } | Cause::Denied { .. } => 1,
         Cause::ReadFault => 253,
         Cause::WriteFault => 252,
         Cause::OutOfMemory => 254,
@@ -347,7 +347,9 @@ fn add_reason(
     ensures { OnOk result (text.new ≡ text.old ++ reason_text files.now cause.now) }
 {
     match cause {
-        Cause::Done | Cause::WalkErrors { .. } | Cause::Differs { .. } => Ok(()),
+        Cause::Done | Cause::WalkErrors { .. } | Cause::Differs { .. } | Cause::Denied { .. } => Ok(
+            (),
+        ),
         Cause::Usage { index, why } => add_usage(alloc, *index, *why, text),
         Cause::Missing { name } => {
             add_name(alloc, name.as_str(), text)?;

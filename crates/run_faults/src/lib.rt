@@ -3,9 +3,11 @@
 
 mod cause;
 mod fault;
+mod finding;
 
 pub use cause::{Cause, LimitKind, Outcome};
 pub use fault::{fault_line, status};
+pub use finding::{Finding, Piece};
 
 #[cfg(test)]
 mod tests;

@@ -8,7 +8,7 @@ use Rattle.tool_words.specs.declared.usage.Usage.{Usage}
 use Rattle.run_faults.specs.Causes.{IsWritten}
 use Rattle.run_faults.specs.Faults.{fault_line, status_of}
 use Rattle.run_faults.specs.declared.cause.Cause.{Cause}
-use Rattle.run_faults.specs.declared.cause.Cause.TheVariants.{Done, WalkErrors, Differs, ReadFault, WriteFault, OutOfMemory}
+use Rattle.run_faults.specs.declared.cause.Cause.TheVariants.{Done, WalkErrors, Differs, Denied, ReadFault, WriteFault, OutOfMemory}
 use Rattle.run_endings.specs.Endings.{LineOrFront}
 use Rattle.run_endings.specs.declared.ending.Ending.{Ending}
 use Rattle.tool_runs.specs.Plan.{Plan, answer_in, input_in, is_soft_in, reads_in}
@@ -66,6 +66,8 @@ module _ {S O : Type 0} (files : S → Option Files) (written : O → Option (Li
       inl (whole_report (WalkErrors count) is ends)
   completes (Differs count) is ends line same no_read no_write =
       inl (whole_report (Differs count) is ends)
+  completes (Denied finding) is ends line same no_read no_write =
+      inl (whole_report (Denied finding) is ends)
   completes WriteFault is ends line same no_read no_write = absurd (no_write refl)
   completes ReadFault is ends line same no_read no_write = absurd (no_read refl)
   completes OutOfMemory is ends line same no_read no_write = inr refl

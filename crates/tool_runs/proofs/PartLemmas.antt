@@ -12,7 +12,7 @@ use Rattle.find_records.specs.Record.{Record}
 use Rattle.find_records.specs.declared.format.Format.{Format}
 use Rattle.run_faults.specs.Causes.{and_then, CauseCounts, Explained, IsFileCause, IsInputCause, IsReadingCause, IsReported, IsWritten}
 use Rattle.run_faults.specs.declared.cause.Cause.{Cause}
-use Rattle.run_faults.specs.declared.cause.Cause.TheVariants.{Done, RecordRefused, Unended, Doubled, Limit, WalkErrors, Differs, ReadFault, WriteFault, OutOfMemory}
+use Rattle.run_faults.specs.declared.cause.Cause.TheVariants.{Done, RecordRefused, Unended, Doubled, Limit, WalkErrors, Differs, Denied, ReadFault, WriteFault, OutOfMemory}
 use Rattle.run_faults.specs.declared.cause.LimitKind.TheVariants.{File, Specs, Records, RecordBytes}
 use Rattle.run_input.specs.Files.{CallsUpTo, CauseOpens}
 use Rattle.run_input.specs.Records.{entries_for}
@@ -79,6 +79,7 @@ pub written_later : (cause : Cause) → IsWritten cause → IsFileCause cause �
 written_later Done kind file = file
 written_later (WalkErrors count) kind file = file
 written_later (Differs count) kind file = file
+written_later (Denied finding) kind file = file
 written_later WriteFault kind file = file
 written_later cause kind file = absurd kind
 
@@ -86,6 +87,7 @@ pub unwritten_file : (cause : Cause) → IsFileCause cause → IsWritten cause �
 unwritten_file Done kind written = kind
 unwritten_file (WalkErrors count) kind written = kind
 unwritten_file (Differs count) kind written = kind
+unwritten_file (Denied finding) kind written = kind
 unwritten_file WriteFault kind written = kind
 unwritten_file cause kind written = written
 
@@ -93,6 +95,7 @@ pub unwritten_input : (cause : Cause) → IsInputCause cause → IsWritten cause
 unwritten_input Done kind written = kind
 unwritten_input (WalkErrors count) kind written = kind
 unwritten_input (Differs count) kind written = kind
+unwritten_input (Denied finding) kind written = kind
 unwritten_input WriteFault kind written = kind
 unwritten_input cause kind written = written
 
@@ -108,6 +111,8 @@ ends_explained files written store out out_now known meant (WalkErrors count) un
     absurd (unwritten tt)
 ends_explained files written store out out_now known meant (Differs count) unwritten is =
     absurd (unwritten tt)
+ends_explained files written store out out_now known meant (Denied finding) unwritten is =
+    absurd (unwritten tt)
 ends_explained files written store out out_now known meant WriteFault unwritten is =
     absurd (unwritten tt)
 ends_explained files written store out out_now known meant cause unwritten is = is
@@ -118,6 +123,7 @@ pub alone_explained : {O : Type 0} (written : O → Option (List ℕ)) (out out_
 alone_explained written out out_now meant Done unwritten is = absurd (unwritten tt)
 alone_explained written out out_now meant (WalkErrors count) unwritten is = absurd (unwritten tt)
 alone_explained written out out_now meant (Differs count) unwritten is = absurd (unwritten tt)
+alone_explained written out out_now meant (Denied finding) unwritten is = absurd (unwritten tt)
 alone_explained written out out_now meant WriteFault unwritten is = absurd (unwritten tt)
 alone_explained written out out_now meant cause unwritten is = is
 
@@ -197,6 +203,7 @@ pub file_calls : (old now : Option ℕ) (opened writes : ℕ) (cause : Cause) �
 file_calls old now opened writes Done kind opens = absurd kind
 file_calls old now opened writes (WalkErrors count) kind opens = absurd kind
 file_calls old now opened writes (Differs count) kind opens = absurd kind
+file_calls old now opened writes (Denied finding) kind opens = absurd kind
 file_calls old now opened writes WriteFault kind opens = absurd kind
 file_calls old now opened writes ReadFault kind opens = opens
 file_calls old now opened writes OutOfMemory kind opens =
@@ -208,6 +215,7 @@ pub input_calls : (old now : Option ℕ) (opened writes : ℕ) (cause : Cause) �
 input_calls old now opened writes Done kind made = absurd kind
 input_calls old now opened writes (WalkErrors count) kind made = absurd kind
 input_calls old now opened writes (Differs count) kind made = absurd kind
+input_calls old now opened writes (Denied finding) kind made = absurd kind
 input_calls old now opened writes WriteFault kind made = absurd kind
 input_calls old now opened writes ReadFault kind made = (opened, omega arith, made)
 input_calls old now opened writes OutOfMemory kind made = all_up_to old now opened writes made
@@ -218,6 +226,7 @@ pub written_calls : (old now : Option ℕ) (opened writes : ℕ) (cause : Cause)
 written_calls old now opened writes Done kind made = made
 written_calls old now opened writes (WalkErrors count) kind made = made
 written_calls old now opened writes (Differs count) kind made = made
+written_calls old now opened writes (Denied finding) kind made = made
 written_calls old now opened writes WriteFault kind made = made
 written_calls old now opened writes cause kind made = absurd kind
 
@@ -306,11 +315,13 @@ pub end_written : (end : End) → IsWritten (cause_of end)
 end_written ends.Done = tt
 end_written (ends.WalkErrors count) = tt
 end_written (ends.Differs count) = tt
+end_written (ends.Denied finding) = tt
 
 pub end_kept : (end : End) → cause_of end ≡ WriteFault → ⊥
 end_kept ends.Done is = absurd (cc)
 end_kept (ends.WalkErrors count) is = absurd (cc)
 end_kept (ends.Differs count) is = absurd (cc)
+end_kept (ends.Denied finding) is = absurd (cc)
 
 pub ends_reported : {S O : Type 0} (files : S → Option Files) (written : O → Option (List ℕ))
     (store : S) (out out_now : O) (known : Files) (meant : Result Ending Cause) (end : End)
@@ -319,6 +330,7 @@ pub ends_reported : {S O : Type 0} (files : S → Option Files) (written : O →
 ends_reported files written store out out_now known meant ends.Done reports = reports
 ends_reported files written store out out_now known meant (ends.WalkErrors count) reports = reports
 ends_reported files written store out out_now known meant (ends.Differs count) reports = reports
+ends_reported files written store out out_now known meant (ends.Denied finding) reports = reports
 
 pub alone_reported : {O : Type 0} (written : O → Option (List ℕ)) (out out_now : O)
     (meant : Result Ending Cause) (end : End) → ReportsAlone written out out_now meant (cause_of end)
@@ -326,6 +338,7 @@ pub alone_reported : {O : Type 0} (written : O → Option (List ℕ)) (out out_n
 alone_reported written out out_now meant ends.Done answers = answers
 alone_reported written out out_now meant (ends.WalkErrors count) answers = answers
 alone_reported written out out_now meant (ends.Differs count) answers = answers
+alone_reported written out out_now meant (ends.Denied finding) answers = answers
 
 pub same_known : (old new : Option Files) → new ≡ old → IfSome old (λ known. new ≡ Some known)
 same_known None new is = tt

@@ -14,7 +14,7 @@ use Rattle.run_input.specs.Records.{input_for}
 use Rattle.run_faults.specs.Faults.{fault_line}
 use Rattle.run_faults.specs.declared.cause.Cause.{Cause}
 use Rattle.run_faults.specs.declared.cause.Cause.TheVariants as causes
-use Rattle.run_faults.specs.declared.cause.Cause.TheVariants.{Done, WalkErrors, Differs, ReadFault, WriteFault, OutOfMemory}
+use Rattle.run_faults.specs.declared.cause.Cause.TheVariants.{Done, WalkErrors, Differs, Denied, ReadFault, WriteFault, OutOfMemory}
 use Rattle.run_endings.specs.declared.ending.Saved.{Saved}
 use Rattle.run_endings.specs.declared.ending.Ending.{Ending}
 
@@ -78,6 +78,8 @@ Ends files written store out out_now known meant (WalkErrors count) =
     Reports files written store out out_now known meant (WalkErrors count)
 Ends files written store out out_now known meant (Differs count) =
     Reports files written store out out_now known meant (Differs count)
+Ends files written store out out_now known meant (Denied finding) =
+    Reports files written store out out_now known meant (Denied finding)
 Ends files written store out out_now known meant WriteFault = IsOk meant
 Ends files written store out out_now known meant cause = Explained meant cause
 
@@ -97,6 +99,8 @@ EndsAlone written out out_now meant (WalkErrors count) =
     ReportsAlone written out out_now meant (WalkErrors count)
 EndsAlone written out out_now meant (Differs count) =
     ReportsAlone written out out_now meant (Differs count)
+EndsAlone written out out_now meant (Denied finding) =
+    ReportsAlone written out out_now meant (Denied finding)
 EndsAlone written out out_now meant WriteFault = IsOk meant
 EndsAlone written out out_now meant cause = Explained meant cause
 
@@ -112,6 +116,7 @@ CallsMade old now opened writes WriteFault = Calls old now (opened + writes)
 CallsMade old now opened writes Done = Calls old now (opened + writes)
 CallsMade old now opened writes (WalkErrors count) = Calls old now (opened + writes)
 CallsMade old now opened writes (Differs count) = Calls old now (opened + writes)
+CallsMade old now opened writes (Denied finding) = Calls old now (opened + writes)
 CallsMade old now opened writes cause = Calls old now opened
 
 -- a read of a file failed, before the input was touched

@@ -1,0 +1,7 @@
+pub mod SkipLemmas
+pub mod GroupLemmas
+pub mod CompareLemmas
+pub mod AheadLemmas
+pub mod WholeLemmas
+pub mod FoundLemmas
+pub mod AnswerLemmas

@@ -1,0 +1,12 @@
+pub mod Pieces
+pub mod Compared
+pub mod Skipping
+pub mod Winners
+pub mod Looking
+pub mod Ahead
+pub mod Finding
+pub mod Whole
+pub mod Words
+pub mod Found
+pub mod Answer
+pub mod Plan

@@ -1,0 +1,144 @@
+ghost use Rattle.std.specs.Prelude.{◌≡◌, ◌++◌, ◌<◌, [], IfOk, List, OnOk, option_map};
+ghost use Rattle.std.specs.Option.{option_copied};
+ghost use Rattle.relabel_core.specs.Report.{AreRaised};
+ghost use Rattle.relabel_core.specs.Walked.{IsFit, walk_of};
+ghost use Rattle.label_audit.specs.Ahead.{IsAhead};
+ghost use Rattle.label_audit.specs.Compared.{IsOpened, behind, behind_of};
+ghost use Rattle.label_audit.specs.Finding.{finding_by, finding_of};
+ghost use Rattle.label_audit.specs.Looking.{AreReady};
+ghost use Rattle.label_audit.specs.Pieces.{Placed, differing_in, dump_pieces, report_pieces};
+
+use crate::ahead::Ahead;
+use crate::compared::Compared;
+use crate::entries::{Audit, Texts, audit_entries};
+use crate::lines::{compare_operands, compare_specs};
+use crate::looking::{LookUps, look_ups};
+use label_base::{Bytes, OutOfMemory, Steps};
+use relabel_core::{WalkInput, no_flags};
+use run_faults::{Finding, Piece};
+use std::alloc::Global;
+use std::marker::Brand;
+use std::sync::ledger::{Blank, Ledger};
+
+fn dump_of<'f>(dump: Option<&'f [u8]>) -> Option<Compared<'f>>
+    ensures { (pieces : List Placed)
+        → behind_of result pieces ≡ differing_in pieces (option_copied dump.entry) }
+{
+    match dump {
+        None => None,
+        Some(bytes) => Some(Compared::new(bytes)),
+    }
+}
+
+// An audit before its first piece.
+fn audit_of<'f>(
+    alloc: Global,
+    input: &WalkInput<'_>,
+    report: &'f [u8],
+    dump: Option<&'f [u8]>,
+) -> Result<Audit<'f>, OutOfMemory>
+    ensures { IfOk result (IsOpened (walk_of input.now) report.now (option_copied dump.entry)) }
+{
+    let flags = no_flags(alloc, input.rules.rules.len())?;
+    Ok(Audit {
+        report: Compared::new(report),
+        dump: dump_of(dump),
+        ahead: Ahead::new(),
+        flags,
+        texts: Texts {
+            piece: Bytes::new(alloc),
+            spelled: Bytes::new(alloc),
+        },
+    })
+}
+
+// Compares all pieces, by look-ups that nobody counts.
+fn compare_all<L: Ledger>(
+    alloc: Global,
+    input: &WalkInput<'_>,
+    lookups: &mut LookUps<'_>,
+    audit: &mut Audit<'_>,
+    blank: Blank,
+) -> Result<(), OutOfMemory>
+    requires fit { IsFit input.now }
+    requires name { blank.name ≡ L.name }
+    requires parts { blank.parts ≡ L.parts }
+    requires some { 0 < blank.parts }
+    requires ready { AreReady (walk_of input.now) lookups.old }
+    requires ahead { IsAhead (walk_of input.now) 0 audit.old.ahead }
+    requires flags { AreRaised (walk_of input.now) 0 audit.old.flags.items }
+    ensures report { OnOk result (behind audit.new.report []
+        ≡ behind audit.old.report (report_pieces (walk_of input.now) input.now.operands.now
+        input.now.chosen.now.absent)) }
+    ensures dump { OnOk result (behind_of audit.new.dump []
+        ≡ behind_of audit.old.dump (dump_pieces (walk_of input.now))) }
+{
+    let mut steps = Steps::<L>::open(blank);
+    compare_operands(alloc, input, &mut audit.texts.piece, &mut audit.report)?;
+    audit_entries(alloc, input, lookups, audit, &mut steps)?;
+    compare_specs(
+        alloc,
+        input,
+        audit.flags.as_slice(),
+        &mut audit.texts.piece,
+        &mut audit.report,
+    )?;
+    Ok(())
+}
+
+fn end_of(dump: &Option<Compared<'_>>) -> Option<Piece>
+    ensures { result ≡ behind_of dump.now [] }
+{
+    match dump {
+        None => None,
+        Some(dump) => dump.end(),
+    }
+}
+
+fn finding_by(report: Option<Piece>, dump: Option<Piece>) -> Finding
+    ensures { result ≡ finding_by report dump }
+{
+    match report {
+        Some(piece) => Finding::InReport(piece),
+        None => match dump {
+            Some(piece) => Finding::InDump(piece),
+            None => Finding::Agrees,
+        },
+    }
+}
+
+// What is found by these look-ups.
+fn audit_by(
+    alloc: Global,
+    input: &WalkInput<'_>,
+    report: &[u8],
+    dump: Option<&[u8]>,
+    lookups: &mut LookUps<'_>,
+) -> Result<Finding, OutOfMemory>
+    requires fit { IsFit input.now }
+    requires ready { AreReady (walk_of input.now) lookups.old }
+    ensures { IfOk result (λ finding. finding ≡ finding_of (walk_of input.now)
+        input.now.operands.now input.now.chosen.now.absent report.now (option_copied dump.entry)) }
+{
+    let mut audit = audit_of(alloc, input, report, dump)?;
+    compare_all::<Brand>(alloc, input, lookups, &mut audit, Blank::new(1))?;
+    Ok(finding_by(audit.report.end(), end_of(&audit.dump)))
+}
+
+/// Compares a report, and a dump where there is one, with those of a walk, piece by piece: it answers
+/// the first piece of the report that doesn't stand where those before it end, else the same of the
+/// dump. It takes memory for the piece at hand, and for the winner of each inode whose first name isn't
+/// it.
+pub fn audit(
+    alloc: Global,
+    input: &WalkInput<'_>,
+    report: &[u8],
+    dump: Option<&[u8]>,
+) -> Result<Finding, OutOfMemory>
+    requires { IsFit input.now }
+    ensures { IfOk result (λ finding. finding ≡ finding_of (walk_of input.now)
+        input.now.operands.now input.now.chosen.now.absent report.now (option_copied dump.entry)) }
+{
+    let mut lookups = look_ups(alloc, input)?;
+    audit_by(alloc, input, report, dump, &mut lookups)
+}

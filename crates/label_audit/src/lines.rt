@@ -1,0 +1,143 @@
+ghost use Rattle.std.specs.Prelude.{◌≡◌, ◌++◌, ◌∷◌, List, OnOk, length, map, option_map};
+ghost use Rattle.label_base.specs.Bounded.{all_numbers};
+ghost use Rattle.report_text.specs.Message.{message_of};
+ghost use Rattle.relabel_core.specs.Report.{AreRaised, optional_text};
+ghost use Rattle.relabel_core.specs.Walk.{count};
+ghost use Rattle.relabel_core.specs.Walked.{walk_of};
+ghost use Rattle.label_audit.specs.Compared.{behind, unflagged_piece};
+ghost use Rattle.label_audit.specs.Pieces.{Placed, operand_piece, operand_pieces, spec_pieces};
+
+use crate::compared::Compared;
+use file_paths::NormPath;
+use label_base::{Bytes, OutOfMemory};
+use label_rules::Rules;
+use relabel_core::{WalkInput, operand_at, unflagged_line};
+use report_text::{Message, add_line};
+use run_faults::Piece;
+use std::alloc::Global;
+
+/// Makes the line of a message in a buffer, or nothing where there is none.
+pub fn make_line(
+    alloc: Global,
+    message: &Option<Message<'_>>,
+    piece: &mut Bytes,
+) -> Result<(), OutOfMemory>
+    ensures { OnOk result (piece.new ≡ optional_text (option_map message_of message.now)) }
+{
+    piece.clear();
+    match message {
+        None => Ok(()),
+        Some(message) => add_line(alloc, message, piece),
+    }
+}
+
+// Compares the line of an operand that has no entry.
+fn compare_operand(
+    alloc: Global,
+    operands: &[NormPath],
+    i: u32,
+    piece: &mut Bytes,
+    report: &mut Compared<'_>,
+) -> Result<(), OutOfMemory>
+    ensures { OnOk result ((rest : List Placed)
+        → behind report.new rest ≡ behind report.old (operand_piece operands.now i ∷ rest)) }
+{
+    let message = Message::Absent {
+        path: operand_at(operands, i),
+    };
+    make_line(alloc, &Some(message), piece)?;
+    report.compare(Piece::Operand(i), piece.as_slice());
+    Ok(())
+}
+
+fn compare_absent(
+    alloc: Global,
+    operands: &[NormPath],
+    indices: &[u32],
+    piece: &mut Bytes,
+    report: &mut Compared<'_>,
+) -> Result<(), OutOfMemory>
+    ensures { OnOk result ((rest : List Placed) → behind report.new rest
+        ≡ behind report.old (map (operand_piece operands.now) indices.now ++ rest)) }
+{
+    'operands: for i in indices {
+        compare_operand(alloc, operands, *i, piece, report)?;
+    }
+    Ok(())
+}
+
+/// Compares the lines of the operands that have no entry.
+pub fn compare_operands(
+    alloc: Global,
+    input: &WalkInput<'_>,
+    piece: &mut Bytes,
+    report: &mut Compared<'_>,
+) -> Result<(), OutOfMemory>
+    ensures { OnOk result ((rest : List Placed) → behind report.new rest
+        ≡ behind report.old (operand_pieces (walk_of input.now) input.now.operands.now
+        input.now.chosen.now.absent ++ rest)) }
+{
+    if input.options.ignore_absent {
+        return Ok(());
+    }
+    compare_absent(
+        alloc,
+        input.operands.as_slice(),
+        input.chosen.absent().as_slice(),
+        piece,
+        report,
+    )
+}
+
+// Compares the line of a specification, unless its flag is raised.
+fn compare_spec(
+    alloc: Global,
+    rules: &Rules,
+    flags: &[bool],
+    i: u32,
+    piece: &mut Bytes,
+    report: &mut Compared<'_>,
+) -> Result<(), OutOfMemory>
+    ensures { OnOk result ((rest : List Placed) → behind report.new rest
+        ≡ behind report.old (unflagged_piece rules.now flags.now i ∷ rest)) }
+{
+    make_line(alloc, &unflagged_line(rules, flags, i), piece)?;
+    report.compare(Piece::Rule(i), piece.as_slice());
+    Ok(())
+}
+
+fn compare_unflagged(
+    alloc: Global,
+    rules: &Rules,
+    flags: &[bool],
+    piece: &mut Bytes,
+    report: &mut Compared<'_>,
+) -> Result<(), OutOfMemory>
+    ensures { OnOk result ((rest : List Placed) → behind report.new rest
+        ≡ behind report.old (map (unflagged_piece rules.now flags.now)
+        (all_numbers (length rules.now.rules)) ++ rest)) }
+{
+    'specs: for i in 0..rules.rules.len() {
+        compare_spec(alloc, rules, flags, i, piece, report)?;
+    }
+    Ok(())
+}
+
+/// Compares the lines of the specifications that decide no entry, whose flags are not raised.
+#[tactic(auto, using(crate::proofs::CompareLemmas::specs_are))]
+pub fn compare_specs(
+    alloc: Global,
+    input: &WalkInput<'_>,
+    flags: &[bool],
+    piece: &mut Bytes,
+    report: &mut Compared<'_>,
+) -> Result<(), OutOfMemory>
+    requires { AreRaised (walk_of input.now) (count (walk_of input.now)) flags.now }
+    ensures { OnOk result ((rest : List Placed) → behind report.new rest
+        ≡ behind report.old (spec_pieces (walk_of input.now) ++ rest)) }
+{
+    if !input.options.warn_unmatched {
+        return Ok(());
+    }
+    compare_unflagged(alloc, input.rules, flags, piece, report)
+}
