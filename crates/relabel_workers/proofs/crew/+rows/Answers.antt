@@ -1,6 +1,5 @@
-use Rattle.std.proofs.Common.{[], length}
-use Rattle.std.specs.Prelude.{codes}
-use Rattle.std.specs.Prelude.{IfOk}
+use Rattle.std.proofs.Common.{List, [], ◌∷◌, length}
+use Rattle.std.specs.Prelude.{IfOk, codes}
 use Rattle.std.proofs.lemmas.Result.{IfOk-at_ok}
 use denote.Param.Send.{AllSend, IsSend, param_send, sendable, shr_send}
 use denote.Param.{param}
@@ -8,7 +7,6 @@ use denote.Struct.Tuple.{TupleAt}
 use denote.RattleType.{RattleType}
 use denote.Ref.{ShrRef}
 use denote.Struct.Field.{u32-field}
-use mathlib.Core.List.{List, ◌∷◌}
 use mir.Syntax.{named}
 use Rattle.std.specs.contracts.alloc.Global as Global
 use Rattle.file_paths.proofs.Sending.{path_sync}
@@ -38,9 +36,9 @@ use Rattle.relabel_workers.proofs.crew.+rows.Goals as goal
 pub run_both-join-mine-requires-send-A : goal.run_both-join-mine-requires-send-A
 run_both-join-mine-requires-send-A g t c κs within = search (sendable, crosses, hands_send) depth 20
 
+-- what the first closure captures, each by its type: a search over so many ends at its count
 pub run_both-join-mine-requires-send-F : goal.run_both-join-mine-requires-send-F
 run_both-join-mine-requires-send-F g t c κs within =
-    
     let lent : List RattleType = ShrRef (named 6) κs.1.1.1.1.1.1.0 Tree.the_row ∷ ShrRef (named 7) κs.1.1.1.1.1.1.1.0 Selected.the_row ∷ ShrRef (named 8) κs.1.1.1.1.1.1.1.1.0 (Row.the_row NormPath.the_row) ∷ ShrRef (named 9) κs.1.1.1.1.1.1.1.1.1.0 Rules.the_row ∷ ShrRef (named 10) κs.1.1.1.1.1.1.1.1.1.1.0 Options.the_row ∷ ShrRef (named 11) κs.1.1.1.1.1.1.1.1.1.1.1.0 Stored.the_row ∷ ShrRef (named 12) κs.1.1.1.1.1.1.1.1.1.1.1.1.0 (param 0 g.row.R) ∷ ShrRef (named 13) κs.1.1.1.1.1.1.1.1.1.1.1.1.1.0 Global.the_row ∷ ShrRef (named 14) κs.1.1.1.1.1.1.1.1.1.1.1.1.1.1.0 DirQueue.the_row ∷ ShrRef (named 15) κs.1.1.1.1.1.1.1.1.1.1.1.1.1.1.1.0 Claims.the_row ∷ ShrRef (named 16) κs.1.1.1.1.1.1.1.1.1.1.1.1.1.1.1.1.0 (param 1 g.row.G) ∷ ShrRef (named 17) κs.1.1.1.1.1.1.1.1.1.1.1.1.1.1.1.1.1.0 (u32-field).row ∷ HandsType.the_row ∷ [] in
     let each : AllSend lent = (shr_send _ _ _ tree_sync, (shr_send _ _ _ selected_sync, (shr_send _ _ _ (row_sync NormPath.the_row path_sync), (shr_send _ _ _ rules_sync, (shr_send _ _ _ options_sync, (shr_send _ _ _ stored_sync, (shr_send _ _ _ c.requires-raw.1.1.1.0, (shr_send _ _ _ sync, (shr_send _ _ _ queue_sync, (shr_send _ _ _ claims_sync, (shr_send _ _ _ c.requires-raw.1.1.1.1.0, (shr_send _ _ _ word_sync, (hands_send, tt))))))))))))) in
     let T = TupleAt (codes "relabel_workers::crew::fn::run_both::join+arg2") lent in
