@@ -1,4 +1,4 @@
-ghost use Rattle.std.specs.Prelude.{◌≡◌, ◌+◌, ◌<◌, ◌^◌, Err, Option, Some, length};
+ghost use Rattle.std.specs.Prelude.{◌≡◌, ◌+◌, ◌<◌, ◌^◌, Err, IfSome, Option, Some, length};
 ghost use Rattle.label_base.specs.Answers.{cause_of};
 ghost use Rattle.tool_words.specs.Words.{usage, word_texts};
 ghost use Rattle.tool_words.specs.declared.usage.UsageWhy.TheVariants.{UnknownTool};
@@ -13,10 +13,11 @@ ghost use Rattle.path_lookups.specs.Words.{lookup_words};
 ghost use Rattle.home_contexts.specs.Asked.{homes_words};
 ghost use Rattle.home_contexts.specs.Plan.{homes_plan};
 ghost use Rattle.policy_rehearsal.specs.Plan.{rehearse_plan};
+ghost use Rattle.policy_rehearsal.specs.Told.{TellsKeptLabels};
 ghost use Rattle.policy_rehearsal.specs.Words.{rehearse_words};
 ghost use Rattle.sample_tree.specs.Plan.{sample_plan};
 ghost use Rattle.sample_tree.specs.Words.{sample_words};
-ghost use Rattle.relabel_program.specs.Tools.{asked_for, asked_of, tool_named};
+ghost use Rattle.relabel_program.specs.Tools.{asked_for, asked_of, rehearse_asked, tool_named};
 
 use home_contexts::{GENHOMEDIRCON, read_homes};
 use input_output::{Sink, Source, Store};
@@ -262,6 +263,9 @@ pub fn plain<S: Store, I: Source, O: Sink>(
     ensures complete { Complete S.files S.read_faults S.write_faults I.left I.faults O.written
         O.faults (asked_of (word_texts words.now)) store.old store.new input.old input.new out.old
         out.new result.status result.cause }
+    ensures keeps { IfSome (rehearse_asked (word_texts words.now)) (λ asked.
+        TellsKeptLabels asked (S.files store.old) (I.left input.old) (O.written out.old)
+        (O.written out.new) result.cause) }
 {
     run_asked(alloc, words, store, input, out)
 }
@@ -285,6 +289,9 @@ pub fn top<S: Store, I: Source, O: Sink>(
     ensures complete { Complete S.files S.read_faults S.write_faults I.left I.faults O.written
         O.faults (asked_of (word_texts words.now)) store.old store.new input.old input.new out.old
         out.new result.status result.cause }
+    ensures keeps { IfSome (rehearse_asked (word_texts words.now)) (λ asked.
+        TellsKeptLabels asked (S.files store.old) (I.left input.old) (O.written out.old)
+        (O.written out.new) result.cause) }
 {
     plain(alloc, words, store, input, out)
 }

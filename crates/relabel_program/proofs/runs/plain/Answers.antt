@@ -1,6 +1,11 @@
 use Rattle.tool_runs.proofs.Completeness.{complete}
+use Rattle.relabel_program.proofs.RehearseLemmas.{keeps}
 use Rattle.relabel_program.proofs.runs.plain.Goals as goal
 
 pub returns-clause-complete : goal.returns-clause-complete
 returns-clause-complete g c =
     complete _ _ _ _ _ _ _ _ _ _ _ _ _ _ _ _ _ c.run_asked.ensures.status c.run_asked.ensures.run
+
+pub returns-clause-keeps : goal.returns-clause-keeps
+returns-clause-keeps g c =
+    keeps _ _ _ _ _ _ _ _ _ _ _ _ _ _ _ _ c.run_asked.ensures.run
