@@ -1,9 +1,9 @@
 -- The changes that are told lead to the labels at the end.
-use Rattle.std.proofs.Common.{◌≡◌, ◌∙◌, ap, ap₂, sym, subst, refl, ℕ, zero, suc, ◌+◌, ◌<◌, ◌==◌, Bool, true, false, List, [], ◌∷◌, ◌++◌, map, add-one, arith, inl, inr, eqb-true}
+use Rattle.std.proofs.Common.{◌≡◌, ◌∙◌, ap, ap₂, sym, subst, refl, ℕ, zero, suc, ◌+◌, ◌<◌, ◌==◌, Bool, true, false, List, [], ◌∷◌, ◌++◌, map, add-one, arith, inl, inr, eq-eqb, eqb-true}
 use Rattle.std.specs.Prelude.{◌&&◌, nat_lt, if◌then◌else◌, is_some, length, Option, Some, None, Result, Ok, Err, option_and_then}
 use Rattle.std.specs.List.{cons_option, filter_map}
 use Rattle.std.specs.Result.{result_ok}
-use Rattle.std.proofs.lemmas.Bool.{cases_lt, first_so, lt-ltb, le-ltb}
+use Rattle.std.proofs.lemmas.Bool.{cases_lt, false≢true, first_so, lt-ltb, le-ltb}
 use Rattle.std.proofs.lemmas.List.{map-append}
 use Rattle.std.proofs.lemmas.List.Elements.{filter_map-append}
 use Rattle.std.proofs.lemmas.Option.{same_Some}
@@ -36,7 +36,7 @@ use Rattle.policy_rehearsal.specs.Plan.{rehearse_plan}
 use Rattle.policy_rehearsal.specs.Rehearsal.{ChangeValue, KeepsLabels, TurnValue, change_to, changes_in, first_state, rehearsed, rehearsed_by, runs_of, turn_in, turns_from}
 use Rattle.policy_rehearsal.specs.Told.{TellsKept, label_at_end, label_behind, label_changed, labels_at_end}
 use Rattle.policy_rehearsal.specs.declared.words.RehearseWords.{RehearseWords}
-use Rattle.policy_rehearsal.proofs.StandingLemmas.{keeps_labels}
+use Rattle.policy_rehearsal.proofs.StandingLemmas.{keeps_labels, same_below}
 use Rattle.policy_rehearsal.proofs.TurnLemmas.{change_there, changes_more}
 use Rattle.policy_rehearsal.proofs.Unlabelled.{label_is}
 
@@ -101,7 +101,7 @@ below_same k n apart =
     ]
 
 apart_from : (k n : ℕ) → (k == n) ≡ false → k ≡ n → ⊥
-apart_from k n differ same = absurd cc
+apart_from k n differ same = false≢true (sym differ ∙ eq-eqb k n same)
 
 own_step : (w : Walk) (g n : ℕ) (found : Option ℕ)
     → behind_one true (if is_at found n then group_change w g found else None) (label_below w g n found) ≡ label_below w g (suc n) found
@@ -120,10 +120,7 @@ other_step : (w : Walk) (g n : ℕ) (found : Option ℕ) → (group_of w.entries
 other_step w g n None other least = refl
 other_step w g n (Some k) other least =
     let apart : k ≡ n → ⊥ =
-    λ same.
-    let own = first_so (group_of w.entries k == g) (is_some (wanted w k)) least.1 in
-    let no = subst (λ e. (group_of w.entries e == g) ≡ false) (sym same) other in
-    absurd cc in
+    λ same. false≢true (sym (subst (λ e. (group_of w.entries e == g) ≡ false) (sym same) other) ∙ first_so (group_of w.entries k == g) (is_some (wanted w k)) least.1) in
     ap (λ b. if b then new_label_with w g (Some k) else label_in w.entries g) (sym (below_same k n apart))
 
 winner_least : (w : Walk) (g : ℕ) → IsLeast (count w) (can_win w g) (winner w g)
@@ -211,13 +208,6 @@ turns_lead entries s [] g l = refl
 turns_lead entries s (run ∷ runs) g l =
     ap (label_at_end entries g (turns_from entries (after entries s run) runs)) (run_leads entries s run g l)
     ∙ turns_lead entries (after entries s run) runs g l
-
-same_below : {X : Type 0} (f h : ℕ → X) (n : ℕ) → ((k : ℕ) → k < n → f k ≡ h k) → map f (all_numbers n) ≡ map h (all_numbers n)
-same_below f h zero same = refl
-same_below f h (suc n) same =
-    map-append f (all_numbers n) (n ∷ [])
-    ∙ ap₂ (λ front last. front ++ last ∷ []) (same_below f h n (λ k l. same k (omega (arith, l)))) (same n (omega arith))
-    ∙ sym (map-append h (all_numbers n) (n ∷ []))
 
 pub changes_lead : (entries : List Record) (runs : List Run) → labels_at_end entries (rehearsed_by entries runs).turns ≡ (rehearsed_by entries runs).labels
 changes_lead entries runs =
