@@ -1,9 +1,10 @@
 -- The changes that are told lead to the labels at the end.
 use Rattle.std.proofs.Common.{◌≡◌, ◌∙◌, ap, ap₂, sym, subst, refl, ℕ, zero, suc, ◌+◌, ◌<◌, ◌==◌, Bool, true, false, List, [], ◌∷◌, ◌++◌, map, add-one, arith, inl, inr, eq-eqb, eqb-true}
 use Rattle.std.specs.Prelude.{◌&&◌, nat_lt, if◌then◌else◌, is_some, length, Option, Some, None, Result, Ok, Err, option_and_then}
+use Rattle.std.specs.Cmp.{first_so}
 use Rattle.std.specs.List.{cons_option, filter_map}
 use Rattle.std.specs.Result.{result_ok}
-use Rattle.std.proofs.lemmas.Bool.{cases_lt, false≢true, first_so, lt-ltb, le-ltb}
+use Rattle.std.proofs.lemmas.Bool.{cases_lt, false≢true, lt-ltb, le-ltb}
 use Rattle.std.proofs.lemmas.List.{map-append}
 use Rattle.std.proofs.lemmas.List.Elements.{filter_map-append}
 use Rattle.std.proofs.lemmas.Option.{same_Some}
@@ -145,7 +146,7 @@ change_is w e = refl
 
 below_start : (w : Walk) (g : ℕ) (found : Option ℕ) → label_in w.entries g ≡ label_below w g zero found
 below_start w g None = refl
-below_start w g (Some k) = refl
+below_start w g (Some k) = ap (λ b. if b then new_label_with w g (Some k) else label_in w.entries g) (sym (le-ltb k zero (omega arith)))
 
 below_end : (w : Walk) (g : ℕ) (found : Option ℕ) → IsLeast (count w) (can_win w g) found → label_below w g (count w) found ≡ new_label_with w g found
 below_end w g None least = stays w.options.dry
