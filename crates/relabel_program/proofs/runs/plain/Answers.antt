@@ -1,3 +1,4 @@
+use Rattle.tool_words.specs.Words.{word_texts}
 use Rattle.tool_runs.proofs.Completeness.{complete}
 use Rattle.relabel_program.proofs.RehearseLemmas.{keeps}
 use Rattle.relabel_program.proofs.runs.plain.Goals as goal
@@ -8,4 +9,4 @@ returns-clause-complete g c =
 
 pub returns-clause-keeps : goal.returns-clause-keeps
 returns-clause-keeps g c =
-    keeps _ _ _ _ _ _ _ _ _ _ _ _ _ _ _ _ c.run_asked.ensures.run
+    keeps _ _ _ _ _ _ _ _ (word_texts c.args.words.now) _ _ _ _ _ _ _ c.run_asked.ensures.run
