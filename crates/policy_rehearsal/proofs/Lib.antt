@@ -5,3 +5,4 @@ pub mod FileLemmas
 pub mod TextLemmas
 pub mod StandingLemmas
 pub mod WordLemmas
+pub mod ToldLemmas

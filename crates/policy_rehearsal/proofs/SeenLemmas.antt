@@ -13,7 +13,8 @@ use Rattle.relabel_core.specs.Changes.{change_at, group_change}
 use Rattle.relabel_core.specs.Walk.{Walk, group_winner, is_at, is_changed_name, new_label, verdict, verdict_where, wanted, winner}
 use Rattle.relabel_core.proofs.ChangeLemmas.{changed_name_is}
 use Rattle.policy_rehearsal.specs.Seen.{verdict_wanted, walk_over}
-use Rattle.policy_rehearsal.proofs.TurnLemmas.{group_over, group_within}
+use Rattle.relabel_runs.proofs.LabelledLemmas.{group_within}
+use Rattle.policy_rehearsal.proofs.TurnLemmas.{group_over}
 use Rattle.policy_rehearsal.proofs.Unlabelled.{differs, label_is, wanted_same, winner_same}
 
 verdict_by : (w : Walk) (g : ℕ) (wants : Option ContextValue) → verdict_where w g wants ≡ verdict_wanted (label_in w.entries g) wants w.options.force w.rules.types

@@ -12,6 +12,7 @@ use Rattle.find_records.specs.declared.format.Format.{Format}
 use Rattle.find_records.specs.declared.format.Format.TheVariants.{One, Two}
 use Rattle.tree_model.specs.Extents.{is_directory}
 use Rattle.tree_model.specs.Groups.{group_of, groups_in, label_in}
+use Rattle.tree_model.specs.Labelled as tree
 use Rattle.tree_model.specs.Selection.{selected_by}
 use Rattle.tree_model.specs.declared.choice.Choice.{Choice}
 use Rattle.tree_model.proofs.GroupLemmas.{has_first}
@@ -24,7 +25,7 @@ use Rattle.relabel_core.specs.Stored.{digests_of, no_digests}
 use Rattle.relabel_core.specs.Walk.{StoredDigests, Walk, digest_after, new_label}
 use Rattle.relabel_core.specs.Walked.{operands_at, walk_for}
 use Rattle.relabel_runs.proofs.RunLemmas.{skipping_keeps_labels}
-use Rattle.relabel_runs.specs.Runs.{Run, State, after, end, end_off, labelled, labelled_from, links_read, read_as, walk_at}
+use Rattle.relabel_runs.specs.Runs.{Run, State, after, end, end_off, labelled, links_read, read_as, walk_at}
 use Rattle.policy_rehearsal.specs.Lent.{rehearsed_lent, turn_lent}
 use Rattle.policy_rehearsal.specs.Rehearsal.{KeepsLabels, RehearsedValue, first_state, rehearsed_by, run_of, runs_of, turn_in, turns_from}
 use Rattle.policy_rehearsal.specs.Seen.{labels_listed, walk_over}
@@ -33,7 +34,7 @@ use Rattle.policy_rehearsal.specs.declared.rehearsal.Standing.{Standing}
 use Rattle.policy_rehearsal.specs.declared.rehearsal.Taken.{Taken}
 use Rattle.policy_rehearsal.specs.declared.rehearsed.Rehearsed.{Rehearsed}
 use Rattle.policy_rehearsal.specs.declared.rehearsed.Turn.{Turn}
-use Rattle.policy_rehearsal.proofs.TurnLemmas.{group_within, none_after, none_over}
+use Rattle.policy_rehearsal.proofs.TurnLemmas.{none_after, none_over}
 use Rattle.policy_rehearsal.proofs.Unlabelled.{differs}
 
 -- ---- the walk of a version
@@ -47,17 +48,16 @@ whole_tree : (format : Format) (entries : List Record) → AreOf format entries 
 whole_tree format [] of_format = refl
 whole_tree format (e ∷ es) of_format = ap₂ (λ entry rest. entry ∷ rest) (whole_record format e of_format.0) (whole_tree format es of_format.1)
 
-same_from : (f h : ℕ → Label) (n : ℕ) (es : List Record) → ((e : ℕ) → e < n + length es → f e ≡ h e) → labelled_from f n es ≡ labelled_from h n es
-same_from f h n [] same = refl
-same_from f h n (e ∷ es) same =
-    ap₂ (λ label rest. record e { label = label } ∷ rest) (same n (omega arith))
-    (same_from f h (suc n) es (λ k l. same k (omega (arith, l))))
+pub same_below : {X : Type 0} (f h : ℕ → X) (n : ℕ) → ((k : ℕ) → k < n → f k ≡ h k) → map f (all_numbers n) ≡ map h (all_numbers n)
+same_below f h zero same = refl
+same_below f h (suc n) same =
+    map-append f (all_numbers n) (n ∷ [])
+    ∙ ap₂ (λ front last. front ++ last ∷ []) (same_below f h n (λ k l. same k (omega (arith, l)))) (same n (omega arith))
+    ∙ sym (map-append h (all_numbers n) (n ∷ []))
 
 -- only the labels of groups that are there count
 pub labelled_alike : (entries : List Record) (f h : ℕ → Label) → ((g : ℕ) → g < groups_in entries → f g ≡ h g) → labelled entries f ≡ labelled entries h
-labelled_alike entries f h same =
-    same_from (λ e. f (group_of entries e)) (λ e. h (group_of entries e)) 0 entries
-    (λ e l. same (group_of entries e) (group_within entries e (omega (arith, l))))
+labelled_alike entries f h same = ap (λ labels. tree.labelled labels entries) (same_below f h (groups_in entries) same)
 
 -- the walk over the tree in a state is the walk over the tree as it was with other labels
 pub walk_is : (entries : List Record) (s : State) (run : Run) (labels : ℕ → Label) (stored : StoredDigests) → AreOf run.options.format entries

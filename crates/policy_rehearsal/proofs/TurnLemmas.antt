@@ -20,7 +20,6 @@ use Rattle.find_records.specs.Record.{Record}
 use Rattle.tree_model.specs.Extents.{in_extent, is_directory}
 use Rattle.tree_model.specs.Groups.{group_of, groups_in, label_in}
 use Rattle.tree_model.specs.Labelled.{DifferInLabels}
-use Rattle.tree_model.proofs.GroupLemmas.{group_at, group_inside}
 use Rattle.tree_model.proofs.LabelledLemmas.{mapped_at}
 use Rattle.relabel_core.specs.Changes.{change_at, label_before}
 use Rattle.relabel_core.specs.Counts.{AreCounted, count_at}
@@ -32,6 +31,7 @@ use Rattle.relabel_core.proofs.ChangeLemmas.{after_other, after_renewed}
 use Rattle.relabel_core.proofs.CountsLemmas.{rise_is}
 use Rattle.relabel_core.proofs.NextLemmas.{none_there}
 use Rattle.relabel_runs.specs.Runs.{labelled}
+use Rattle.relabel_runs.proofs.LabelledLemmas.{group_within}
 use Rattle.label_rules.specs.LabelAfter.{label_told}
 use Rattle.label_rules.specs.declared.label_after.LabelAfter.{LabelAfter}
 use Rattle.policy_rehearsal.specs.Rehearsal.{ChangeValue, change_to, changes_in, skipped_in}
@@ -39,9 +39,6 @@ use Rattle.policy_rehearsal.specs.Seen.{walk_over}
 use Rattle.policy_rehearsal.proofs.Unlabelled.{differs, first_same, label_is, renewal_same}
 
 -- ---- changes
-
-pub group_within : (entries : List Record) (e : ℕ) → e < length entries → group_of entries e < groups_in entries
-group_within entries e l = subst (λ g. g < groups_in entries) (group_at entries e l) (group_inside entries e l)
 
 -- the label before a walk is the one that its group has by now
 pub before_is : (w : Walk) (labels : ℕ → Label) (e : ℕ) → e < count w → label_before (walk_over w labels) e ≡ labels (group_of w.entries e)

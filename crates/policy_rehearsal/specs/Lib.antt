@@ -8,3 +8,5 @@ pub mod Standing
 pub mod Text
 pub mod Answer
 pub mod Plan
+pub mod Told
+pub mod Laws

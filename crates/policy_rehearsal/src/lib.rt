@@ -5,6 +5,7 @@
 mod answer;
 mod files;
 mod groups;
+mod laws;
 mod letters;
 mod rehearsal;
 mod rehearsed;
@@ -14,6 +15,7 @@ mod tool;
 mod turn;
 mod words;
 
+pub use laws::{answers_keep_labels, changes_lead_there};
 pub use letters::MOST_POLICIES;
 pub use rehearsal::rehearse;
 pub use rehearsed::{Change, Rehearsed, Turn};

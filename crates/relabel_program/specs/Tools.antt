@@ -1,5 +1,5 @@
 -- Which tool the first word names, and what the others ask of it.
-use Rattle.std.specs.Prelude.{ℕ, List, [], ◌∷◌, Option, Some, None, Result, Err, if◌then◌else◌}
+use Rattle.std.specs.Prelude.{ℕ, List, [], ◌∷◌, Option, Some, None, Result, Ok, Err, if◌then◌else◌}
 use Rattle.label_base.specs.Text.{same_bytes}
 use Rattle.tool_words.specs.Words.{usage}
 use Rattle.tool_words.specs.declared.usage.Usage.{Usage}
@@ -17,6 +17,7 @@ use Rattle.home_contexts.specs.declared.TheConstants.{GENHOMEDIRCON}
 use Rattle.policy_rehearsal.specs.Plan.{rehearse_plan}
 use Rattle.policy_rehearsal.specs.Words.{rehearse_words}
 use Rattle.policy_rehearsal.specs.declared.TheConstants.{REHEARSE_TOOL}
+use Rattle.policy_rehearsal.specs.declared.words.RehearseWords.{RehearseWords}
 use Rattle.sample_tree.specs.Plan.{sample_plan}
 use Rattle.sample_tree.specs.Words.{sample_words}
 use Rattle.sample_tree.specs.declared.TheConstants.{SAMPLE}
@@ -54,3 +55,18 @@ asked_for None words = Err (usage 0 UnknownTool)
 abbrev pub asked_of : List (List ℕ) → Result Plan Usage
 asked_of [] = Err (usage 0 UnknownTool)
 asked_of (tool ∷ words) = asked_for (tool_named tool) words
+
+-- ---- words that ask for rehearse
+
+abbrev pub unless_wrong : {W : Type 0} → Result W Usage → Option W
+unless_wrong (Ok words) = Some words
+unless_wrong (Err wrong) = None
+
+abbrev pub rehearse_for : Option ToolName → List (List ℕ) → Option RehearseWords
+rehearse_for (Some Rehearse) words = unless_wrong (rehearse_words FIRST words)
+rehearse_for tool words = None
+
+-- what all words ask of rehearse, where that is the tool that they name
+abbrev pub rehearse_asked : List (List ℕ) → Option RehearseWords
+rehearse_asked [] = None
+rehearse_asked (tool ∷ words) = rehearse_for (tool_named tool) words

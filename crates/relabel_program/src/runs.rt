@@ -1,4 +1,4 @@
-ghost use Rattle.std.specs.Prelude.{◌≡◌, ◌+◌, ◌<◌, ◌^◌, Err, IfOk, Ok, Option, Result, Some, length};
+ghost use Rattle.std.specs.Prelude.{◌≡◌, ◌+◌, ◌<◌, ◌^◌, Err, IfOk, IfSome, Ok, Option, Result, Some, length};
 ghost use Rattle.label_base.specs.Answers.{Answers, cause_of};
 ghost use Rattle.tool_words.specs.Words.{usage, word_texts};
 ghost use Rattle.tool_words.specs.declared.usage.Usage.{Usage};
@@ -15,13 +15,14 @@ ghost use Rattle.path_lookups.specs.Words.{lookup_words};
 ghost use Rattle.home_contexts.specs.Asked.{homes_words};
 ghost use Rattle.home_contexts.specs.Plan.{homes_plan};
 ghost use Rattle.policy_rehearsal.specs.Plan.{rehearse_plan};
+ghost use Rattle.policy_rehearsal.specs.Told.{TellsKeptLabels};
 ghost use Rattle.policy_rehearsal.specs.Words.{rehearse_words};
 ghost use Rattle.sample_tree.specs.Plan.{sample_plan};
 ghost use Rattle.sample_tree.specs.Words.{sample_words};
 ghost use Rattle.relabel_program.specs.Samples.{RunsSample};
 ghost use Rattle.label_audit.specs.Plan.{audit_plan};
 ghost use Rattle.label_audit.specs.Words.{audit_words};
-ghost use Rattle.relabel_program.specs.Tools.{asked_for, asked_of, tool_named};
+ghost use Rattle.relabel_program.specs.Tools.{asked_for, asked_of, rehearse_asked, tool_named};
 
 use home_contexts::{GENHOMEDIRCON, read_homes};
 use input_output::{Sink, Source, Store};
@@ -294,6 +295,9 @@ pub fn plain<S: Store, I: Source, O: Sink>(
         out.new result.status result.cause }
     ensures sample { RunsSample (word_texts words.now) (S.read_faults store.old) (I.faults input.old)
         result.cause }
+    ensures keeps { IfSome (rehearse_asked (word_texts words.now)) (λ asked.
+        TellsKeptLabels asked (S.files store.old) (I.left input.old) (O.written out.old)
+        (O.written out.new) result.cause) }
 {
     run_asked(alloc, words, store, input, out)
 }
@@ -439,6 +443,9 @@ pub fn top<R: Threads + Wait + Sync, S: Store, I: Source, O: Sink>(
         out.new result.status result.cause }
     ensures sample { RunsSample (word_texts words.now) (S.read_faults store.old) (I.faults input.old)
         result.cause }
+    ensures keeps { IfSome (rehearse_asked (word_texts words.now)) (λ asked.
+        TellsKeptLabels asked (S.files store.old) (I.left input.old) (O.written out.old)
+        (O.written out.new) result.cause) }
 {
     run_asked_by(rt, alloc, words, cores, store, input, out)
 }

@@ -1,10 +1,12 @@
 -- Runs that relabel one tree, one after the other, and the state that they leave.
-use Rattle.std.specs.Prelude.{◌≡◌, ℕ, suc, ◌||◌, false, List, [], ◌∷◌, Option, None, map}
+use Rattle.std.specs.Prelude.{◌≡◌, ℕ, ◌||◌, false, List, [], ◌∷◌, Option, None, map}
+use Rattle.label_base.specs.Bounded.{all_numbers}
 use Rattle.context_syntax.specs.declared.label.Label.{Label}
 use Rattle.find_records.specs.Record.{Record}
 use Rattle.find_records.specs.declared.format.Format.{Format}
 use Rattle.find_records.specs.declared.format.Format.TheVariants.{One, Two}
-use Rattle.tree_model.specs.Groups.{group_of}
+use Rattle.tree_model.specs.Groups.{groups_in}
+use Rattle.tree_model.specs.Labelled as tree
 use Rattle.relabel_core.specs.declared.options.Options.{Options}
 use Rattle.tree_model.specs.declared.choice.Choice.{Choice}
 use Rattle.relabel_core.specs.Walk.{StoredDigests, Walk, digest_after, new_label}
@@ -25,14 +27,9 @@ pub record State : Type 0 where
   pub labels : ℕ → Label
   pub digests : StoredDigests
 
-abbrev pub labelled_from : (ℕ → Label) → ℕ → List Record → List Record
-labelled_from labels e [] = []
-labelled_from labels e (entry ∷ entries) =
-    record entry { label = labels e } ∷ labelled_from labels (suc e) entries
-
 -- the tree with these labels of its groups
 abbrev pub labelled : List Record → (ℕ → Label) → List Record
-labelled entries labels = labelled_from (λ e. labels (group_of entries e)) 0 entries
+labelled entries labels = tree.labelled (map labels (all_numbers (groups_in entries))) entries
 
 -- what a record has of a link count: nothing where the format has none
 abbrev pub links_read : Format → Option ℕ → Option ℕ

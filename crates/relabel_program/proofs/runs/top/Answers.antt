@@ -1,5 +1,6 @@
 use Rattle.tool_words.specs.Words.{word_texts}
 use Rattle.tool_runs.proofs.Completeness.{complete}
+use Rattle.relabel_program.proofs.RehearseLemmas.{keeps}
 use Rattle.relabel_program.proofs.SampleLemmas.{runs_sample}
 use Rattle.relabel_program.proofs.runs.top.Goals as goal
 
@@ -11,3 +12,7 @@ pub returns-clause-sample : goal.returns-clause-sample
 returns-clause-sample g c =
     runs_sample _ _ _ _ _ _ _ _ _ _ _ _ _ _ _ (word_texts c.args.words.now)
     c.run_asked_by.ensures.run
+
+pub returns-clause-keeps : goal.returns-clause-keeps
+returns-clause-keeps g c =
+    keeps _ _ _ _ _ _ _ _ (word_texts c.args.words.now) _ _ _ _ _ _ _ c.run_asked_by.ensures.run

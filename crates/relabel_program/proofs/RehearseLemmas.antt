@@ -1,0 +1,91 @@
+-- A run by words that ask for rehearse.
+use Rattle.std.proofs.Common.{◌≡◌, ap, subst, refl, ℕ, List, [], ◌∷◌}
+use Rattle.std.specs.Prelude.{Option, Some, None, Result, Ok, Err, IfSome}
+use Rattle.std.specs.Io.KnownBytes.{Appends}
+use Rattle.std.proofs.lemmas.Option.{same_Some}
+use Rattle.input_output.specs.Store.{Files}
+use Rattle.tool_words.specs.declared.usage.Usage.{Usage}
+use Rattle.run_faults.specs.Causes.{IsReported}
+use Rattle.run_faults.specs.declared.cause.Cause.{Cause}
+use Rattle.run_faults.specs.declared.cause.Cause.TheVariants.{Done, WalkErrors, Differs}
+use Rattle.run_endings.specs.declared.ending.Ending.{Ending}
+use Rattle.tool_runs.specs.Plan.{Plan, answer_in, input_in, planned}
+use Rattle.tool_runs.specs.Run.{Ends, Reports, Run}
+use Rattle.policy_rehearsal.specs.Plan.{rehearse_plan}
+use Rattle.policy_rehearsal.specs.Told.{TellsKept, TellsKeptLabels}
+use Rattle.policy_rehearsal.specs.Words.{rehearse_words}
+use Rattle.policy_rehearsal.specs.declared.words.RehearseWords.{RehearseWords}
+use Rattle.policy_rehearsal.proofs.ToldLemmas.{answer_keeps}
+use Rattle.relabel_program.specs.Tools.{asked_for, asked_of, rehearse_asked, rehearse_for, tool_named, unless_wrong}
+use Rattle.relabel_program.specs.declared.runs.TheConstants.{FIRST}
+use Rattle.relabel_program.specs.declared.runs.ToolName.{ToolName}
+use Rattle.relabel_program.specs.declared.runs.ToolName.TheVariants.{Setfiles, Restorecon, Matchpathcon, Genhomedircon, Rehearse, Sample, Audit}
+
+-- ---- what is asked for
+
+planned_by : (read : Result RehearseWords Usage) (words : RehearseWords) → unless_wrong read ≡ Some words
+    → planned rehearse_plan read ≡ Ok (rehearse_plan words)
+planned_by (Ok asked) words is = ap (λ (w : RehearseWords). Ok (rehearse_plan w)) (same_Some asked words is)
+planned_by (Err wrong) words is = absurd cc
+
+asked_by : (tool : Option ToolName) (texts : List (List ℕ)) (words : RehearseWords) → rehearse_for tool texts ≡ Some words
+    → asked_for tool texts ≡ Ok (rehearse_plan words)
+asked_by (Some Setfiles) texts words is = absurd cc
+asked_by (Some Restorecon) texts words is = absurd cc
+asked_by (Some Matchpathcon) texts words is = absurd cc
+asked_by (Some Genhomedircon) texts words is = absurd cc
+asked_by (Some Rehearse) texts words is = planned_by (rehearse_words FIRST texts) words is
+asked_by (Some Sample) texts words is = absurd cc
+asked_by (Some Audit) texts words is = absurd cc
+asked_by None texts words is = absurd cc
+
+plan_asked : (texts : List (List ℕ)) (words : RehearseWords) → rehearse_asked texts ≡ Some words → asked_of texts ≡ Ok (rehearse_plan words)
+plan_asked [] words is = absurd cc
+plan_asked (tool ∷ texts) words is = asked_by (tool_named tool) texts words is
+
+-- ---- what is written
+
+module _ {S O : Type 0} (files : S → Option Files) (written : O → Option (List ℕ)) (store_now : S) (out out_now : O)
+    (words : RehearseWords) (known : Files) (bytes : List ℕ) where
+  abbrev Told : Type 0
+  Told = TellsKept words known bytes (Appends (written out) (written out_now))
+
+  reported : (cause : Cause) → Reports files written store_now out out_now known ((rehearse_plan words).answer known bytes) cause → Told
+  reported cause reports =
+      answer_keeps words known bytes (Appends (written out) (written out_now)) reports.reported reports.is_meant reports.whole
+
+  ended : (cause : Cause) → IsReported cause → Ends files written store_now out out_now known ((rehearse_plan words).answer known bytes) cause → Told
+  ended Done kind ends = reported Done ends
+  ended (WalkErrors count) kind ends = reported (WalkErrors count) ends
+  ended (Differs count) kind ends = reported (Differs count) ends
+  ended cause kind ends = absurd kind
+
+module _ {S I O : Type 0} (files : S → Option Files) (calls : S → Option ℕ) (read_faults write_faults : S → ℕ)
+    (left : I → Option (List ℕ)) (input_faults : I → ℕ) (written : O → Option (List ℕ)) (out_faults : O → ℕ)
+    (texts : List (List ℕ)) (store store_now : S) (input input_now : I) (out out_now : O) (cause : Cause) where
+  both : (words : RehearseWords) (found : Option Files) (given : Option (List ℕ)) → IsReported cause
+      → IfSome found (λ known. IfSome given (λ bytes.
+      Ends files written store_now out out_now known ((rehearse_plan words).answer known bytes) cause))
+      → IfSome found (λ known. IfSome given (λ bytes. TellsKept words known bytes (Appends (written out) (written out_now))))
+  both words None given kind ends = tt
+  both words (Some known) None kind ends = tt
+  both words (Some known) (Some bytes) kind ends = ended files written store_now out out_now words known bytes cause kind ends
+
+  kept_by : (words : RehearseWords) (asked : Result Plan Usage) → asked ≡ Ok (rehearse_plan words)
+      → IfSome (files store) (λ known. IfSome (input_in asked (left input)) (λ bytes.
+      Ends files written store_now out out_now known (answer_in asked known bytes) cause))
+      → TellsKeptLabels words (files store) (left input) (written out) (written out_now) cause
+  kept_by words asked is ends = λ kind.
+      both words (files store) (left input) kind
+      (subst (λ (asked : Result Plan Usage). IfSome (files store) (λ known. IfSome (input_in asked (left input)) (λ bytes.
+      Ends files written store_now out out_now known (answer_in asked known bytes) cause))) is ends)
+
+  kept_if : (asked : Option RehearseWords) → ((words : RehearseWords) → asked ≡ Some words → TellsKeptLabels words (files store) (left input) (written out) (written out_now) cause)
+      → IfSome asked (λ words. TellsKeptLabels words (files store) (left input) (written out) (written out_now) cause)
+  kept_if None kept = tt
+  kept_if (Some words) kept = kept words refl
+
+  -- the labels at the end are those without skipping
+  pub keeps : Run files calls read_faults write_faults left input_faults written out_faults (asked_of texts) store store_now input input_now out out_now cause
+      → IfSome (rehearse_asked texts) (λ words. TellsKeptLabels words (files store) (left input) (written out) (written out_now) cause)
+  keeps ran = kept_if (rehearse_asked texts) (λ words is. kept_by words (asked_of texts) (plan_asked texts words is) ran.is_meant)
