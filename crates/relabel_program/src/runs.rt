@@ -292,13 +292,7 @@ fn run_relabelling<R: Threads + Wait + Sync, S: Store, I: Source, O: Sink>(
         return run_words(alloc, Ok(words), store, input, out);
     }
     let workers = Workers::new(rt, count, fewest_for(&words.options));
-    run_words(
-        alloc,
-        Ok(ByWorkers { words, workers }),
-        store,
-        input,
-        out,
-    )
+    run_words(alloc, Ok(ByWorkers { words, workers }), store, input, out)
 }
 
 // Runs setfiles or restorecon by what its words were read as.

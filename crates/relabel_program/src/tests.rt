@@ -656,7 +656,15 @@ fn by_top<R: Threads + Wait + Sync>(
         alloc,
         &["setfiles", "-n", "-v", "-F", "-T", workers, "fc", "/"],
     )?;
-    let outcome = top(rt, alloc, words.as_slice(), 4, &mut store, &mut input, &mut out);
+    let outcome = top(
+        rt,
+        alloc,
+        words.as_slice(),
+        4,
+        &mut store,
+        &mut input,
+        &mut out,
+    );
     if out.written() == REPORT {
         return Ok(Some(outcome.status));
     }
