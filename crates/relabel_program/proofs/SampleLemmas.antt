@@ -1,6 +1,6 @@
 -- A run of a sample is never refused.
 use Rattle.std.proofs.Common.{◌≡◌, ◌∙◌, ap, refl, sym, subst, ℕ, List, [], ◌∷◌, ◌⊎◌, inl, inr, ◌≤◌}
-use Rattle.std.specs.Prelude.{Option, Some, None, Result, Ok, Err, IfOk, IsOk}
+use Rattle.std.specs.Prelude.{Option, Result, Ok, Err, IfOk, IsOk}
 use Rattle.std.specs.FinMap as map
 use Rattle.input_output.specs.Source.{Rose}
 use Rattle.input_output.specs.Store.{Files}
@@ -8,11 +8,10 @@ use Rattle.tool_words.specs.declared.usage.Usage.{Usage}
 use Rattle.run_faults.specs.declared.cause.Cause.{Cause}
 use Rattle.run_faults.specs.declared.cause.Cause.TheVariants.{Done, OutOfMemory, ReadFault, WriteFault, WalkErrors, Differs}
 use Rattle.run_endings.specs.Endings.{cause_of}
-use Rattle.run_endings.specs.declared.ending.End.{End}
 use Rattle.run_endings.specs.declared.ending.End.TheVariants as ends
 use Rattle.run_endings.specs.declared.ending.Ending.{Ending}
 use Rattle.tool_runs.specs.Plan.{Plan, planned}
-use Rattle.tool_runs.specs.Run.{EndsAlone, FileFailed, InputFailed, ReportsAlone, Run}
+use Rattle.tool_runs.specs.Run.{EndsAlone, ReportsAlone, Run}
 use Rattle.sample_tree.specs.Accepted.{IsAlwaysDone}
 use Rattle.sample_tree.specs.Plan.{sample_plan}
 use Rattle.sample_tree.specs.Words.{sample_words}

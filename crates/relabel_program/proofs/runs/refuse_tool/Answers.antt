@@ -1,4 +1,4 @@
-use Rattle.std.proofs.Common.{◌≡◌, refl, subst, sym, Option, Some, Result, Err}
+use Rattle.std.proofs.Common.{◌≡◌, refl, subst, sym, Option, Some, Err}
 use Rattle.label_base.specs.Answers.{Explains}
 use Rattle.tool_words.specs.Words.{usage}
 use Rattle.tool_words.specs.declared.usage.Usage.{Usage}

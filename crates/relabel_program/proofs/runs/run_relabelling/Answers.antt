@@ -8,7 +8,7 @@ pub returns-then-count-eq1-clause-run : goal.returns-then-count-eq1-clause-run
 returns-then-count-eq1-clause-run g c = c.run_words.ensures.run (Ok _) refl
 
 pub returns-clause-status : goal.returns-clause-status
-returns-clause-status g c = c.run_words.ensures.status (Ok _) refl
+returns-clause-status g c = c.run_words-2.ensures.status (Ok _) refl
 
 pub returns-clause-run : goal.returns-clause-run
-returns-clause-run g c = c.run_words.ensures.run (Ok _) refl
+returns-clause-run g c = c.run_words-2.ensures.run (Ok _) refl
