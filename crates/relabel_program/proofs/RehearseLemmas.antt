@@ -7,7 +7,7 @@ use Rattle.input_output.specs.Store.{Files}
 use Rattle.tool_words.specs.declared.usage.Usage.{Usage}
 use Rattle.run_faults.specs.Causes.{IsReported}
 use Rattle.run_faults.specs.declared.cause.Cause.{Cause}
-use Rattle.run_faults.specs.declared.cause.Cause.TheVariants.{Done, WalkErrors, Differs}
+use Rattle.run_faults.specs.declared.cause.Cause.TheVariants.{Done, WalkErrors, Differs, Denied}
 use Rattle.run_endings.specs.declared.ending.Ending.{Ending}
 use Rattle.tool_runs.specs.Plan.{Plan, answer_in, input_in, planned}
 use Rattle.tool_runs.specs.Run.{Ends, Reports, Run}
@@ -58,6 +58,7 @@ module _ {S O : Type 0} (files : S → Option Files) (written : O → Option (Li
   ended Done kind ends = reported Done ends
   ended (WalkErrors count) kind ends = reported (WalkErrors count) ends
   ended (Differs count) kind ends = reported (Differs count) ends
+  ended (Denied finding) kind ends = reported (Denied finding) ends
   ended cause kind ends = absurd kind
 
 module _ {S I O : Type 0} (files : S → Option Files) (calls : S → Option ℕ) (read_faults write_faults : S → ℕ)

@@ -6,7 +6,7 @@ use Rattle.input_output.specs.Source.{Rose}
 use Rattle.input_output.specs.Store.{Files}
 use Rattle.tool_words.specs.declared.usage.Usage.{Usage}
 use Rattle.run_faults.specs.declared.cause.Cause.{Cause}
-use Rattle.run_faults.specs.declared.cause.Cause.TheVariants.{Done, OutOfMemory, ReadFault, WriteFault, WalkErrors, Differs}
+use Rattle.run_faults.specs.declared.cause.Cause.TheVariants.{Done, OutOfMemory, ReadFault, WriteFault, WalkErrors, Differs, Denied}
 use Rattle.run_endings.specs.Endings.{cause_of}
 use Rattle.run_endings.specs.declared.ending.End.TheVariants as ends
 use Rattle.run_endings.specs.declared.ending.Ending.{Ending}
@@ -65,6 +65,8 @@ module _ {O : Type 0} (written : O → Option (List ℕ)) (out out_now : O) (mea
       let same : WalkErrors count ≡ Done = other_end written out out_now meant (WalkErrors count) ending is done so in cc
   ends_so (Differs count) so read =
       let same : Differs count ≡ Done = other_end written out out_now meant (Differs count) ending is done so in cc
+  ends_so (Denied finding) so read =
+      let same : Denied finding ≡ Done = other_end written out out_now meant (Denied finding) ending is done so in cc
   ends_so cause so read = absurd (not_refused meant ending cause is so)
 
 module _ {S I O : Type 0} (files : S → Option Files) (calls : S → Option ℕ) (read_faults write_faults : S → ℕ) (left : I → Option (List ℕ)) (input_faults : I → ℕ) (written : O → Option (List ℕ)) (out_faults : O → ℕ) (store store_now : S) (input input_now : I) (out out_now : O) (cause : Cause) where
