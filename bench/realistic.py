@@ -58,4 +58,5 @@ def main(room, count):
             out.write(f"{letter} 64768 {inode} {label} /{'/'.join(names)}\0".encode())
 
 
-main(sys.argv[1], int(sys.argv[2]))
+if __name__ == "__main__":
+    main(sys.argv[1], int(sys.argv[2]))

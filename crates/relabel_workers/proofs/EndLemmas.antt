@@ -304,7 +304,7 @@ module _ (w : Walk) (up : ByPath w.entries) where
               let n = entries_are in
               has_entries e (omega (arith, l, n)) h (subst (λ j. 0 < times j taken + 0) (sym (home_is e l)) took)
 
--- ---- what workers settled
+-- ---- what workers closed
 
 -- the law of ends, for one shape
 abbrev pub HaveOneEnd : Shape → Type 0
@@ -312,16 +312,16 @@ HaveOneEnd given =
     (open_job wanted : ℕ → Bool) (claimed : List ℕ) (state : WalkState) → Leads given open_job wanted → Sound given state → WordsAreLeast given claimed state.words
     → HasEnded given open_job wanted claimed state → IsTheEnd given open_job wanted state
 
-pub record IsSettled (w : Walk) (notes : List Note) (winners : Winners) : Type 0 where
+pub record IsClosed (w : Walk) (notes : List Note) (winners : Winners) : Type 0 where
   pub noted : AreAllNoted w notes
   pub won : AreWinners w winners
   pub enough : count_wanted w ≤ winners.claims
 
-pub settled : (w : Walk) (up : ByPath w.entries) → count w < 2 ^ 32 → (given : Shape) → given ≡ shape_of w.entries → HaveOneEnd given
+pub closed : (w : Walk) (up : ByPath w.entries) → count w < 2 ^ 32 → (given : Shape) → given ≡ shape_of w.entries → HaveOneEnd given
     → (q : QueueView) (k : ClaimView) (notes : List Note) (winners : Winners) → IsDone w [] q.taken q.given k.calls notes → Sound given (one_worker q)
     → (groups : ℕ) → groups ≡ groups_in w.entries → Wins groups k.calls winners → TellsAll groups k.calls winners → winners.claims ≡ min (length k.calls) NONE_WORD
-    → IsSettled w notes winners
-settled w up few given is one q k notes winners done sound groups same wins all claims =
+    → IsClosed w notes winners
+closed w up few given is one q k notes winners done sound groups same wins all claims =
     let law : HaveOneEnd (shape_of w.entries) = subst HaveOneEnd is one in
     let s : Sound (shape_of w.entries) (one_worker q) = subst (λ x. Sound x (one_worker q)) is sound in
     let v : Wins (groups_in w.entries) k.calls winners = subst (λ n. Wins n k.calls winners) same wins in

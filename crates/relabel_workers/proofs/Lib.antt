@@ -3,7 +3,7 @@ pub mod OpenLemmas
 pub mod ListLemmas
 pub mod WorkedLemmas
 pub mod EndLemmas
-pub mod HandsLemmas
+pub mod ShareLemmas
 pub mod SkipLemmas
 pub mod PutLemmas
 pub mod RowLemmas

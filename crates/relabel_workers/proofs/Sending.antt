@@ -19,7 +19,7 @@ use Rattle.inode_claims.specs.contracts.claims.Claims as Claims
 use Rattle.dir_queue.proofs.Sending.{job_send, seat_send}
 use Rattle.relabel_core.specs.contracts.options.Options as Options
 use Rattle.relabel_workers.specs.contracts.note.Note as Note
-use Rattle.relabel_workers.specs.contracts.hands.Hands as Hands
+use Rattle.relabel_workers.specs.contracts.share.Share as Share
 
 shared_sync : (S V K P : RattleType) (g : Rule.Ghosts P.Denot S.Denot V.Denot K.Denot) → IsSend S → IsSync (Shared.the_row S V K P g)
 shared_sync S V K P g s = let fields : IsSync (Struct (shape (Shared.the_type S V K P g))) = search sendable depth 20 in
@@ -34,8 +34,8 @@ claims_sync = search (sendable, crosses, shared_sync, lease_sync) depth 40
 note_send : IsSend Note.the_row
 note_send = search (sendable, crosses) depth 40
 
-pub hands_send : IsSend Hands.the_row
-hands_send = search (sendable, crosses, seat_send, job_send, note_send) depth 60
+pub share_send : IsSend Share.the_row
+share_send = search (sendable, crosses, seat_send, job_send, note_send) depth 60
 
 pub options_sync : IsSync Options.the_row
 options_sync = search (sendable, crosses) depth 40

@@ -22,7 +22,7 @@ use Rattle.relabel_core.specs.declared.input.WalkInput.{WalkInput}
 use Rattle.relabel_core.specs.declared.options.Options.{Options}
 use Rattle.relabel_core.specs.declared.stored.Stored.{Stored}
 use Rattle.relabel_workers.specs.Worked.{IsDone}
-use Rattle.relabel_workers.specs.declared.hands.Hands.{Hands}
+use Rattle.relabel_workers.specs.declared.share.Share.{Share}
 
 -- what is walked over, of its parts
 abbrev pub input_of : Bor (List Record) → Bor SelectedValue → Bor (List Path) → Bor Rules → Options
@@ -43,25 +43,25 @@ pub record IsSite (input : WalkInput) (queue : DirQueue) (claims : Claims) : Typ
   pub groups : groups_of claims ≡ groups_in input.tree.now
 
 -- both passes are of these
-pub record AreHandsOf (queue : DirQueue) (claims : Claims) (hands : Hands) : Type 0 where
-  pub queue_pass : IsQueuePassOf queue hands.queue
-  pub claim_pass : IsPassOf claims hands.claims
+pub record IsShareOf (queue : DirQueue) (claims : Claims) (share : Share) : Type 0 where
+  pub queue_pass : IsQueuePassOf queue share.queue
+  pub claim_pass : IsPassOf claims share.claims
 
 -- all is done for the entries of the taken jobs but for those that are left
-abbrev pub AreDone : Walk → List ℕ → Hands → Type 0
-AreDone w left hands =
-    IsDone w left (queue_view hands.queue).taken (queue_view hands.queue).given
-    (claim_view hands.claims).calls hands.notes
+abbrev pub AreDone : Walk → List ℕ → Share → Type 0
+AreDone w left share =
+    IsDone w left (queue_view share.queue).taken (queue_view share.queue).given
+    (claim_view share.claims).calls share.notes
 
 -- for how many passes the one stands, and the other
-abbrev pub queue_stands : Hands → ℕ
-queue_stands hands = (queue_view hands.queue).stands_for
+abbrev pub queue_stands : Share → ℕ
+queue_stands share = (queue_view share.queue).stands_for
 
-abbrev pub claims_stand : Hands → ℕ
-claims_stand hands = (claim_view hands.claims).stands_for
+abbrev pub claims_stand : Share → ℕ
+claims_stand share = (claim_view share.claims).stands_for
 
 -- both stand for so many more
-pub record StandFor (old : Hands) (more : ℕ) (new : Hands) : Type 0 where
+pub record StandFor (old : Share) (more : ℕ) (new : Share) : Type 0 where
   pub queue_more : queue_stands new ≡ queue_stands old + more
   pub claims_more : claims_stand new ≡ claims_stand old + more
 

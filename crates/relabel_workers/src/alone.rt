@@ -4,10 +4,10 @@ ghost use Rattle.spec_match.specs.Scratches.{IsScratchOf};
 ghost use Rattle.walk_steps.specs.Sound.{Sound};
 ghost use Rattle.relabel_core.specs.Walked.{walk_of};
 ghost use Rattle.relabel_workers.specs.Alone.{AreListingsFor};
-ghost use Rattle.relabel_workers.specs.Held.{AreDone, AreHandsOf, IsSite, StandFor, queue_stands};
+ghost use Rattle.relabel_workers.specs.Held.{AreDone, IsShareOf, IsSite, StandFor, queue_stands};
 
 use crate::gate::Gate;
-use crate::hands::Hands;
+use crate::share::Share;
 use crate::work::step;
 use dir_digest::Listings;
 use dir_queue::DirQueue;
@@ -31,17 +31,17 @@ pub fn start_alone<R: Wait, G: Gate>(
     workers: u32,
     listings: &Option<Listings<'_>>,
     buffers: &mut Buffers,
-    hands: &mut Hands,
+    share: &mut Share,
 ) -> Result<u32, OutOfMemory>
     requires site { IsSite input.now queue.now claims.now }
     requires listings { AreListingsFor input.now listings.now }
     requires own { IsScratchOf input.now.rules.now.rules buffers.old.scratch }
-    requires hands { AreHandsOf queue.now claims.now hands.old }
-    requires done { AreDone (walk_of input.now) [] hands.old }
+    requires share { IsShareOf queue.now claims.now share.old }
+    requires done { AreDone (walk_of input.now) [] share.old }
     ensures own { IsScratchOf input.now.rules.now.rules buffers.new.scratch }
-    ensures hands { OnOk result (AreHandsOf queue.now claims.now hands.new) }
-    ensures done { OnOk result (AreDone (walk_of input.now) [] hands.new) }
-    ensures stands { OnOk result (StandFor hands.old 0 hands.new) }
+    ensures share { OnOk result (IsShareOf queue.now claims.now share.new) }
+    ensures done { OnOk result (AreDone (walk_of input.now) [] share.new) }
+    ensures stands { OnOk result (StandFor share.old 0 share.new) }
 {
     // Job 0.
     let mut waiting = 1u32;
@@ -50,7 +50,7 @@ pub fn start_alone<R: Wait, G: Gate>(
             return Ok(waiting);
         }
         let found = step(
-            rt, alloc, input, queue, claims, gate, CALLER, listings, buffers, hands,
+            rt, alloc, input, queue, claims, gate, CALLER, listings, buffers, share,
         )?;
         waiting = waiting_behind(waiting, found);
     }
@@ -75,23 +75,23 @@ pub fn drain<R: Wait, G: Gate>(
     gate: &G,
     listings: &Option<Listings<'_>>,
     buffers: &mut Buffers,
-    hands: &mut Hands,
+    share: &mut Share,
 ) -> Result<(), OutOfMemory>
     requires site { IsSite input.now queue.now claims.now }
     requires listings { AreListingsFor input.now listings.now }
     requires own { IsScratchOf input.now.rules.now.rules buffers.old.scratch }
-    requires hands { AreHandsOf queue.now claims.now hands.old }
-    requires done { AreDone (walk_of input.now) [] hands.old }
-    requires whole { queue_stands hands.old ≡ passes_of queue.now }
-    ensures hands { OnOk result (AreHandsOf queue.now claims.now hands.new) }
-    ensures done { OnOk result (AreDone (walk_of input.now) [] hands.new) }
-    ensures stands { OnOk result (StandFor hands.old 0 hands.new) }
+    requires share { IsShareOf queue.now claims.now share.old }
+    requires done { AreDone (walk_of input.now) [] share.old }
+    requires whole { queue_stands share.old ≡ passes_of queue.now }
+    ensures share { OnOk result (IsShareOf queue.now claims.now share.new) }
+    ensures done { OnOk result (AreDone (walk_of input.now) [] share.new) }
+    ensures stands { OnOk result (StandFor share.old 0 share.new) }
     ensures sound { OnOk result
-        (Sound (shape_of queue.now) (one_worker (queue_view hands.new.queue))) }
+        (Sound (shape_of queue.now) (one_worker (queue_view share.new.queue))) }
 {
     'steps: for _ in rt.forever() {
         let found = step(
-            rt, alloc, input, queue, claims, gate, CALLER, listings, buffers, hands,
+            rt, alloc, input, queue, claims, gate, CALLER, listings, buffers, share,
         )?;
         if found.is_none() {
             return Ok(());

@@ -11,12 +11,12 @@ ghost use Rattle.label_rules.specs.LookUp.{given_at};
 ghost use Rattle.relabel_core.specs.Walk.{count, skippable};
 ghost use Rattle.relabel_core.specs.Walked.{IsFit, walk_of};
 ghost use Rattle.relabel_workers.specs.Alone.{AreListingsFor, decided_alone, gives_alone};
-ghost use Rattle.relabel_workers.specs.Held.{AreDone, AreHandsOf, IsSite, StandFor};
+ghost use Rattle.relabel_workers.specs.Held.{AreDone, IsShareOf, IsSite, StandFor};
 ghost use Rattle.relabel_workers.specs.Worked.{AddsCall, given_with, is_to_be_given};
 
 use crate::gate::Gate;
-use crate::hands::Hands;
 use crate::note::note_of;
+use crate::share::Share;
 use dir_digest::Listings;
 use dir_queue::{DirQueue, QueuePass};
 use inode_claims::{ClaimPass, Claims};
@@ -103,28 +103,28 @@ fn do_entry<R: Wait, G: Gate>(
     e: u32,
     listings: &Option<Listings<'_>>,
     buffers: &mut Buffers,
-    hands: &mut Hands,
+    share: &mut Share,
 ) -> Result<bool, OutOfMemory>
     requires site { IsSite input.now queue.now claims.now }
     requires entry { e < count (walk_of input.now) }
-    requires home { 0 < times (home_of input.now.tree.now e) (queue_view hands.old.queue).taken }
+    requires home { 0 < times (home_of input.now.tree.now e) (queue_view share.old.queue).taken }
     requires new { is_to_be_given (walk_of input.now) e ≡ true
-        → times (job_of input.now.tree.now e) (queue_view hands.old.queue).given ≡ 0 }
+        → times (job_of input.now.tree.now e) (queue_view share.old.queue).given ≡ 0 }
     requires listings { AreListingsFor input.now listings.now }
     requires own { IsScratchOf input.now.rules.now.rules buffers.old.scratch }
-    requires hands { AreHandsOf queue.now claims.now hands.old }
+    requires share { IsShareOf queue.now claims.now share.old }
     ensures own { IsScratchOf input.now.rules.now.rules buffers.new.scratch }
-    ensures hands { OnOk result (AreHandsOf queue.now claims.now hands.new) }
-    ensures done { (rest : List ℕ) → AreDone (walk_of input.now) (e ∷ rest) hands.old
-        → OnOk result (AreDone (walk_of input.now) rest hands.new) }
-    ensures stands { OnOk result (StandFor hands.old 0 hands.new) }
+    ensures share { OnOk result (IsShareOf queue.now claims.now share.new) }
+    ensures done { (rest : List ℕ) → AreDone (walk_of input.now) (e ∷ rest) share.old
+        → OnOk result (AreDone (walk_of input.now) rest share.new) }
+    ensures stands { OnOk result (StandFor share.old 0 share.new) }
 {
     let note = note_of(alloc, input, e, listings, buffers)?;
     let given = give_job(
         rt,
         input,
         queue,
-        &mut hands.queue,
+        &mut share.queue,
         e,
         note.finding.skippable,
     );
@@ -133,11 +133,11 @@ fn do_entry<R: Wait, G: Gate>(
         claims,
         gate,
         worker,
-        &mut hands.claims,
+        &mut share.claims,
         e,
         note.decided,
     );
-    hands.notes.push(note)?;
+    share.notes.push(note)?;
     Ok(given)
 }
 
@@ -153,24 +153,24 @@ pub fn do_entries<R: Wait, G: Gate>(
     job: u32,
     listings: &Option<Listings<'_>>,
     buffers: &mut Buffers,
-    hands: &mut Hands,
+    share: &mut Share,
 ) -> Result<u32, OutOfMemory>
     requires site { IsSite input.now queue.now claims.now }
     requires job { job ≤ length (directories_in input.now.tree.now) }
     requires listings { AreListingsFor input.now listings.now }
     requires own { IsScratchOf input.now.rules.now.rules buffers.old.scratch }
-    requires hands { AreHandsOf queue.now claims.now hands.old }
-    requires left { AreDone (walk_of input.now) (entries_of_job input.now.tree.now job) hands.old }
+    requires share { IsShareOf queue.now claims.now share.old }
+    requires left { AreDone (walk_of input.now) (entries_of_job input.now.tree.now job) share.old }
     ensures own { IsScratchOf input.now.rules.now.rules buffers.new.scratch }
-    ensures hands { OnOk result (AreHandsOf queue.now claims.now hands.new) }
-    ensures done { OnOk result (AreDone (walk_of input.now) [] hands.new) }
-    ensures stands { OnOk result (StandFor hands.old 0 hands.new) }
+    ensures share { OnOk result (IsShareOf queue.now claims.now share.new) }
+    ensures done { OnOk result (AreDone (walk_of input.now) [] share.new) }
+    ensures stands { OnOk result (StandFor share.old 0 share.new) }
 {
     let mut given = 0u32;
     let mut entries = input.tree.entries_of_job(job);
     'entries: while let Some(e) = entries.next() {
         let one = do_entry(
-            rt, alloc, input, queue, claims, gate, worker, e, listings, buffers, hands,
+            rt, alloc, input, queue, claims, gate, worker, e, listings, buffers, share,
         )?;
         given = given.saturating_add(u32::from(one));
     }

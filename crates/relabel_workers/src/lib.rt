@@ -2,15 +2,15 @@
 //! walk of one worker finds, whatever each of them does when.
 #![tactic(auto)]
 
+mod all_jobs;
 mod alone;
-mod crew;
 mod gate;
-mod gathering;
-mod hands;
 mod job;
 mod note;
 mod notes;
 mod put_back;
+mod running;
+mod share;
 #[cfg(test)]
 mod test_worlds;
 #[cfg(test)]

@@ -11,11 +11,11 @@ ghost use Rattle.relabel_core.specs.Walked.{IsFit, walk_of};
 ghost use Rattle.relabel_workers.specs.Held.{AreDone, claims_stand};
 ghost use Rattle.relabel_workers.specs.PutBack.{AreAllNoted, AreWinners};
 
+use crate::all_jobs::take_all_jobs;
 use crate::gate::Gate;
-use crate::gathering::gather;
-use crate::hands::Hands;
 use crate::notes::Notes;
 use crate::put_back::walk_of_notes;
+use crate::share::Share;
 use dir_queue::DirQueue;
 use inode_claims::{Claims, Winners};
 use label_base::OutOfMemory;
@@ -27,55 +27,55 @@ use walk_steps::{Shape, ends_are_one};
 
 // What workers did, at their end.
 #[derive(Drop)]
-struct Settled {
+struct Closed {
     winners: Winners,
     notes: Notes,
 }
 
 // Closes the claims of workers that left no job.
-fn settle(input: &WalkInput<'_>, shape: &Shape, claims: Claims, hands: Hands) -> Settled
+fn close(input: &WalkInput<'_>, shape: &Shape, claims: Claims, share: Share) -> Closed
     requires fit { IsFit input.now }
     requires shape { (shape.now ≡ shape_of input.now.tree.now) × IsValid shape.now }
     requires groups { groups_of claims ≡ groups_in input.now.tree.now }
-    requires pass { IsPassOf claims hands.claims }
-    requires all { claims_stand hands ≡ claim_passes_of claims }
-    requires done { AreDone (walk_of input.now) [] hands }
-    requires sound { Sound shape.now (one_worker (queue_view hands.queue)) }
+    requires pass { IsPassOf claims share.claims }
+    requires all { claims_stand share ≡ claim_passes_of claims }
+    requires done { AreDone (walk_of input.now) [] share }
+    requires sound { Sound shape.now (one_worker (queue_view share.queue)) }
     ensures notes { AreAllNoted (walk_of input.now) result.notes }
     ensures winners { AreWinners (walk_of input.now) result.winners }
     ensures claims { count_wanted (walk_of input.now) ≤ result.winners.claims }
 {
     ends_are_one(shape);
     input.tree.rises();
-    let Hands {
+    let Share {
         queue: _queue,
         claims: pass,
         notes,
-    } = hands;
+    } = share;
     let winners = claims.close(pass);
-    Settled { winners, notes }
+    Closed { winners, notes }
 }
 
 // Lets workers walk over a tree of this shape.
-fn settle_all<R: Threads + Wait + Sync, G: Gate + Sync>(
+fn close_all<R: Threads + Wait + Sync, G: Gate + Sync>(
     rt: &R,
     alloc: Global,
     input: &WalkInput<'_>,
     shape: &Shape,
     workers: u32,
     gate: &G,
-) -> Result<Settled, OutOfMemory>
+) -> Result<Closed, OutOfMemory>
     requires fit { IsFit input.now }
     requires shape { (shape.now ≡ shape_of input.now.tree.now) × IsValid shape.now }
     requires some { 0 < workers }
-    ensures notes { IfOk result (λ settled. AreAllNoted (walk_of input.now) settled.notes) }
-    ensures winners { IfOk result (λ settled. AreWinners (walk_of input.now) settled.winners) }
-    ensures claims { IfOk result (λ settled.
-        count_wanted (walk_of input.now) ≤ settled.winners.claims) }
+    ensures notes { IfOk result (λ closed. AreAllNoted (walk_of input.now) closed.notes) }
+    ensures winners { IfOk result (λ closed. AreWinners (walk_of input.now) closed.winners) }
+    ensures claims { IfOk result (λ closed.
+        count_wanted (walk_of input.now) ≤ closed.winners.claims) }
 {
     let (queue, queue_passes) = DirQueue::new(rt, alloc, shape, workers)?;
     let (claims, claim_passes) = Claims::new(alloc, input.tree.groups(), workers)?;
-    let hands = gather(
+    let share = take_all_jobs(
         rt,
         alloc,
         input,
@@ -86,7 +86,7 @@ fn settle_all<R: Threads + Wait + Sync, G: Gate + Sync>(
         queue_passes,
         claim_passes,
     )?;
-    Ok(settle(input, shape, claims, hands))
+    Ok(close(input, shape, claims, share))
 }
 
 /// Walks over a tree by so many workers, and finds what the walk of one worker finds, whatever each of them does when. It
@@ -109,8 +109,8 @@ pub fn walk_threads<'a, R: Threads + Wait + Sync, G: Gate + Sync>(
     ensures claims { IfOk result (λ found. count_wanted (walk_of input.now) ≤ found.1.claims) }
 {
     let shape = input.tree.shape(alloc)?;
-    let settled = settle_all(rt, alloc, input, &shape, workers, gate)?;
-    let walked = walk_of_notes(alloc, input, &settled.winners, &settled.notes)?;
-    let Settled { winners, notes: _ } = settled;
+    let closed = close_all(rt, alloc, input, &shape, workers, gate)?;
+    let walked = walk_of_notes(alloc, input, &closed.winners, &closed.notes)?;
+    let Closed { winners, notes: _ } = closed;
     Ok((walked, winners))
 }

@@ -5,11 +5,11 @@ ghost use Rattle.spec_match.specs.Scratches.{IsScratchOf};
 ghost use Rattle.walk_steps.specs.Sound.{Sound};
 ghost use Rattle.relabel_core.specs.Walked.{walk_of};
 ghost use Rattle.relabel_workers.specs.Alone.{AreListingsFor};
-ghost use Rattle.relabel_workers.specs.Held.{AreDone, AreHandsOf, IsSite, StandFor, queue_stands};
+ghost use Rattle.relabel_workers.specs.Held.{AreDone, IsShareOf, IsSite, StandFor, queue_stands};
 
 use crate::gate::Gate;
-use crate::hands::Hands;
 use crate::job::do_entries;
+use crate::share::Share;
 use dir_digest::Listings;
 use dir_queue::DirQueue;
 use inode_claims::Claims;
@@ -48,26 +48,26 @@ pub fn step<R: Wait, G: Gate>(
     worker: u32,
     listings: &Option<Listings<'_>>,
     buffers: &mut Buffers,
-    hands: &mut Hands,
+    share: &mut Share,
 ) -> Result<Option<u32>, OutOfMemory>
     requires site { IsSite input.now queue.now claims.now }
     requires listings { AreListingsFor input.now listings.now }
     requires own { IsScratchOf input.now.rules.now.rules buffers.old.scratch }
-    requires hands { AreHandsOf queue.now claims.now hands.old }
-    requires done { AreDone (walk_of input.now) [] hands.old }
+    requires share { IsShareOf queue.now claims.now share.old }
+    requires done { AreDone (walk_of input.now) [] share.old }
     ensures own { IsScratchOf input.now.rules.now.rules buffers.new.scratch }
-    ensures hands { OnOk result (AreHandsOf queue.now claims.now hands.new) }
-    ensures done { OnOk result (AreDone (walk_of input.now) [] hands.new) }
-    ensures stands { OnOk result (StandFor hands.old 0 hands.new) }
-    ensures sound { queue_stands hands.old ≡ passes_of queue.now → IfOk result (λ found.
-        IfNone found (Sound (shape_of queue.now) (one_worker (queue_view hands.new.queue)))) }
+    ensures share { OnOk result (IsShareOf queue.now claims.now share.new) }
+    ensures done { OnOk result (AreDone (walk_of input.now) [] share.new) }
+    ensures stands { OnOk result (StandFor share.old 0 share.new) }
+    ensures sound { queue_stands share.old ≡ passes_of queue.now → IfOk result (λ found.
+        IfNone found (Sound (shape_of queue.now) (one_worker (queue_view share.new.queue)))) }
 {
-    let Some(job) = queue.take(rt, &mut hands.queue) else {
+    let Some(job) = queue.take(rt, &mut share.queue) else {
         return Ok(None);
     };
     gate.enter(worker, job);
     let given = do_entries(
-        rt, alloc, input, queue, claims, gate, worker, job, listings, buffers, hands,
+        rt, alloc, input, queue, claims, gate, worker, job, listings, buffers, share,
     )?;
     Ok(Some(given))
 }
@@ -83,16 +83,16 @@ fn work_with<R: Wait, G: Gate>(
     worker: u32,
     listings: &Option<Listings<'_>>,
     buffers: &mut Buffers,
-    hands: &mut Hands,
+    share: &mut Share,
 ) -> Result<(), OutOfMemory>
     requires site { IsSite input.now queue.now claims.now }
     requires listings { AreListingsFor input.now listings.now }
     requires own { IsScratchOf input.now.rules.now.rules buffers.old.scratch }
-    requires hands { AreHandsOf queue.now claims.now hands.old }
-    requires done { AreDone (walk_of input.now) [] hands.old }
-    ensures hands { OnOk result (AreHandsOf queue.now claims.now hands.new) }
-    ensures done { OnOk result (AreDone (walk_of input.now) [] hands.new) }
-    ensures stands { OnOk result (StandFor hands.old 0 hands.new) }
+    requires share { IsShareOf queue.now claims.now share.old }
+    requires done { AreDone (walk_of input.now) [] share.old }
+    ensures share { OnOk result (IsShareOf queue.now claims.now share.new) }
+    ensures done { OnOk result (AreDone (walk_of input.now) [] share.new) }
+    ensures stands { OnOk result (StandFor share.old 0 share.new) }
 {
     let mut idle = 0u32;
     'steps: for _ in rt.forever() {
@@ -100,7 +100,7 @@ fn work_with<R: Wait, G: Gate>(
             return Ok(());
         }
         let found = step(
-            rt, alloc, input, queue, claims, gate, worker, listings, buffers, hands,
+            rt, alloc, input, queue, claims, gate, worker, listings, buffers, share,
         )?;
         idle = idle_behind(idle, found);
     }
@@ -125,14 +125,14 @@ pub fn work<R: Wait, G: Gate>(
     claims: &Claims,
     gate: &G,
     worker: u32,
-    mut hands: Hands,
-) -> Result<Hands, OutOfMemory>
+    mut share: Share,
+) -> Result<Share, OutOfMemory>
     requires site { IsSite input.now queue.now claims.now }
-    requires hands { AreHandsOf queue.now claims.now hands }
-    requires done { AreDone (walk_of input.now) [] hands }
-    ensures hands { IfOk result (λ after. AreHandsOf queue.now claims.now after) }
+    requires share { IsShareOf queue.now claims.now share }
+    requires done { AreDone (walk_of input.now) [] share }
+    ensures share { IfOk result (λ after. IsShareOf queue.now claims.now after) }
     ensures done { IfOk result (λ after. AreDone (walk_of input.now) [] after) }
-    ensures stands { IfOk result (λ after. StandFor hands 0 after) }
+    ensures stands { IfOk result (λ after. StandFor share 0 after) }
 {
     let listings = listings_for(alloc, input)?;
     let mut buffers = buffers_for(alloc, input.rules)?;
@@ -146,7 +146,7 @@ pub fn work<R: Wait, G: Gate>(
         worker,
         &listings,
         &mut buffers,
-        &mut hands,
+        &mut share,
     )?;
-    Ok(hands)
+    Ok(share)
 }

@@ -2,7 +2,7 @@ use Rattle.std.proofs.Common.{◌∙◌, refl, sym, ap, subst, arith}
 use Rattle.inode_claims.specs.Answers.{claim_view}
 use Rattle.dir_queue.specs.Answers.{queue_view, shape_of}
 use Rattle.relabel_core.specs.Walked.{walk_of}
-use Rattle.relabel_workers.proofs.HandsLemmas.{job_known, taken_done}
+use Rattle.relabel_workers.proofs.ShareLemmas.{job_known, taken_done}
 use Rattle.relabel_workers.proofs.work.step.Goals as goal
 
 pub do_entries-requires-clause-job : goal.do_entries-requires-clause-job
@@ -11,5 +11,5 @@ do_entries-requires-clause-job g c =
 
 pub do_entries-requires-clause-left : goal.do_entries-requires-clause-left
 do_entries-requires-clause-left g c =
-    taken_done (walk_of c.args.input.now) c.in-Some.job (queue_view c.args.hands.now.queue) (queue_view c.take.new.pass) (claim_view c.args.hands.now.claims) c.args.hands.now.notes
+    taken_done (walk_of c.args.input.now) c.in-Some.job (queue_view c.args.share.now.queue) (queue_view c.take.new.pass) (claim_view c.args.share.now.claims) c.args.share.now.notes
     c.in-Some.ensures.taken.0 c.in-Some.ensures.taken.2 c.requires.done

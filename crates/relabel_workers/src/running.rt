@@ -1,10 +1,10 @@
 ghost use Rattle.std.specs.Prelude.{◌≡◌, ◌+◌, [], length, IfOk};
 ghost use Rattle.std.specs.Thread.{IsSync};
 ghost use Rattle.relabel_core.specs.Walked.{walk_of};
-ghost use Rattle.relabel_workers.specs.Held.{AreDone, AreHandsOf, AreRows, IsSite, StandFor, claims_stand, input_of, queue_stands};
+ghost use Rattle.relabel_workers.specs.Held.{AreDone, IsShareOf, AreRows, IsSite, StandFor, claims_stand, input_of, queue_stands};
 
 use crate::gate::Gate;
-use crate::hands::{Hands, join_hands, next_hands};
+use crate::share::{Share, join_shares, next_share};
 use crate::work::work;
 use dir_queue::{DirQueue, QueuePass};
 use inode_claims::{ClaimPass, Claims};
@@ -26,18 +26,18 @@ pub fn run_all<R: Threads + Wait + Sync, G: Gate + Sync>(
     worker: u32,
     mut queue_passes: Row<QueuePass>,
     mut claim_passes: Row<ClaimPass>,
-    hands: Hands,
-) -> Result<Hands, OutOfMemory>
+    share: Share,
+) -> Result<Share, OutOfMemory>
     requires site { IsSite input.now queue.now claims.now }
     requires rows { AreRows queue.now claims.now queue_passes claim_passes }
-    requires hands { AreHandsOf queue.now claims.now hands }
-    requires done { AreDone (walk_of input.now) [] hands }
-    ensures hands { IfOk result (λ after. AreHandsOf queue.now claims.now after) }
+    requires share { IsShareOf queue.now claims.now share }
+    requires done { AreDone (walk_of input.now) [] share }
+    ensures share { IfOk result (λ after. IsShareOf queue.now claims.now after) }
     ensures done { IfOk result (λ after. AreDone (walk_of input.now) [] after) }
-    ensures stands { IfOk result (λ after. StandFor hands (length queue_passes) after) }
+    ensures stands { IfOk result (λ after. StandFor share (length queue_passes) after) }
 {
-    let Some(next) = next_hands(alloc, queue, claims, &mut queue_passes, &mut claim_passes) else {
-        return work(rt, alloc, input, queue, claims, gate, worker, hands);
+    let Some(next) = next_share(alloc, queue, claims, &mut queue_passes, &mut claim_passes) else {
+        return work(rt, alloc, input, queue, claims, gate, worker, share);
     };
     run_both(
         rt,
@@ -49,7 +49,7 @@ pub fn run_all<R: Threads + Wait + Sync, G: Gate + Sync>(
         worker,
         queue_passes,
         claim_passes,
-        hands,
+        share,
         next,
     )
 }
@@ -67,21 +67,21 @@ fn run_both<R: Threads + Wait + Sync, G: Gate + Sync>(
     worker: u32,
     queue_passes: Row<QueuePass>,
     claim_passes: Row<ClaimPass>,
-    hands: Hands,
-    next: Hands,
-) -> Result<Hands, OutOfMemory>
+    share: Share,
+    next: Share,
+) -> Result<Share, OutOfMemory>
     requires site { IsSite input.now queue.now claims.now }
     requires rows { AreRows queue.now claims.now queue_passes claim_passes }
-    requires hands { AreHandsOf queue.now claims.now hands }
-    requires done { AreDone (walk_of input.now) [] hands }
-    requires next { AreHandsOf queue.now claims.now next }
+    requires share { IsShareOf queue.now claims.now share }
+    requires done { AreDone (walk_of input.now) [] share }
+    requires next { IsShareOf queue.now claims.now next }
     requires next_done { AreDone (walk_of input.now) [] next }
-    ensures hands { IfOk result (λ after. AreHandsOf queue.now claims.now after) }
+    ensures share { IfOk result (λ after. IsShareOf queue.now claims.now after) }
     ensures done { IfOk result (λ after. AreDone (walk_of input.now) [] after) }
     ensures queue_stands { IfOk result (λ after. queue_stands after
-        ≡ queue_stands hands + queue_stands next + length queue_passes) }
+        ≡ queue_stands share + queue_stands next + length queue_passes) }
     ensures claims_stand { IfOk result (λ after. claims_stand after
-        ≡ claims_stand hands + claims_stand next + length queue_passes) }
+        ≡ claims_stand share + claims_stand next + length queue_passes) }
 {
     let number = worker.saturating_add(1);
     let WalkInput {
@@ -94,13 +94,13 @@ fn run_both<R: Threads + Wait + Sync, G: Gate + Sync>(
     } = *input;
     let (mine, others) = join(
         rt,
-        || -> Result<Hands, OutOfMemory>
+        || -> Result<Share, OutOfMemory>
             requires { IsSite (input_of tree chosen operands rules options stored) queue.now
-                claims.now × AreHandsOf queue.now claims.now hands
-                × AreDone (walk_of (input_of tree chosen operands rules options stored)) [] hands }
-            ensures { IfOk result (λ after. AreHandsOf queue.entry.now claims.entry.now after
+                claims.now × IsShareOf queue.now claims.now share
+                × AreDone (walk_of (input_of tree chosen operands rules options stored)) [] share }
+            ensures { IfOk result (λ after. IsShareOf queue.entry.now claims.entry.now after
                 × AreDone (walk_of (input_of tree.entry chosen.entry operands.entry rules.entry
-                options stored.entry)) [] after × StandFor hands 0 after) }
+                options stored.entry)) [] after × StandFor share 0 after) }
         {
             let input = WalkInput {
                 tree,
@@ -110,15 +110,15 @@ fn run_both<R: Threads + Wait + Sync, G: Gate + Sync>(
                 options,
                 stored,
             };
-            work(rt, alloc, &input, queue, claims, gate, worker, hands)
+            work(rt, alloc, &input, queue, claims, gate, worker, share)
         },
-        || -> Result<Hands, OutOfMemory>
+        || -> Result<Share, OutOfMemory>
             requires { IsSync R.row × IsSync G.row
                 × IsSite (input_of tree chosen operands rules options stored) queue.now claims.now
-                × AreHandsOf queue.now claims.now next
+                × IsShareOf queue.now claims.now next
                 × AreDone (walk_of (input_of tree chosen operands rules options stored)) [] next
                 × AreRows queue.now claims.now queue_passes claim_passes }
-            ensures { IfOk result (λ after. AreHandsOf queue.entry.now claims.entry.now after
+            ensures { IfOk result (λ after. IsShareOf queue.entry.now claims.entry.now after
                 × AreDone (walk_of (input_of tree.entry chosen.entry operands.entry rules.entry
                 options stored.entry)) [] after × StandFor next (length queue_passes) after) }
         {
@@ -144,7 +144,7 @@ fn run_both<R: Threads + Wait + Sync, G: Gate + Sync>(
             )
         },
     );
-    join_hands(rt, queue, claims, mine?, others?)
+    join_shares(rt, queue, claims, mine?, others?)
 }
 
 // Joins the passes of workers that aren't started.
@@ -156,26 +156,26 @@ fn join_rest<R: Wait>(
     claims: &Claims,
     mut queue_passes: Row<QueuePass>,
     mut claim_passes: Row<ClaimPass>,
-    mut hands: Hands,
-) -> Result<Hands, OutOfMemory>
+    mut share: Share,
+) -> Result<Share, OutOfMemory>
     requires rows { AreRows queue.now claims.now queue_passes claim_passes }
-    requires hands { AreHandsOf queue.now claims.now hands }
-    requires done { AreDone (walk_of input.now) [] hands }
-    ensures hands { IfOk result (λ after. AreHandsOf queue.now claims.now after) }
+    requires share { IsShareOf queue.now claims.now share }
+    requires done { AreDone (walk_of input.now) [] share }
+    ensures share { IfOk result (λ after. IsShareOf queue.now claims.now after) }
     ensures done { IfOk result (λ after. AreDone (walk_of input.now) [] after) }
-    ensures stands { IfOk result (λ after. StandFor hands (length queue_passes) after) }
+    ensures stands { IfOk result (λ after. StandFor share (length queue_passes) after) }
 {
     let _ = input;
-    'rows: while let Some(next) = next_hands(
+    'rows: while let Some(next) = next_share(
         alloc,
         queue,
         claims,
         &mut queue_passes,
         &mut claim_passes,
     ) {
-        hands = join_hands(rt, queue, claims, hands, next)?;
+        share = join_shares(rt, queue, claims, share, next)?;
     }
-    Ok(hands)
+    Ok(share)
 }
 
 /// Runs all workers, if a job waits, and else none. It answers what all of them did.
@@ -189,15 +189,15 @@ pub fn run_if_any<R: Threads + Wait + Sync, G: Gate + Sync>(
     waiting: u32,
     queue_passes: Row<QueuePass>,
     claim_passes: Row<ClaimPass>,
-    hands: Hands,
-) -> Result<Hands, OutOfMemory>
+    share: Share,
+) -> Result<Share, OutOfMemory>
     requires site { IsSite input.now queue.now claims.now }
     requires rows { AreRows queue.now claims.now queue_passes claim_passes }
-    requires hands { AreHandsOf queue.now claims.now hands }
-    requires done { AreDone (walk_of input.now) [] hands }
-    ensures hands { IfOk result (λ after. AreHandsOf queue.now claims.now after) }
+    requires share { IsShareOf queue.now claims.now share }
+    requires done { AreDone (walk_of input.now) [] share }
+    ensures share { IfOk result (λ after. IsShareOf queue.now claims.now after) }
     ensures done { IfOk result (λ after. AreDone (walk_of input.now) [] after) }
-    ensures stands { IfOk result (λ after. StandFor hands (length queue_passes) after) }
+    ensures stands { IfOk result (λ after. StandFor share (length queue_passes) after) }
 {
     if waiting == 0 {
         return join_rest(
@@ -208,7 +208,7 @@ pub fn run_if_any<R: Threads + Wait + Sync, G: Gate + Sync>(
             claims,
             queue_passes,
             claim_passes,
-            hands,
+            share,
         );
     }
     run_all(
@@ -221,6 +221,6 @@ pub fn run_if_any<R: Threads + Wait + Sync, G: Gate + Sync>(
         0,
         queue_passes,
         claim_passes,
-        hands,
+        share,
     )
 }

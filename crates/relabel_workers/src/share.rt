@@ -1,6 +1,6 @@
 ghost use Rattle.std.specs.Prelude.{◌≡◌, ◌+◌, [], length, IfOk, IfSome, MatchOption};
 ghost use Rattle.relabel_core.specs.Walk.{Walk};
-ghost use Rattle.relabel_workers.specs.Held.{AreDone, AreHandsOf, AreRows, claims_stand, queue_stands};
+ghost use Rattle.relabel_workers.specs.Held.{AreDone, IsShareOf, AreRows, claims_stand, queue_stands};
 
 use crate::notes::Notes;
 use dir_queue::{DirQueue, QueuePass};
@@ -11,26 +11,26 @@ use std::sync::Wait;
 
 /// What a worker holds, and brings back: its two passes, and what it found of the entries of the jobs that it took.
 #[derive(Drop)]
-pub struct Hands {
+pub struct Share {
     pub queue: QueuePass,
     pub claims: ClaimPass,
     pub notes: Notes,
 }
 
 /// The passes of one more worker, if there are any left.
-pub fn next_hands(
+pub fn next_share(
     alloc: Global,
     queue: &DirQueue,
     claims: &Claims,
     queue_passes: &mut Row<QueuePass>,
     claim_passes: &mut Row<ClaimPass>,
-) -> Option<Hands>
+) -> Option<Share>
     requires { AreRows queue.now claims.now queue_passes.old claim_passes.old }
     ensures rows { AreRows queue.now claims.now queue_passes.new claim_passes.new }
-    ensures hands { IfSome result (λ hands. AreHandsOf queue.now claims.now hands) }
-    ensures done { (w : Walk) → IfSome result (λ hands. AreDone w [] hands) }
-    ensures stands { IfSome result (λ hands.
-        (queue_stands hands ≡ 1) × (claims_stand hands ≡ 1)) }
+    ensures share { IfSome result (λ share. IsShareOf queue.now claims.now share) }
+    ensures done { (w : Walk) → IfSome result (λ share. AreDone w [] share) }
+    ensures stands { IfSome result (λ share.
+        (queue_stands share ≡ 1) × (claims_stand share ≡ 1)) }
     ensures left { MatchOption result (length queue_passes.old ≡ 0)
         (λ _. length queue_passes.old ≡ length queue_passes.new + 1) }
 {
@@ -38,7 +38,7 @@ pub fn next_hands(
     let Some(claim_pass) = claim_passes.pop() else {
         unreachable!()
     };
-    Some(Hands {
+    Some(Share {
         queue: queue_pass,
         claims: claim_pass,
         notes: Notes::new(alloc),
@@ -46,35 +46,35 @@ pub fn next_hands(
 }
 
 /// What two workers did, by one.
-pub fn join_hands<R: Wait>(
+pub fn join_shares<R: Wait>(
     rt: &R,
     queue: &DirQueue,
     claims: &Claims,
-    into: Hands,
-    from: Hands,
-) -> Result<Hands, OutOfMemory>
-    requires into { AreHandsOf queue.now claims.now into }
-    requires from { AreHandsOf queue.now claims.now from }
-    ensures hands { IfOk result (λ hands. AreHandsOf queue.now claims.now hands) }
+    into: Share,
+    from: Share,
+) -> Result<Share, OutOfMemory>
+    requires into { IsShareOf queue.now claims.now into }
+    requires from { IsShareOf queue.now claims.now from }
+    ensures share { IfOk result (λ share. IsShareOf queue.now claims.now share) }
     ensures done { (w : Walk) → AreDone w [] into → AreDone w [] from
-        → IfOk result (λ hands. AreDone w [] hands) }
-    ensures stands { IfOk result (λ hands.
-        (queue_stands hands ≡ queue_stands into + queue_stands from)
-        × (claims_stand hands ≡ claims_stand into + claims_stand from)) }
+        → IfOk result (λ share. AreDone w [] share) }
+    ensures stands { IfOk result (λ share.
+        (queue_stands share ≡ queue_stands into + queue_stands from)
+        × (claims_stand share ≡ claims_stand into + claims_stand from)) }
 {
-    let Hands {
+    let Share {
         queue: mut queue_pass,
         claims: mut claim_pass,
         notes,
     } = into;
-    let Hands {
+    let Share {
         queue: other_queue,
         claims: other_claims,
         notes: other_notes,
     } = from;
     queue.join(rt, &mut queue_pass, other_queue);
     claims.join(&mut claim_pass, other_claims);
-    Ok(Hands {
+    Ok(Share {
         queue: queue_pass,
         claims: claim_pass,
         notes: notes.with(other_notes)?,

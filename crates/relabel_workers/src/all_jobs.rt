@@ -3,12 +3,12 @@ ghost use Rattle.inode_claims.specs.Answers.{passes_of as claim_passes_of};
 ghost use Rattle.dir_queue.specs.Answers.{one_worker, passes_of, queue_view, shape_of};
 ghost use Rattle.walk_steps.specs.Sound.{Sound};
 ghost use Rattle.relabel_core.specs.Walked.{walk_of};
-ghost use Rattle.relabel_workers.specs.Held.{AreDone, AreHandsOf, AreRows, IsSite, claims_stand, queue_stands};
+ghost use Rattle.relabel_workers.specs.Held.{AreDone, IsShareOf, AreRows, IsSite, claims_stand, queue_stands};
 
 use crate::alone::{drain, start_alone};
-use crate::crew::run_if_any;
 use crate::gate::Gate;
-use crate::hands::{Hands, next_hands};
+use crate::running::run_if_any;
+use crate::share::{Share, next_share};
 use crate::work::listings_for;
 use dir_queue::{DirQueue, QueuePass};
 use inode_claims::{ClaimPass, Claims};
@@ -20,7 +20,7 @@ use std::thread::Threads;
 
 /// Lets as many workers as there are passes take all jobs: the caller alone first, then all of them, and what is left by the
 /// caller. It answers what they did, by passes that stand for all.
-pub fn gather<R: Threads + Wait + Sync, G: Gate + Sync>(
+pub fn take_all_jobs<R: Threads + Wait + Sync, G: Gate + Sync>(
     rt: &R,
     alloc: Global,
     input: &WalkInput<'_>,
@@ -30,19 +30,19 @@ pub fn gather<R: Threads + Wait + Sync, G: Gate + Sync>(
     workers: u32,
     mut queue_passes: Row<QueuePass>,
     mut claim_passes: Row<ClaimPass>,
-) -> Result<Hands, OutOfMemory>
+) -> Result<Share, OutOfMemory>
     requires site { IsSite input.now queue.now claims.now }
     requires rows { AreRows queue.now claims.now queue_passes claim_passes }
     requires some { 0 < length queue_passes }
     requires queues { passes_of queue.now ≡ length queue_passes }
     requires claimers { claim_passes_of claims.now ≡ length queue_passes }
-    ensures hands { IfOk result (λ hands. AreHandsOf queue.now claims.now hands) }
-    ensures done { IfOk result (λ hands. AreDone (walk_of input.now) [] hands) }
-    ensures all { IfOk result (λ hands. claims_stand hands ≡ claim_passes_of claims.now) }
-    ensures sound { IfOk result (λ hands.
-        Sound (shape_of queue.now) (one_worker (queue_view hands.queue))) }
+    ensures share { IfOk result (λ share. IsShareOf queue.now claims.now share) }
+    ensures done { IfOk result (λ share. AreDone (walk_of input.now) [] share) }
+    ensures all { IfOk result (λ share. claims_stand share ≡ claim_passes_of claims.now) }
+    ensures sound { IfOk result (λ share.
+        Sound (shape_of queue.now) (one_worker (queue_view share.queue))) }
 {
-    let Some(mut hands) = next_hands(alloc, queue, claims, &mut queue_passes, &mut claim_passes)
+    let Some(mut share) = next_share(alloc, queue, claims, &mut queue_passes, &mut claim_passes)
     else {
         unreachable!()
     };
@@ -58,9 +58,9 @@ pub fn gather<R: Threads + Wait + Sync, G: Gate + Sync>(
         workers,
         &listings,
         &mut buffers,
-        &mut hands,
+        &mut share,
     )?;
-    let mut hands = run_if_any(
+    let mut share = run_if_any(
         rt,
         alloc,
         input,
@@ -70,7 +70,7 @@ pub fn gather<R: Threads + Wait + Sync, G: Gate + Sync>(
         waiting,
         queue_passes,
         claim_passes,
-        hands,
+        share,
     )?;
     drain(
         rt,
@@ -81,7 +81,7 @@ pub fn gather<R: Threads + Wait + Sync, G: Gate + Sync>(
         gate,
         &listings,
         &mut buffers,
-        &mut hands,
+        &mut share,
     )?;
-    Ok(hands)
+    Ok(share)
 }

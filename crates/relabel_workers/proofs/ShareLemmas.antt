@@ -1,4 +1,4 @@
--- What passes show, and what hands hold, after a step.
+-- What passes show, and what share hold, after a step.
 use Rattle.std.proofs.Common.{◌≡◌, ◌∙◌, sym, refl, ap, subst, ℕ, ◌+◌, ◌<◌, ◌≤◌, Bool, true, false, List, [], ◌∷◌, ◌++◌, length, map, Option, Some, None, arith, length-append}
 use Rattle.std.specs.Prelude.{All, IfOk, not}
 use Rattle.std.specs.Prelude.{Result, Ok, Err}
@@ -30,9 +30,9 @@ use Rattle.tree_model.specs.Jobs as jobs
 use Rattle.tree_model.specs.Jobs.{directories_in, entries_of_job, home_of, job_of}
 use Rattle.relabel_core.specs.Walk.{Walk, count, skippable}
 use Rattle.relabel_workers.specs.Alone.{IsNoted, decided_alone, gives_alone}
-use Rattle.relabel_workers.specs.Held.{AreDone, AreHandsOf, AreRows, StandFor, claims_stand, queue_stands}
+use Rattle.relabel_workers.specs.Held.{AreDone, IsShareOf, AreRows, StandFor, claims_stand, queue_stands}
 use Rattle.relabel_workers.specs.Worked.{AddsCall, IsDone, given_with, is_to_be_given}
-use Rattle.relabel_workers.specs.declared.hands.Hands.{Hands}
+use Rattle.relabel_workers.specs.declared.share.Share.{Share}
 use Rattle.relabel_workers.specs.declared.note.Note.{Note}
 use Rattle.relabel_workers.proofs.EndLemmas.{job_within, parent_home}
 use Rattle.relabel_workers.proofs.WorkedLemmas.{both_done, entry_done, job_taken, none_done, not_given}
@@ -63,7 +63,7 @@ none_or_both queue claims qs ps cs q rows one two =
     let e = length-append ps (q ∷ []) in
     omega (arith, a, b, d, e)
 
--- ---- hands
+-- ---- share
 
 abbrev IsDoneBy : Walk → List ℕ → QueueView → ClaimView → List Note → Type 0
 IsDoneBy w left q k notes = IsDone w left q.taken q.given k.calls notes
@@ -134,26 +134,26 @@ job_known entries shape job is l = let e = ap (λ (s : Shape). length s.parents)
 
 -- ---- what passes stand for
 
-pub stands_same : (a b : Hands) → queue_view b.queue ≡ queue_view a.queue → claim_view b.claims ≡ claim_view a.claims → StandFor a 0 b
+pub stands_same : (a b : Share) → queue_view b.queue ≡ queue_view a.queue → claim_view b.claims ≡ claim_view a.claims → StandFor a 0 b
 stands_same a b q k = record {
   queue_more = ap (λ (v : QueueView). v.stands_for) q ∙ omega arith;
   claims_more = ap (λ (v : ClaimView). v.stands_for) k ∙ omega arith;
 }
 
-pub stands_on : (a b c : Hands) (m n k : ℕ) → StandFor a m b → StandFor b n c → m + n ≡ k → StandFor a k c
+pub stands_on : (a b c : Share) (m n k : ℕ) → StandFor a m b → StandFor b n c → m + n ≡ k → StandFor a k c
 stands_on a b c m n k x y s = record {
   queue_more = (let p = x.queue_more in let q = y.queue_more in omega (arith, p, q, s));
   claims_more = (let p = x.claims_more in let q = y.claims_more in omega (arith, p, q, s));
 }
 
 -- the work of two that stand for themselves and for the rest of the row
-pub queue_both : {E : Type 0} (a b c d : Hands) (n : ℕ) (r : Result Hands E) → StandFor a 0 b → StandFor c n d
-    → IfOk r (λ hands. (queue_stands hands ≡ queue_stands b + queue_stands d) × (claims_stand hands ≡ claims_stand b + claims_stand d)) → IfOk r (λ after. queue_stands after ≡ queue_stands a + queue_stands c + n)
+pub queue_both : {E : Type 0} (a b c d : Share) (n : ℕ) (r : Result Share E) → StandFor a 0 b → StandFor c n d
+    → IfOk r (λ share. (queue_stands share ≡ queue_stands b + queue_stands d) × (claims_stand share ≡ claims_stand b + claims_stand d)) → IfOk r (λ after. queue_stands after ≡ queue_stands a + queue_stands c + n)
 queue_both a b c d n (Ok h) x y s = let p = x.queue_more in let q = y.queue_more in let z = s.0 in omega (arith, p, q, z)
 queue_both a b c d n (Err e) x y s = tt
 
-pub claims_both : {E : Type 0} (a b c d : Hands) (n : ℕ) (r : Result Hands E) → StandFor a 0 b → StandFor c n d
-    → IfOk r (λ hands. (queue_stands hands ≡ queue_stands b + queue_stands d) × (claims_stand hands ≡ claims_stand b + claims_stand d)) → IfOk r (λ after. claims_stand after ≡ claims_stand a + claims_stand c + n)
+pub claims_both : {E : Type 0} (a b c d : Share) (n : ℕ) (r : Result Share E) → StandFor a 0 b → StandFor c n d
+    → IfOk r (λ share. (queue_stands share ≡ queue_stands b + queue_stands d) × (claims_stand share ≡ claims_stand b + claims_stand d)) → IfOk r (λ after. claims_stand after ≡ claims_stand a + claims_stand c + n)
 claims_both a b c d n (Ok h) x y s = let p = x.claims_more in let q = y.claims_more in let z = s.1 in omega (arith, p, q, z)
 claims_both a b c d n (Err e) x y s = tt
 

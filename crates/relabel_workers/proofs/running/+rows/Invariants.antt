@@ -1,5 +1,5 @@
 use Rattle.std.proofs.Common.{◌+◌, ◌*◌, length}
-use Rattle.relabel_workers.proofs.crew.+rows.Given as goal
+use Rattle.relabel_workers.proofs.running.+rows.Given as goal
 
 abbrev pub decreases-run_both : goal.decreases-run_both
 decreases-run_both g l = 3 * length l.queue_passes + 2

@@ -1,7 +1,7 @@
 use Rattle.inode_claims.specs.Answers.{claim_view}
 use Rattle.dir_queue.specs.Answers.{queue_view}
-use Rattle.relabel_workers.proofs.HandsLemmas.{joined_done}
-use Rattle.relabel_workers.proofs.hands.join_hands.Goals as goal
+use Rattle.relabel_workers.proofs.ShareLemmas.{joined_done}
+use Rattle.relabel_workers.proofs.share.join_shares.Goals as goal
 
 pub returns-clause-done : goal.returns-clause-done
 returns-clause-done g c = λ w into from.
