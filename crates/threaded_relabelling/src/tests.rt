@@ -18,6 +18,8 @@ const WORDS: &[&str] = &["-R", "-v", "-D", "-S", "fc", "-o", "out", "/srv"];
 
 const SPECS: &[u8] = b"/srv(/.*)? u:r:var_t:s0\n";
 
+const SUBS: &[u8] = b"/data /srv\n";
+
 const RECORDS: &[u8] =
     b"d 1 30 u:r:var_t:s0 /srv\0d 1 33 u:r:var_t:s0 /srv/other\0d 1 31 u:r:var_t:s0 /srv/sub\0f 1 32 u:r:old_t:s0 /srv/sub/f\0";
 
@@ -65,6 +67,7 @@ fn run_by<R: Threads + Wait + Sync>(rt: &R, alloc: Global, count: u32) -> Result
     };
     let mut store = MemStore::new(alloc, Row::new(alloc));
     store.put(alloc, "fc", SPECS)?;
+    store.put(alloc, "fc.subs", SUBS)?;
     store.put(alloc, CUSTOMIZABLE_TYPES, b"public_content_t\n")?;
     let mut input = MemSource::new(Bytes::copy_of(alloc, RECORDS)?, 1000, Row::new(alloc));
     let mut out = MemSink::new(alloc, 1000, Row::new(alloc));
