@@ -1,5 +1,5 @@
 -- What is found of an entry by itself where no digest counts.
-use Rattle.std.proofs.Common.{◌≡◌, refl, ℕ, ◌&&◌, ◌||◌, Bool, true, false, not, List, Option, Some, None, if◌then◌else◌}
+use Rattle.std.proofs.Common.{◌≡◌, refl, ℕ, ◌&&◌, ◌||◌, Bool, true, false, not, List, Some, None, if◌then◌else◌}
 use Rattle.std.specs.Prelude.{is_some}
 use Rattle.relabel_core.specs.Passed.{needed, uses_digests}
 use Rattle.relabel_core.specs.Walk.{Walk, digest_now, is_current, is_whole, skippable}

@@ -1,13 +1,13 @@
 -- Where workers end: the taken jobs are the open ones, all that lies there is noted, and the winners are those of the walk.
-use Rattle.std.proofs.Common.{◌≡◌, ◌≢◌, ◌∙◌, sym, refl, ap, subst, ℕ, zero, suc, ◌+◌, ◌-◌, ◌<◌, ◌≤◌, ◌^◌, ◌==◌, ◌&&◌, ◌⊎◌, ⊎_elim, inl, inr, Bool, true, false, not, cond, true≢false, eq-eqb, ne_eqb, List, [], ◌∷◌, ◌++◌, length, map, get_or, min, Option, Some, None, arith}
+use Rattle.std.proofs.Common.{◌≡◌, ◌∙◌, sym, refl, ap, subst, ℕ, zero, suc, ◌+◌, ◌-◌, ◌<◌, ◌≤◌, ◌^◌, ◌==◌, ◌&&◌, ◌⊎◌, ⊎_elim, inl, inr, Bool, true, false, not, cond, true≢false, eq-eqb, ne_eqb, List, [], ◌∷◌, length, map, get_or, min, Some, None, arith}
 use Rattle.std.specs.Prelude.{All, is_some, slice_get}
 use Rattle.std.specs.List.{position_or_len}
 use Rattle.std.specs.Cmp.{first_so, second_so}
-use Rattle.std.proofs.lemmas.Bool.{and_parts, cases_eq, cases_lt, eqb-true, false_from_ne_true}
+use Rattle.std.proofs.lemmas.Bool.{and_parts, cases_eq, eqb-true, false_from_ne_true}
 use Rattle.std.proofs.lemmas.List.{get_or-map, length-map}
 use Rattle.std.proofs.lemmas.List.Elements.{All-cons, All-head, All-nil, All-tail}
 use Rattle.std.proofs.lemmas.Option.{get_or_from_slice_get, slice_get_within}
-use Rattle.walk_steps.specs.Lists.{hit, times}
+use Rattle.walk_steps.specs.Lists.{times}
 use Rattle.walk_steps.specs.Shaped as shaped
 use Rattle.walk_steps.specs.Shaped.{IsValid, entry_count, group_of_entry, last_job}
 use Rattle.walk_steps.specs.Sound.{IsLeast, Sound, WordsAreLeast}
@@ -25,14 +25,14 @@ use Rattle.dir_queue.specs.declared.rule.QueueView.{QueueView}
 use Rattle.dir_queue.specs.Answers.{one_worker}
 use Rattle.label_base.specs.Bounded.{all_numbers, least_below}
 use Rattle.label_base.proofs.BoundedLemmas.{count_numbers, least_is, least_none}
-use Rattle.tree_model.specs.Extents.{is_directory, parent_of}
+use Rattle.tree_model.specs.Extents.{is_directory}
 use Rattle.tree_model.specs.Groups.{group_of, groups_in}
-use Rattle.tree_model.specs.Jobs.{JobsAreDirectories, directories_in, home_of, job_directory, job_of, shape_of}
+use Rattle.tree_model.specs.Jobs.{directories_in, home_of, job_directory, job_of, shape_of}
 use Rattle.tree_model.specs.Tree.{ByPath}
 use Rattle.tree_model.proofs.JobLaws.{directory_back, home_told, jobs_are}
 use Rattle.tree_model.proofs.JobLemmas.{mapped_at, shape_valid}
 use Rattle.relabel_core.specs.Walk.{Walk, can_win, count, count_wanted, is_skipped, is_wanted, skippable, wanted, winner}
-use Rattle.relabel_workers.specs.Alone.{IsNoted, gives_alone, is_open, lies_open, noted_in}
+use Rattle.relabel_workers.specs.Alone.{IsNoted, is_open, lies_open, noted_in}
 use Rattle.relabel_workers.specs.PutBack.{AreAllNoted, AreWinners, IsOpenNote}
 use Rattle.relabel_workers.specs.Worked.{IsDone, IsOffered, is_to_be_given}
 use Rattle.relabel_workers.specs.declared.note.Note.{Note}

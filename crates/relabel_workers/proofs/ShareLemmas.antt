@@ -1,18 +1,15 @@
 -- What passes show, and what share hold, after a step.
-use Rattle.std.proofs.Common.{◌≡◌, ◌∙◌, sym, refl, ap, subst, ℕ, ◌+◌, ◌<◌, ◌≤◌, Bool, true, false, List, [], ◌∷◌, ◌++◌, length, map, Option, Some, None, arith, length-append}
-use Rattle.std.specs.Prelude.{All, IfOk, not}
+use Rattle.std.proofs.Common.{◌≡◌, ◌∙◌, sym, refl, ap, subst, ℕ, ◌+◌, ◌<◌, ◌≤◌, true, false, List, [], ◌∷◌, ◌++◌, length, map, Some, arith, length-append}
+use Rattle.std.specs.Prelude.{IfOk, not}
 use Rattle.std.specs.Prelude.{Result, Ok, Err}
 use Rattle.std.specs.Cmp.{first_so}
 use Rattle.std.proofs.lemmas.List.{length-map}
 use Rattle.std.proofs.lemmas.List.Elements.{All-pop}
 use Rattle.walk_steps.specs.Lists.{times}
-use Rattle.walk_steps.specs.Shaped.{last_job}
-use Rattle.walk_steps.specs.Sound.{Sound}
 use Rattle.walk_steps.specs.declared.shape.Shape.{Shape}
 use Rattle.walk_steps.proofs.ListLemmas.{hit_same}
 use Rattle.inode_claims.specs.declared.claims.ClaimPass.{ClaimPass}
 use Rattle.inode_claims.specs.declared.claims.Claims.{Claims}
-use Rattle.inode_claims.specs.declared.rule.Call.{Call}
 use Rattle.inode_claims.specs.declared.rule.ClaimView.{ClaimView}
 use Rattle.inode_claims.specs.Claiming as claiming
 use Rattle.inode_claims.specs.Answers.{IsPassOf, claim_view}
@@ -21,7 +18,7 @@ use Rattle.dir_queue.specs.declared.queue.QueuePass.{QueuePass}
 use Rattle.dir_queue.specs.declared.rule.QueueView.{QueueView}
 use Rattle.dir_queue.specs.Passes as passes
 use Rattle.dir_queue.specs.Passes.{MayOffer, parent_in, with_taken}
-use Rattle.dir_queue.specs.Answers.{IsQueuePassOf, Takes, one_worker, passes_of, queue_view, shape_of}
+use Rattle.dir_queue.specs.Answers.{IsQueuePassOf, passes_of, queue_view, shape_of}
 use Rattle.find_records.specs.Record.{Record}
 use Rattle.tree_model.specs.Extents.{is_directory}
 use Rattle.tree_model.specs.Tree.{ByPath}
@@ -30,7 +27,7 @@ use Rattle.tree_model.specs.Jobs as jobs
 use Rattle.tree_model.specs.Jobs.{directories_in, entries_of_job, home_of, job_of}
 use Rattle.relabel_core.specs.Walk.{Walk, count, skippable}
 use Rattle.relabel_workers.specs.Alone.{IsNoted, decided_alone, gives_alone}
-use Rattle.relabel_workers.specs.Held.{AreDone, IsShareOf, AreRows, StandFor, claims_stand, queue_stands}
+use Rattle.relabel_workers.specs.Held.{AreRows, StandFor, claims_stand, queue_stands}
 use Rattle.relabel_workers.specs.Worked.{AddsCall, IsDone, given_with, is_to_be_given}
 use Rattle.relabel_workers.specs.declared.share.Share.{Share}
 use Rattle.relabel_workers.specs.declared.note.Note.{Note}

@@ -4,7 +4,6 @@ use Rattle.std.specs.Prelude.{◌≡◌, ℕ, ◌+◌, List, length, All}
 use Rattle.inode_claims.specs.declared.claims.ClaimPass.{ClaimPass}
 use Rattle.inode_claims.specs.declared.claims.Claims.{Claims}
 use Rattle.inode_claims.specs.Claiming as claiming
-use Rattle.inode_claims.specs.Answers as claims
 use Rattle.inode_claims.specs.Answers.{IsPassOf, claim_view, groups_of}
 use Rattle.dir_queue.specs.declared.queue.DirQueue.{DirQueue}
 use Rattle.dir_queue.specs.declared.queue.QueuePass.{QueuePass}
@@ -17,7 +16,7 @@ use Rattle.tree_model.specs.Jobs as jobs
 use Rattle.tree_model.specs.Selection.{SelectedValue}
 use Rattle.label_rules.specs.declared.rules.Rules.{Rules}
 use Rattle.relabel_core.specs.Walk.{Walk}
-use Rattle.relabel_core.specs.Walked.{IsFit, walk_of}
+use Rattle.relabel_core.specs.Walked.{IsFit}
 use Rattle.relabel_core.specs.declared.input.WalkInput.{WalkInput}
 use Rattle.relabel_core.specs.declared.options.Options.{Options}
 use Rattle.relabel_core.specs.declared.stored.Stored.{Stored}

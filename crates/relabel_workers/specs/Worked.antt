@@ -1,5 +1,5 @@
 -- What workers have done, over the jobs that they took.
-use Rattle.std.specs.Prelude.{◌≡◌, ℕ, ◌<◌, ◌≤◌, ◌⊎◌, ◌++◌, ◌∷◌, [], Bool, true, false, ◌&&◌, not, List, length, All, if◌then◌else◌}
+use Rattle.std.specs.Prelude.{◌≡◌, ℕ, ◌<◌, ◌≤◌, ◌⊎◌, ◌++◌, ◌∷◌, [], Bool, true, false, ◌&&◌, not, List, All}
 use Rattle.walk_steps.specs.Lists.{times}
 use Rattle.inode_claims.specs.declared.rule.Call.{Call}
 use Rattle.inode_claims.specs.Claiming.{IsClaimed, call_of}

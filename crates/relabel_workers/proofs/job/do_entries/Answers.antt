@@ -1,4 +1,4 @@
-use Rattle.std.proofs.Common.{◌≡◌, [], refl, arith}
+use Rattle.std.proofs.Common.{refl}
 use Rattle.inode_claims.specs.Answers.{claim_view}
 use Rattle.dir_queue.specs.Answers.{queue_view}
 use Rattle.relabel_core.specs.Walked.{walk_of}

@@ -1,4 +1,3 @@
-use Rattle.std.proofs.Common.{◌∙◌, refl, ap, arith}
 use Rattle.inode_claims.specs.Answers.{claim_view}
 use Rattle.dir_queue.specs.Answers.{queue_view}
 use Rattle.relabel_core.specs.Walked.{walk_of}

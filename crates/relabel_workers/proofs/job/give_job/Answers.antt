@@ -7,7 +7,7 @@ use Rattle.tree_model.specs.Extents.{is_directory}
 use Rattle.relabel_core.specs.Walk.{skippable}
 use Rattle.relabel_core.specs.Walked.{walk_of}
 use Rattle.relabel_workers.specs.Worked.{is_to_be_given}
-use Rattle.relabel_workers.proofs.ShareLemmas.{given_is, given_none, offer_right}
+use Rattle.relabel_workers.proofs.ShareLemmas.{offer_right}
 use Rattle.relabel_workers.proofs.job.give_job.Goals as goal
 
 pub job_of-requires-clause-directory : goal.job_of-requires-clause-directory

@@ -1,9 +1,8 @@
-use Rattle.std.proofs.Common.{◌∙◌, sym, subst, length, arith}
+use Rattle.std.proofs.Common.{arith}
 use Rattle.dir_queue.specs.Answers.{queue_view}
 use Rattle.inode_claims.specs.Answers.{claim_view}
 use Rattle.relabel_core.specs.Walked.{walk_of}
-use Rattle.relabel_workers.specs.PutBack.{AreAllNoted, AreWinners}
-use Rattle.relabel_workers.proofs.EndLemmas.{IsClosed, closed}
+use Rattle.relabel_workers.proofs.EndLemmas.{closed}
 use Rattle.relabel_workers.proofs.walk.close.Goals as goal
 
 pub returns-clause-notes : goal.returns-clause-notes
