@@ -5,8 +5,9 @@
                                    have them, by so many workers (1 2 4 64)
 
 Prints for each number of workers the seconds by the clock and of the processor, medians of five turns, and how many times as
-fast it is as one: with lines alone, and with digests, lines and the dump. All answers are compared with those of one worker.
-RELABEL names another program.
+fast it is as one, the whole run and, in brackets, what is left of it without reading, which a run over an absent operand takes:
+with lines alone, and with digests, lines and the dump. All answers are compared with those of one worker. RELABEL names another
+program.
 """
 
 import os
@@ -22,6 +23,7 @@ import realistic
 HERE = Path(__file__).resolve().parent
 PROGRAM = os.environ.get("RELABEL", HERE.parent / "crates" / "relabel_program" / "out" / "relabel_program")
 TURNS = 5
+READING = ["setfiles", "-n", "-i"]
 RUNS = {
     "lines": ["setfiles", "-n", "-F", "-v"],
     "digests, lines, dump": ["restorecon", "-R", "-F", "-v", "-D", "-o", "dump"],
@@ -30,11 +32,11 @@ RUNS = {
 
 def tree(count):
     """Directories of ten entries each, below those of services, a directory before what it holds."""
-    folders = [folder.format(f"svc{number:03}") for number in range(realistic.SERVICES) for folder in realistic.FOLDERS]
+    folders = [folder.format(f"svc{number:03}") for number in range(100) for folder in realistic.FOLDERS]
     seen, entries, below = set(), [], 0
     while len(entries) < count:
         folder = folders[below % len(folders)]
-        names = folder[1:].split("/") + [f"d{below // len(folders) % 6}", f"d{below // len(folders) // 6}"]
+        names = folder[1:].split("/") + [f"d{below // len(folders) % 10}", f"d{below // len(folders) // 10}"]
         for length in range(len(names) + 1):
             path = "/" + "/".join(names[:length])
             if path not in seen:
@@ -53,9 +55,9 @@ def make(room, count):
             out.write(f"{letter} 64768 {inode} {label} {path}\0".encode())
 
 
-def run(room, words, workers):
+def run(room, words, workers, operand="/"):
     front, *rest = words
-    spec = ["-S", "fc", "/"] if front == "restorecon" else ["fc", "/"]
+    spec = ["-S", "fc", operand] if front == "restorecon" else ["fc", operand]
     with open(room / "records", "rb") as given, open(room / "out", "wb") as out:
         start = time.monotonic()
         child = subprocess.Popen([PROGRAM, front, *rest, "-T", str(workers), *spec], stdin=given, stdout=out, cwd=room)
@@ -68,7 +70,11 @@ def run(room, words, workers):
     return clock, usage.ru_utime + usage.ru_stime, answer
 
 
-def measure(room, title, words, numbers):
+def reading(room):
+    return statistics.median(run(room, READING, 1, "/nowhere")[0] for _ in range(TURNS))
+
+
+def measure(room, title, words, numbers, least):
     times, meant = {workers: [] for workers in numbers}, None
     for _ in range(TURNS):
         for workers in numbers:
@@ -80,7 +86,8 @@ def measure(room, title, words, numbers):
     one = statistics.median(clock for clock, _ in times[numbers[0]])
     for workers in numbers:
         clock, processor = (statistics.median(column) for column in zip(*times[workers]))
-        print(f"    {title}, -T {workers}: {clock:.3f} s, processor {processor:.3f} s, {one / clock:.2f} times as fast")
+        times_as_fast = f"{one / clock:.2f} ({(one - least) / (clock - least):.2f}) times as fast"
+        print(f"    {title}, -T {workers}: {clock:.3f} s, processor {processor:.3f} s, {times_as_fast}")
 
 
 def main():
@@ -89,9 +96,10 @@ def main():
     with tempfile.TemporaryDirectory() as folder:
         room = Path(folder)
         make(room, count)
-        print(f"{count} records")
+        least = reading(room)
+        print(f"{count} records, {least:.3f} s without a walk")
         for title, words in RUNS.items():
-            measure(room, title, words, numbers)
+            measure(room, title, words, numbers, least)
 
 
 main()
