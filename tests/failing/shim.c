@@ -11,7 +11,7 @@
 #include <stdio.h>
 #include <stdlib.h>
 #include <string.h>
-#include <sys/mman.h>
+#include <sys/syscall.h>
 #include <sys/types.h>
 #include <unistd.h>
 
@@ -39,7 +39,13 @@ __attribute__((destructor)) static void end(void) {
     int fd = (int)syscall(257 /* openat */, AT_FDCWD, path, O_WRONLY | O_CREAT | O_TRUNC, 0644);
     char line[32];
     int length = snprintf(line, sizeof line, "%ld\n", count);
-    if (fd >= 0 && write(fd, line, (size_t)length) < 0) _exit(99);
+    if (fd >= 0) (void)!write(fd, line, (size_t)length);
+}
+
+/* A program with threads ends by this, behind which no destructor runs. */
+void _exit(int status) {
+    end();
+    for (;;) syscall(SYS_exit_group, status);
 }
 
 static int fails(const char *call, int fd) {
@@ -106,8 +112,3 @@ int pthread_create(pthread_t *thread, const pthread_attr_t *how, void *(*run)(vo
     REAL(int, pthread_create, pthread_t *, const pthread_attr_t *, void *(*)(void *), void *);
     return fails("thread", -1) ? error : real(thread, how, run, with);
 }
-void *mmap(void *where, size_t size, int access, int flags, int fd, off_t from) {
-    REAL(void *, mmap, void *, size_t, int, int, int, off_t);
-    return fails("mmap", -1) ? MAP_FAILED : real(where, size, access, flags, fd, from);
-}
-void *mmap64(void *, size_t, int, int, int, off_t) __attribute__((alias("mmap")));
