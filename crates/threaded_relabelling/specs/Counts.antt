@@ -1,5 +1,5 @@
 -- How many workers there are, and for which trees.
-use Rattle.std.specs.Prelude.{ℕ, ◌==◌, nat_lt, if◌then◌else◌}
+use Rattle.std.specs.Prelude.{ℕ, ◌/◌, ◌==◌, nat_lt, if◌then◌else◌}
 use Rattle.relabel_core.specs.Passed.{uses_digests}
 use Rattle.relabel_core.specs.declared.options.Options.{Options}
 use Rattle.tree_relabelling.specs.declared.letters.TheConstants.{MOST_WORKERS}
@@ -14,10 +14,13 @@ within count =
 abbrev pub workers_for : (asked cores : ℕ) → ℕ
 workers_for asked cores = if asked == 0 then within cores else within asked
 
--- the fewest entries for which several workers are quicker than one
+-- the fewest entries for each of several workers
 abbrev pub fewest_for : Options → ℕ
 fewest_for options = if uses_digests options then FEWEST_WITH_DIGESTS else FEWEST
 
--- how many of so many work for a tree of so many entries
+-- how many of so many work for a tree of so many entries: each has the fewest, or else one works
 abbrev pub count_for : (count fewest entries : ℕ) → ℕ
-count_for count fewest entries = if nat_lt entries fewest then 1 else count
+count_for count fewest entries =
+    if entries / fewest == 0 then 1
+    else if nat_lt (entries / fewest) count then entries / fewest
+    else count

@@ -5,8 +5,7 @@ ghost use Rattle.threaded_relabelling.specs.Counts.{fewest_for, workers_for, wit
 use relabel_core::{Options, uses_digests};
 use tree_relabelling::MOST_WORKERS;
 
-/// The fewest entries of a tree for which several workers are quicker than one where digests are made, which take longer
-/// than all else.
+/// The fewest entries of a tree for each of several workers where digests are made, which take longer than all else.
 pub const FEWEST_WITH_DIGESTS: u32 = 30_000;
 
 /// The fewest where none are made: lines and sections alone take a fifth as long, and starting threads as long as before.
@@ -40,9 +39,10 @@ pub fn workers_for(asked: u32, cores: u32) -> u32
     within(asked)
 }
 
-/// The fewest entries of a tree for which several workers are quicker than one, with these options.
+/// The fewest entries of a tree for each of several workers, where they are quicker than one, with these options.
 pub fn fewest_for(options: &Options) -> u32
-    ensures { result ≡ fewest_for options.now }
+    ensures value { result ≡ fewest_for options.now }
+    ensures some { 0 < result }
 {
     if uses_digests(options) {
         return FEWEST_WITH_DIGESTS;

@@ -63,7 +63,7 @@ fn run_by<R: Threads + Wait + Sync>(rt: &R, alloc: Global, count: u32) -> Result
 {
     let by = ByWorkers {
         words: asked(alloc)?,
-        workers: Workers::new(rt, count, 0),
+        workers: Workers::new(rt, count, 1),
     };
     let mut store = MemStore::new(alloc, Row::new(alloc));
     store.put(alloc, "fc", SPECS)?;

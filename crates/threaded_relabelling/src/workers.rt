@@ -23,17 +23,19 @@ use tree_relabelling::{OneWorker, Walker};
 pub struct Workers<'r, R: Threads + Wait + Sync> {
     rt: &'r R,
     count: u32,
-    // The fewest entries for which several work.
+    // The fewest entries for each.
     fewest: u32,
     ghost some: { 0 < count },
     ghost few: { count ≤ MOST_WORKERS },
+    ghost each: { 0 < fewest },
 }
 
 impl<'r, R: Threads + Wait + Sync> Workers<'r, R> {
-    /// So many workers, who work for a tree of at least so many entries.
+    /// At most so many workers, of whom each has at least so many entries of a tree, or else one works.
     pub fn new(rt: &'r R, count: u32, fewest: u32) -> Workers<'r, R>
         requires some { 0 < count }
         requires few { count ≤ MOST_WORKERS }
+        requires each { 0 < fewest }
     {
         Workers { rt, count, fewest }
     }
@@ -45,8 +47,12 @@ impl<'r, R: Threads + Wait + Sync> Workers<'r, R> {
         ensures few { result ≤ MOST_WORKERS }
     {
         let _ = &self.count;
-        if entries < self.fewest {
+        let most = entries / self.fewest;
+        if most == 0 {
             return 1;
+        }
+        if most < self.count {
+            return most;
         }
         self.count
     }
