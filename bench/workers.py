@@ -1,13 +1,14 @@
 #!/usr/bin/env python3
 """Measures setfiles and restorecon by several workers over one tree, by turns.
 
-    workers.py [N [WORKERS..]]     N records (1,000,000) in a tenth as many directories, 5,600 specifications as distributions
-                                   have them, by so many workers (1 2 4 64)
+    workers.py [N [WORKERS..]]     N records (1,000,000) in a tenth as many directories, by so many
+                                   workers (1 2 4 64), and 5,600 specifications as distributions
+                                   have them
 
-Prints for each number of workers the seconds by the clock and of the processor, medians of five turns, and how many times as
-fast it is as one, the whole run and, in brackets, what is left of it without reading, which a run over an absent operand takes:
-with lines alone, and with digests, lines and the dump. All answers are compared with those of one worker. RELABEL names another
-program.
+Prints for each number of workers the seconds by the clock and of the processor, medians of five
+turns, and how many times as fast it is as one, the whole run and, in brackets, what is left of it
+without reading, which a run over an absent operand takes: with lines alone, and with digests, lines
+and the dump. All answers are compared with those of one worker. RELABEL names another program.
 """
 
 import os
@@ -21,7 +22,8 @@ from pathlib import Path
 import realistic
 
 HERE = Path(__file__).resolve().parent
-PROGRAM = os.environ.get("RELABEL", HERE.parent / "crates" / "relabel_program" / "out" / "relabel_program")
+BUILT = HERE.parent / "crates" / "relabel_program" / "out" / "relabel_program"
+PROGRAM = os.environ.get("RELABEL", BUILT)
 TURNS = 5
 READING = ["setfiles", "-n", "-i"]
 RUNS = {
@@ -31,12 +33,14 @@ RUNS = {
 
 
 def tree(count):
-    """Directories of ten entries each, below those of services, a directory before what it holds."""
-    folders = [folder.format(f"svc{number:03}") for number in range(100) for folder in realistic.FOLDERS]
+    """Directories of ten entries, below those of services, a directory before what it holds."""
+    services = [f"svc{number:03}" for number in range(100)]
+    folders = [folder.format(service) for service in services for folder in realistic.FOLDERS]
     seen, entries, below = set(), [], 0
     while len(entries) < count:
         folder = folders[below % len(folders)]
-        names = folder[1:].split("/") + [f"d{below // len(folders) % 10}", f"d{below // len(folders) // 10}"]
+        turn = below // len(folders)
+        names = folder[1:].split("/") + [f"d{turn % 10}", f"d{turn // 10}"]
         for length in range(len(names) + 1):
             path = "/" + "/".join(names[:length])
             if path not in seen:
@@ -60,7 +64,8 @@ def run(room, words, workers, operand="/"):
     spec = ["-S", "fc", operand] if front == "restorecon" else ["fc", operand]
     with open(room / "records", "rb") as given, open(room / "out", "wb") as out:
         start = time.monotonic()
-        child = subprocess.Popen([PROGRAM, front, *rest, "-T", str(workers), *spec], stdin=given, stdout=out, cwd=room)
+        words = [PROGRAM, front, *rest, "-T", str(workers), *spec]
+        child = subprocess.Popen(words, stdin=given, stdout=out, cwd=room)
         _, status, usage = os.wait4(child.pid, 0)
         clock = time.monotonic() - start
     if status != 0:
@@ -87,7 +92,8 @@ def measure(room, title, words, numbers, least):
     for workers in numbers:
         clock, processor = (statistics.median(column) for column in zip(*times[workers]))
         times_as_fast = f"{one / clock:.2f} ({(one - least) / (clock - least):.2f}) times as fast"
-        print(f"    {title}, -T {workers}: {clock:.3f} s, processor {processor:.3f} s, {times_as_fast}")
+        seconds = f"{clock:.3f} s, processor {processor:.3f} s"
+        print(f"    {title}, -T {workers}: {seconds}, {times_as_fast}")
 
 
 def main():
