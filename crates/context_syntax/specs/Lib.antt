@@ -7,3 +7,4 @@ pub mod LabelEqual
 pub mod LabelGrammar
 pub mod TypeNames
 pub mod TypesGrammar
+pub mod Constants

@@ -5,3 +5,4 @@ pub mod Terms
 pub mod Spelled
 pub mod Listings
 pub mod Alike
+pub mod Constants

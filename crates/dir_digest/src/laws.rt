@@ -3,6 +3,7 @@
 ghost use Rattle.std.specs.Prelude.{◌≡◌, replicate, true};
 ghost use Rattle.file_paths.specs.Path.{Path, are_names};
 ghost use Rattle.dir_digest.specs.Alike.{AreAlike};
+ghost use Rattle.dir_digest.specs.Constants.{ConstantsAreStated};
 ghost use Rattle.dir_digest.specs.Digest.{void_digest};
 ghost use Rattle.dir_digest.specs.Listing.{Listing};
 ghost use Rattle.dir_digest.specs.ListingBytes.{IsListing, listing_bytes};
@@ -32,4 +33,9 @@ pub fn equal_listings_decide_alike()
 /// A law: the void digest is twenty zero bytes.
 pub fn void_is_zeros()
     ensures { void_digest ≡ replicate 20 0 }
+{}
+
+/// A law: the constants are those of `specs/Constants.antt`. It does nothing.
+pub fn constants_are_stated()
+    ensures { ConstantsAreStated }
 {}

@@ -2,3 +2,4 @@ pub mod Path
 pub mod PathFront
 pub mod PathRef
 pub mod PathText
+pub mod Constants

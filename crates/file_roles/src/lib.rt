@@ -2,9 +2,11 @@
 //! the list of those that a tool reads, in order.
 #![tactic(auto)]
 
+mod laws;
 mod list;
 mod role;
 
+pub use laws::constants_are_stated;
 pub use list::{FileList, NamedFile};
 pub use role::{FileRole, Part};
 

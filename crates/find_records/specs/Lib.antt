@@ -10,3 +10,4 @@ pub mod Reading
 pub mod Record
 pub mod Rows
 pub mod SoFar
+pub mod Constants

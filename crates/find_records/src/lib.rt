@@ -9,6 +9,7 @@ mod format;
 mod guesses;
 mod labelled;
 mod labels;
+mod laws;
 mod lay;
 mod mark_row;
 mod marks;
@@ -22,6 +23,7 @@ pub use entry::{Entry, Told};
 pub use fault::{RecordWhy, RecordsFault};
 pub use file_paths::PathWhy;
 pub use format::Format;
+pub use laws::constants_are_stated;
 pub use reading::{RecordLimits, read_records, records_follow_grammar};
 pub use records::Records;
 

@@ -9,3 +9,4 @@ pub mod Homes
 pub mod Making
 pub mod Found
 pub mod Plan
+pub mod Constants

@@ -2,3 +2,4 @@ pub mod Reading
 pub mod Sink
 pub mod Source
 pub mod Store
+pub mod Constants

@@ -2,6 +2,7 @@
 #![tactic(auto)]
 
 mod file_store;
+mod laws;
 mod mem_sink;
 mod mem_source;
 mod mem_store;
@@ -11,6 +12,7 @@ mod source;
 mod store;
 
 pub use file_store::FileStore;
+pub use laws::constants_are_stated;
 pub use mem_sink::{MemSink, SureSink};
 pub use mem_source::{MemSource, SureSource};
 pub use mem_store::{MemStore, SureStore};

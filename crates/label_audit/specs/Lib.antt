@@ -10,3 +10,4 @@ pub mod Words
 pub mod Found
 pub mod Answer
 pub mod Plan
+pub mod Constants

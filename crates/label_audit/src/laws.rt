@@ -3,6 +3,7 @@ ghost use Rattle.file_paths.specs.Path.{Path};
 ghost use Rattle.run_faults.specs.declared.finding.Finding.TheVariants.{Agrees};
 ghost use Rattle.relabel_core.specs.Walk.{Walk};
 ghost use Rattle.relabel_core.specs.Walked.{operands_at};
+ghost use Rattle.label_audit.specs.Constants.{ConstantsAreStated};
 ghost use Rattle.label_audit.specs.Finding.{finding_of};
 ghost use Rattle.label_audit.specs.Whole.{AreWhole};
 
@@ -13,4 +14,9 @@ pub fn agrees_where_whole()
     ensures { (w : Walk) → (operands : List Path) → (absent : List ℕ) → (report : List ℕ)
         → (dump : Option (List ℕ)) → w.absent ≡ operands_at operands absent
         → (finding_of w operands absent report dump ≡ Agrees) ↔ AreWhole w report dump }
+{}
+
+/// A law: the constants are those of `specs/Constants.antt`. It does nothing.
+pub fn constants_are_stated()
+    ensures { ConstantsAreStated }
 {}

@@ -10,3 +10,4 @@ pub mod Number
 pub mod NumberUnder
 pub mod Pieces
 pub mod Text
+pub mod Constants

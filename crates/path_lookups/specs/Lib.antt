@@ -4,3 +4,4 @@ pub mod Letters
 pub mod Words
 pub mod Answer
 pub mod Plan
+pub mod Constants

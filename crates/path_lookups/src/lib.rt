@@ -4,12 +4,14 @@
 
 mod answer;
 mod found;
+mod laws;
 mod letters;
 mod tool;
 mod verified;
 mod words;
 
 pub use found::{add_found_report, find_context};
+pub use laws::constants_are_stated;
 pub use verified::{add_verified_report, is_unverified, verify};
 pub use words::{LookupWords, read_lookup};
 

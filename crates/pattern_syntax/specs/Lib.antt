@@ -16,3 +16,4 @@ pub mod Grammar
 pub mod Faults
 pub mod Literal
 pub mod Parts
+pub mod Constants

@@ -11,6 +11,7 @@ mod cutting;
 mod escape;
 mod exact;
 mod item;
+mod laws;
 mod limits;
 mod node;
 mod pattern;
@@ -22,6 +23,7 @@ mod token;
 
 pub use byte_set::ByteSet;
 pub use exact::is_exact;
+pub use laws::constants_are_stated;
 pub use limits::{MOST_GROUPS, MOST_POSITIONS, MOST_TIMES};
 pub use node::Node;
 pub use pattern::Pattern;

@@ -1,3 +1,4 @@
 pub mod Files
 pub mod Names
 pub mod Rules
+pub mod Constants

@@ -10,3 +10,4 @@ pub mod Answer
 pub mod Plan
 pub mod Told
 pub mod Laws
+pub mod Constants

@@ -15,7 +15,7 @@ mod tool;
 mod turn;
 mod words;
 
-pub use laws::{answers_keep_labels, changes_lead_there};
+pub use laws::{answers_keep_labels, changes_lead_there, constants_are_stated};
 pub use letters::MOST_POLICIES;
 pub use rehearsal::rehearse;
 pub use rehearsed::{Change, Rehearsed, Turn};

@@ -4,10 +4,12 @@
 mod cause;
 mod fault;
 mod finding;
+mod laws;
 
 pub use cause::{Cause, LimitKind, Outcome};
 pub use fault::{fault_line, status};
 pub use finding::{Finding, Piece};
+pub use laws::constants_are_stated;
 
 #[cfg(test)]
 mod tests;

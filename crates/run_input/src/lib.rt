@@ -3,9 +3,11 @@
 #![tactic(auto)]
 
 mod files;
+mod laws;
 mod records;
 
 pub use files::read_part;
+pub use laws::constants_are_stated;
 pub use records::{MOST_RECORD_BYTES, MOST_RECORDS, read_entries, read_tree};
 
 #[cfg(test)]

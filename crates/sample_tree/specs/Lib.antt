@@ -5,3 +5,4 @@ pub mod Choice
 pub mod Walks
 pub mod Plan
 pub mod Accepted
+pub mod Constants

@@ -3,12 +3,14 @@
 #![tactic(auto)]
 
 mod choice;
+mod laws;
 mod records;
 mod summary;
 mod tool;
 mod walks;
 mod words;
 
+pub use laws::constants_are_stated;
 pub use records::{SPECS, sample_records};
 pub use summary::Summary;
 pub use walks::sample_ending;

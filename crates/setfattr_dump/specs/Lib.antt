@@ -4,3 +4,4 @@ pub mod ReadsBack
 pub mod SoFar
 pub mod Texts
 pub mod Values
+pub mod Constants

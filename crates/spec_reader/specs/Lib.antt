@@ -1,3 +1,4 @@
 pub mod SpecGrammar
 pub mod SpecLines
 pub mod SpecValue
+pub mod Constants

@@ -4,11 +4,13 @@
 
 mod counts;
 mod entry_texts;
+mod laws;
 #[cfg(test)]
 mod tests;
 mod tool;
 mod workers;
 
 pub use counts::{fewest_for, workers_for};
+pub use laws::constants_are_stated;
 pub use tool::ByWorkers;
 pub use workers::Workers;

@@ -1,4 +1,5 @@
 ghost use Rattle.std.specs.Prelude.{◌≡◌, ◌↔◌, Err, true};
+ghost use Rattle.tool_words.specs.Constants.{ConstantsAreStated};
 ghost use Rattle.tool_words.specs.Grammar.{AreWords};
 ghost use Rattle.tool_words.specs.Items.{items_of};
 ghost use Rattle.tool_words.specs.Refusals.{HasWrong};
@@ -22,4 +23,9 @@ pub fn refused_where_wrong(_words: &[String])
     ensures { (tool : _) → (index : _) → (wrong : _)
         → (items_read tool index (word_texts _words.now) ≡ Err wrong)
         ↔ HasWrong tool index (word_texts _words.now) wrong }
+{}
+
+/// A law: the constants are those of `specs/Constants.antt`. It does nothing.
+pub fn constants_are_stated()
+    ensures { ConstantsAreStated }
 {}

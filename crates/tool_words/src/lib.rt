@@ -14,7 +14,7 @@ mod usage;
 mod values;
 
 pub use item::Item;
-pub use laws::{refused_where_wrong, words_follow_grammar};
+pub use laws::{constants_are_stated, refused_where_wrong, words_follow_grammar};
 pub use letters::{Form, Letter, Others, Takes, ToolLetters, Valued};
 pub use lists::{names_of, operands, paths_given};
 pub use reading::{read_items, read_items_within};

@@ -4,6 +4,7 @@
 
 mod answer;
 mod found;
+mod laws;
 mod letters;
 mod tool;
 mod walker;
@@ -11,6 +12,7 @@ mod words;
 
 pub use answer::answer_of;
 pub use found::RelabelFiles;
+pub use laws::constants_are_stated;
 pub use letters::MOST_WORKERS;
 pub use walker::{OneWorker, Walker};
 pub use words::{RelabelWords, read_restorecon, read_setfiles};

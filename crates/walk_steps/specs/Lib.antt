@@ -3,3 +3,4 @@ pub mod Lists
 pub mod Machine
 pub mod Sound
 pub mod Ends
+pub mod Constants

@@ -1,4 +1,5 @@
 ghost use Rattle.std.specs.Prelude.{◌≡◌, ℕ, Bool, List, ◌<◌, ◌≤◌, slice_index};
+ghost use Rattle.walk_steps.specs.Constants.{ConstantsAreStated};
 ghost use Rattle.walk_steps.specs.declared.machine.TheConstants.{NONE_WORD};
 ghost use Rattle.walk_steps.specs.declared.machine.WalkState.{WalkState};
 ghost use Rattle.walk_steps.specs.Shaped.{IsValid, entry_count};
@@ -24,3 +25,8 @@ pub fn ends_are_one(shape: &Shape)
 {
     let _shape = shape;
 }
+
+/// A law: the constants are those of `specs/Constants.antt`. It does nothing.
+pub fn constants_are_stated()
+    ensures { ConstantsAreStated }
+{}

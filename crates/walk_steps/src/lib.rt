@@ -10,7 +10,7 @@ mod steps;
 #[cfg(test)]
 mod tests;
 
-pub use law::ends_are_one;
+pub use law::{constants_are_stated, ends_are_one};
 pub use machine::{NONE_WORD, WalkState};
 pub use runs::run;
 pub use shape::Shape;
