@@ -1,10 +1,9 @@
 // Laws on the definitions: these functions do nothing, and their contracts are the laws.
 
-ghost use Rattle.std.specs.Prelude.{◌≡◌, replicate, true};
+ghost use Rattle.std.specs.Prelude.{◌≡◌, true};
 ghost use Rattle.file_paths.specs.Path.{Path, are_names};
 ghost use Rattle.dir_digest.specs.Alike.{AreAlike};
 ghost use Rattle.dir_digest.specs.Constants.{ConstantsAreStated};
-ghost use Rattle.dir_digest.specs.Digest.{void_digest};
 ghost use Rattle.dir_digest.specs.Listing.{Listing};
 ghost use Rattle.dir_digest.specs.ListingBytes.{IsListing, listing_bytes};
 ghost use Rattle.dir_digest.specs.Terms.{AreRead, Terms, listing_on};
@@ -28,11 +27,6 @@ pub fn accepted_files_give_listings()
 pub fn equal_listings_decide_alike()
     ensures { (t u : Terms) → AreRead t → AreRead u → (dir : Path) → are_names dir ≡ true
         → listing_bytes (listing_on t dir) ≡ listing_bytes (listing_on u dir) → AreAlike t u dir }
-{}
-
-/// A law: the void digest is twenty zero bytes.
-pub fn void_is_zeros()
-    ensures { void_digest ≡ replicate 20 0 }
 {}
 
 /// A law: the constants are those of `specs/Constants.antt`. It does nothing.

@@ -10,7 +10,6 @@ mod twenty_bytes;
 
 pub use laws::{
     accepted_files_give_listings, constants_are_stated, equal_listings_decide_alike, listings_tell,
-    void_is_zeros,
 };
 pub use listings::{Listings, digest, listing};
 pub use mode::Mode;

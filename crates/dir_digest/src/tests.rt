@@ -1,8 +1,8 @@
 ghost use Rattle.std.specs.Prelude.{◌<◌, ◌^◌, length};
 
 use crate::{
-    Digest, Mode, accepted_files_give_listings, digest, equal_listings_decide_alike, listing,
-    listings_tell, void_is_zeros,
+    Digest, Mode, accepted_files_give_listings, constants_are_stated, digest,
+    equal_listings_decide_alike, listing, listings_tell,
 };
 use context_syntax::{TypeNames, read_customizable};
 use file_paths::NormPath;
@@ -219,7 +219,7 @@ fn laws_hold_of_all(_rt: HostRuntime) {
     listings_tell();
     accepted_files_give_listings();
     equal_listings_decide_alike();
-    void_is_zeros();
+    constants_are_stated();
 }
 
 #[test]

@@ -10,4 +10,5 @@ pub mod Number
 pub mod NumberUnder
 pub mod Pieces
 pub mod Text
+pub mod Spelling
 pub mod Constants

@@ -1,5 +1,6 @@
 -- What the constants of this crate are, in letters and figures.
-use Rattle.std.specs.Prelude.{◌≡◌, ◌∷◌, ◌++◌, [], codes}
+use Rattle.std.specs.Prelude.{◌≡◌, ◌++◌, codes}
+use Rattle.label_base.specs.Spelling.{byte}
 use Rattle.tool_words.specs.Rows.{flags, with_value}
 use Rattle.tool_words.specs.declared.letters.Form.TheVariants.{Name, Path}
 use Rattle.policy_rehearsal.specs.declared.TheConstants.{REHEARSE_TOOL}
@@ -13,14 +14,14 @@ pub record ConstantsAreStated : Type 0 where
   pub of_rehearse : letters.LETTERS.now
       ≡ flags (codes "2DFIix") ++ with_value Path (codes "e") ++ with_value Name (codes "S")
   -- what each option means
-  pub link_counts : letters.LINK_COUNTS ∷ [] ≡ codes "2"
-  pub digests : letters.DIGESTS ∷ [] ≡ codes "D"
-  pub force : letters.FORCE ∷ [] ≡ codes "F"
-  pub ignore_digests : letters.IGNORE_DIGESTS ∷ [] ≡ codes "I"
-  pub base : letters.BASE ∷ [] ≡ codes "S"
-  pub excluded : letters.EXCLUDED ∷ [] ≡ codes "e"
-  pub ignore_absent : letters.IGNORE_ABSENT ∷ [] ≡ codes "i"
-  pub one_device : letters.ONE_DEVICE ∷ [] ≡ codes "x"
+  pub link_counts : letters.LINK_COUNTS ≡ byte "2"
+  pub digests : letters.DIGESTS ≡ byte "D"
+  pub force : letters.FORCE ≡ byte "F"
+  pub ignore_digests : letters.IGNORE_DIGESTS ≡ byte "I"
+  pub base : letters.BASE ≡ byte "S"
+  pub excluded : letters.EXCLUDED ≡ byte "e"
+  pub ignore_absent : letters.IGNORE_ABSENT ≡ byte "i"
+  pub one_device : letters.ONE_DEVICE ≡ byte "x"
   -- the most versions of a policy
   pub most_policies : letters.MOST_POLICIES ≡ 8
   -- the line of a version: its number, its name, how many labels changed, how many were skipped

@@ -1,5 +1,6 @@
 -- What the constants of this crate are, in letters and figures.
 use Rattle.std.specs.Prelude.{◌≡◌, ◌∷◌, ◌++◌, [], codes}
+use Rattle.label_base.specs.Spelling.{byte}
 use Rattle.sample_tree.specs.declared.TheConstants.{SAMPLE}
 use Rattle.sample_tree.specs.declared.records.TheConstants as records
 use Rattle.sample_tree.specs.declared.summary.TheConstants as texts
@@ -9,7 +10,7 @@ use Rattle.sample_tree.specs.declared.words.TheConstants.{COUNT, MOST_FILES}
 pub record ConstantsAreStated : Type 0 where
   -- the name of the tool, and the letter that stands for its operand
   pub sample : SAMPLE.now ≡ codes "sample"
-  pub count : COUNT ∷ [] ≡ codes "N"
+  pub count : COUNT ≡ byte "N"
   -- the most files
   pub most_files : MOST_FILES ≡ 1000000
   -- the file of specifications

@@ -1,5 +1,6 @@
 -- What the constants of this crate are, in letters and figures.
-use Rattle.std.specs.Prelude.{◌≡◌, ◌∷◌, [], codes}
+use Rattle.std.specs.Prelude.{◌≡◌, codes}
+use Rattle.label_base.specs.Spelling.{byte}
 use Rattle.setfattr_dump.specs.declared.marks.TheConstants as marks
 
 pub record ConstantsAreStated : Type 0 where
@@ -8,11 +9,11 @@ pub record ConstantsAreStated : Type 0 where
   pub digest_key : marks.DIGEST_KEY.now ≡ codes "security.sehash"
   -- what begins the line with a name, and what parts a key from its value
   pub file_mark : marks.FILE_MARK.now ≡ codes "# file: "
-  pub equals : marks.EQUALS ∷ [] ≡ codes "="
+  pub equals : marks.EQUALS ≡ byte "="
   -- what stands around a text and begins an escape in it, and what begins hexadecimal digits
-  pub quote : marks.QUOTE ∷ [] ≡ codes "\""
-  pub backslash : marks.BACKSLASH ∷ [] ≡ codes "\\"
-  pub zero : marks.ZERO ∷ [] ≡ codes "0"
+  pub quote : marks.QUOTE ≡ byte "\""
+  pub backslash : marks.BACKSLASH ≡ byte "\\"
+  pub zero : marks.ZERO ≡ byte "0"
   -- what is written between the parts of a line
   pub key_end : marks.KEY_END.now ≡ codes "="
   pub quote_mark : marks.QUOTE_MARK.now ≡ codes "\""
