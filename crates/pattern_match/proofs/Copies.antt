@@ -4,13 +4,13 @@ use Rattle.std.specs.Prelude.{◌||◌}
 use Rattle.std.proofs.lemmas.List.{length-map, map-append}
 use Rattle.pattern_match.specs.Automaton.{Place, Automaton, moved, followed, up, copies, endless}
 
-up_up : (a b : ℕ) (ns : List ℕ) → up a (up b ns) ≡ up (a + b) ns
+pub up_up : (a b : ℕ) (ns : List ℕ) → up a (up b ns) ≡ up (a + b) ns
 up_up a b [] = refl
 up_up a b (n ∷ ns) =
     let e : n + b + a ≡ n + (a + b) = omega arith in
     let ih : up a (up b ns) ≡ up (a + b) ns = up_up a b ns in rw (e, ih) refl
 
-moved_moved : (a b : ℕ) (p : Place) → moved a (moved b p) ≡ moved (a + b) p
+pub moved_moved : (a b : ℕ) (p : Place) → moved a (moved b p) ≡ moved (a + b) p
 moved_moved a b p = let e : up a (up b p.next) ≡ up (a + b) p.next = up_up a b p.next in rw e refl
 
 moved_twice : (a b : ℕ) (ps : List Place) → map (moved a) (map (moved b) ps) ≡ map (moved (a + b)) ps

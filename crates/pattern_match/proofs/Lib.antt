@@ -9,6 +9,16 @@ pub mod Lists
 pub mod Stacks
 pub mod Zeros
 pub mod Copies
+pub mod SegmentWords
+pub mod SegmentPlaces
+pub mod Segments
+pub mod Repeats
+pub mod Linking
+pub mod Growing
+pub mod Laying
+pub mod LaidNodes
+pub mod Closing
+pub mod Closed
 pub mod Stepping
 pub mod Onwards
 pub mod WordBits

@@ -12,7 +12,7 @@ use Rattle.pattern_match.specs.Settled.{MarksLeadOnward}
 use Rattle.pattern_match.specs.States.{bit, is_bare, AreMarks, IsMarked, AreMarksBy, IsBehindBy, AreMarksOf, IsBehind, IsRead}
 use Rattle.pattern_match.specs.Onwards.{AreTextBytes}
 use Rattle.pattern_syntax.specs.Nodes.{tree_of}
-use Rattle.pattern_match.specs.Compiled.{IsCompiled}
+use Rattle.pattern_match.specs.Compiled.{IsReady, IsReadyFor, IsCompiled}
 use Rattle.pattern_match.specs.Tables.{AreTables}
 use Rattle.pattern_match.specs.declared.machine.Machine.TheInside.{Inside}
 use Rattle.pattern_match.specs.declared.class.Class.{Class}
@@ -55,16 +55,9 @@ bare_unmarked t marks e a p h =
     let l = bit_within marks p h in
     omega arith
 
-pub record IsReady (t : Tree) (bare : Bool) (rows width : ℕ) (follow accept : List ℕ) (classes : List Class) : Type 0 where
-  pub bare_is : bare ≡ is_bare t
-  pub none : bare ≡ true → width ≡ 0
-  pub rows_are : bare ≡ false → rows ≡ length (all_places (automaton t))
-  pub tables : bare ≡ false → AreTables width follow accept classes (all_places (automaton t))
-
 -- what a machine keeps, as its pattern's
-pub ready_by : (m : Inside) (t : Tree) → tree_of m.nodes.items ≡ t → IsCompiled m → IsReady t m.is_bare m.rows m.width m.follow.items m.accept.items m.classes.items
-ready_by m t is kept = subst (λ u. IsReady u m.is_bare m.rows m.width m.follow.items m.accept.items m.classes.items) is
-    (record { bare_is = kept.bare; none = kept.none; rows_are = kept.rows; tables = kept.tables })
+pub ready_by : (m : Inside) (t : Tree) → tree_of m.nodes.items ≡ t → IsCompiled m → IsReadyFor t m.ready
+ready_by m t is kept = subst (λ u. IsReadyFor u m.ready) is kept
 
 module _ (t : Tree) (bare : Bool) (rows width : ℕ) (follow accept : List ℕ) (classes : List Class) (r : IsReady t bare rows width follow accept classes) where
   pub machine : bare ≡ false → IsMachine t rows width follow accept classes

@@ -18,7 +18,7 @@ use Rattle.pattern_match.specs.Skipping.{is_zero_repeat, trees_before, IsSkip, A
 use Rattle.pattern_match.proofs.Stacks.{pushed}
 use Rattle.pattern_match.proofs.Language.{is_zero}
 
-one_before : (nodes : List Node) (k : ℕ) (d : Node) → k < length nodes → trees_before nodes (k + 1) ≡ after_node (get_or nodes k d) (trees_before nodes k)
+pub one_before : (nodes : List Node) (k : ℕ) (d : Node) → k < length nodes → trees_before nodes (k + 1) ≡ after_node (get_or nodes k d) (trees_before nodes k)
 one_before nodes k d l = ap (λ (ns : List Node). after_nodes ns []) (take_more nodes k d l) ∙ after_append (take k nodes) (get_or nodes k d) []
 
 -- a part repeated zero times has the automaton of the empty text

@@ -7,6 +7,9 @@ pub mod Building
 pub mod Class
 pub mod States
 pub mod Tables
+pub mod Segments
+pub mod Layouts
+pub mod Whole
 pub mod Compiled
 pub mod Onwards
 pub mod Loops

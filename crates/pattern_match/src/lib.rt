@@ -5,13 +5,17 @@
 mod bits;
 mod class;
 mod compile;
+mod copying;
 mod fragment;
+mod layout;
 mod loops;
 mod machine;
 mod marks;
 mod matcher;
 mod one_text;
 mod position;
+mod readying;
+mod segment;
 mod skipping;
 mod states;
 mod steady;

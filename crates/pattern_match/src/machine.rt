@@ -6,12 +6,10 @@ ghost use Rattle.pattern_match.specs.Settled.{MarksLeadOnward, MarksStay};
 ghost use Rattle.pattern_match.specs.States.{AreMarksOf, IsBehind, IsRead, is_bare};
 
 use crate::bits::{have_any, have_common};
-use crate::class::Class;
-use crate::compile::compiled;
 use crate::loops::has_loop;
 use crate::marks::Marks;
+use crate::readying::{Ready, made_ready};
 use crate::steady::are_steady;
-use crate::tables::{accept_row, classes_of, follow_table};
 use label_base::OutOfMemory;
 use pattern_syntax::Node;
 use std::alloc::Global;
@@ -21,16 +19,7 @@ use std::marker::Model;
 #[derive(Drop)]
 pub struct Machine {
     nodes: Vec<Node>,
-    is_bare: bool,
-    // How many states there are, and in how many words they are kept.
-    rows: usize,
-    width: usize,
-    // A row for each state: those that may follow it.
-    follow: Vec<u64>,
-    // The states behind which a text may end.
-    accept: Vec<u64>,
-    // The bytes that lead to each state.
-    classes: Vec<Class>,
+    ready: Ready,
 }
 
 impl Model for Machine {
@@ -48,51 +37,20 @@ impl Model for Machine {
     ghost invariant = { IsCompiled };
 }
 
-// In how many words so many bits are kept.
-fn words_for(bits: usize) -> Result<usize, OutOfMemory>
-    ensures { IfOk result (λ words. words ≡ (bits + 63) / 64) }
-{
-    if bits > usize::MAX - 63 {
-        return Err(OutOfMemory);
-    }
-    Ok((bits + 63) / 64)
-}
-
 impl Machine {
     /// The automaton of nodes in postfix order. There may be too little memory for its tables.
     pub fn new(alloc: Global, nodes: Vec<Node>) -> Result<Machine, OutOfMemory>
         ensures { IfOk result (λ machine. machine ≡ tree_of nodes.items) }
     {
-        let fragment = compiled(alloc, nodes.as_slice())?;
-        if fragment.is_bare() {
-            return Ok(Machine {
-                nodes,
-                is_bare: true,
-                rows: 0,
-                width: 0,
-                follow: Vec::new(alloc),
-                accept: Vec::new(alloc),
-                classes: Vec::new(alloc),
-            });
-        }
-        let positions = fragment.into_positions(alloc)?;
-        let width = words_for(positions.len())?;
-        Ok(Machine {
-            nodes,
-            is_bare: false,
-            rows: positions.len(),
-            width,
-            follow: follow_table(alloc, positions.as_slice(), width)?,
-            accept: accept_row(alloc, positions.as_slice(), width)?,
-            classes: classes_of(alloc, positions.as_slice())?,
-        })
+        let ready = made_ready(alloc, nodes.as_slice())?;
+        Ok(Machine { nodes, ready })
     }
 
     /// Whether the empty text is all that it holds.
     pub fn is_bare(&self) -> bool
         ensures { result ≡ is_bare self.now }
     {
-        self.is_bare
+        self.ready.is_bare
     }
 
     /// The marks before the first byte of a text.
@@ -101,8 +59,8 @@ impl Machine {
         ensures starts { IfOk result (λ marks. (text : List ℕ) → IsBehind self.now marks text
             ↔ In self.now text) }
     {
-        let mut marks = Marks::new(alloc, self.width)?;
-        marks.restart(self.rows);
+        let mut marks = Marks::new(alloc, self.ready.width)?;
+        marks.restart(self.ready.rows);
         Ok(marks)
     }
 
@@ -112,7 +70,7 @@ impl Machine {
         ensures made { AreMarksOf self.now marks.new }
         ensures starts { (text : List ℕ) → IsBehind self.now marks.new text ↔ In self.now text }
     {
-        marks.restart(self.rows);
+        marks.restart(self.ready.rows);
     }
 
     /// Goes on by a byte.
@@ -123,7 +81,7 @@ impl Machine {
         ensures behind { (text : List ℕ) → IsBehind self.now marks.old (byte ∷ text)
             ↔ IsBehind self.now marks.new text }
     {
-        marks.step(self.follow.as_slice(), self.classes.as_slice(), byte);
+        marks.step(self.ready.follow.as_slice(), self.ready.classes.as_slice(), byte);
     }
 
     /// Whether a text may end here.
@@ -131,10 +89,10 @@ impl Machine {
         requires { AreMarksOf self.now marks.now }
         ensures { IsTrue result ↔ IsBehind self.now marks.now [] }
     {
-        if self.is_bare {
+        if self.ready.is_bare {
             return true;
         }
-        have_common(marks.as_slice(), self.accept.as_slice())
+        have_common(marks.as_slice(), self.ready.accept.as_slice())
     }
 
     /// Whether a text may end in some marked state that leads to a loop, in which one may end too. Then every text of bytes
@@ -145,14 +103,14 @@ impl Machine {
         ensures texts { result ≡ true → (text : List ℕ) → AreTextBytes text
             → IsBehind self.now marks.now text }
     {
-        if self.is_bare {
+        if self.ready.is_bare {
             return false;
         }
         has_loop(
             marks.as_slice(),
-            self.accept.as_slice(),
-            self.follow.as_slice(),
-            self.classes.as_slice(),
+            self.ready.accept.as_slice(),
+            self.ready.follow.as_slice(),
+            self.ready.classes.as_slice(),
         )
     }
 
@@ -165,13 +123,13 @@ impl Machine {
             → (text : List ℕ) → IsBehind self.now marks.now (byte ∷ text)
             ↔ IsBehind self.now marks.now text }
     {
-        if self.is_bare {
+        if self.ready.is_bare {
             return false;
         }
         are_steady(
             marks.as_slice(),
-            self.follow.as_slice(),
-            self.classes.as_slice(),
+            self.ready.follow.as_slice(),
+            self.ready.classes.as_slice(),
         )
     }
 
@@ -181,7 +139,7 @@ impl Machine {
         ensures onto { (text : List ℕ) → IsBehind self.now marks.now text → result ≡ true }
         ensures from { result ≡ true → (text : List ℕ) × IsBehind self.now marks.now text }
     {
-        if self.is_bare {
+        if self.ready.is_bare {
             return true;
         }
         have_any(marks.as_slice())
@@ -211,7 +169,7 @@ impl Machine {
         ensures made { AreMarksOf self.now marks.new }
         ensures language { IsTrue result ↔ In self.now text.now }
     {
-        if self.is_bare {
+        if self.ready.is_bare {
             return text.is_empty();
         }
         if !self.read(marks, text) {
