@@ -1,5 +1,5 @@
 -- The tables of a whole pattern that was laid.
-use Rattle.std.proofs.Common.{◌≡◌, refl, sym, ◌∙◌, ap, subst, ℕ, zero, suc, ◌+◌, ◌<◌, ◌≤◌, ◌==◌, Bool, true, false, List, [], ◌∷◌, ◌++◌, length, map, arith, length-append}
+use Rattle.std.proofs.Common.{◌≡◌, refl, sym, ◌∙◌, ap, subst, ℕ, ◌+◌, ◌<◌, ◌==◌, Bool, true, false, List, [], ◌∷◌, ◌++◌, length, map, arith, length-append}
 use Rattle.std.specs.Prelude.{◌||◌, ◌&&◌, not}
 use Rattle.pattern_syntax.specs.Tree.{Tree}
 use Rattle.pattern_match.specs.Residuals.{is_some_list}

@@ -1,10 +1,9 @@
 -- The tables of places that were laid: with the place before the first byte behind them.
-use Rattle.std.proofs.Common.{◌≡◌, refl, sym, ◌∙◌, ap, subst, ℕ, zero, suc, ◌+◌, ◌-◌, ◌*◌, ◌/◌, ◌%◌, ◌<◌, ◌≤◌, ◌==◌, Bool, true, false, List, [], ◌∷◌, ◌++◌, length, map, get_or, Option, Some, None, ◌⊎◌, inl, inr, arith, length-append}
+use Rattle.std.proofs.Common.{◌≡◌, refl, sym, ◌∙◌, ap, subst, ℕ, zero, suc, ◌+◌, ◌*◌, ◌/◌, ◌%◌, ◌<◌, ◌≤◌, ◌==◌, Bool, true, false, List, [], ◌∷◌, ◌++◌, length, map, get_or, Some, ◌⊎◌, inl, inr, arith, length-append}
 use Rattle.std.specs.Prelude.{◌||◌, ◌&&◌, slice_get}
-use Rattle.std.specs.Int.{bit_at}
 use Rattle.std.proofs.lemmas.Bool.{cases_lt, or_cases}
 use Rattle.std.proofs.lemmas.Option.{slice_get_past}
-use Rattle.std.proofs.lemmas.List.{length-map, map-append, get_or_append_left, get_or_push, ext_get_or, get_or-map}
+use Rattle.std.proofs.lemmas.List.{length-map, map-append, get_or_append_left, get_or_push, ext_get_or}
 use Rattle.std.specs.Cmp.{second_so}
 use Rattle.pattern_match.specs.Automaton.{Place, Automaton, moved, up, all_places}
 use Rattle.pattern_match.specs.Class.{class_bytes}

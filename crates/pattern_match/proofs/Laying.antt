@@ -1,14 +1,13 @@
 -- What is laid, with a segment more, or others in place of the last.
-use Rattle.std.proofs.Common.{◌≡◌, refl, sym, ◌∙◌, ap, subst, ℕ, zero, suc, ◌+◌, ◌-◌, ◌*◌, ◌%◌, ◌^◌, ◌<◌, ◌≤◌, ◌==◌, Bool, true, false, List, [], ◌∷◌, ◌++◌, length, map, get_or, Option, Some, None, ◌⊎◌, inl, inr, arith, length-append}
-use Rattle.std.specs.Prelude.{◌||◌, ◌&&◌, reverse, if◌then◌else◌}
-use Rattle.std.specs.Int.{bit_at}
+use Rattle.std.proofs.Common.{◌≡◌, refl, sym, ◌∙◌, ap, subst, ℕ, zero, suc, ◌+◌, ◌-◌, ◌*◌, ◌%◌, ◌^◌, ◌<◌, ◌≤◌, ◌==◌, true, false, List, [], ◌∷◌, ◌++◌, length, map, get_or, Option, Some, None, arith, length-append}
+use Rattle.std.specs.Prelude.{reverse}
 use Rattle.std.proofs.lemmas.Nat.Bits.{bit_at-zero, bit_at-suc}
 use Rattle.std.proofs.lemmas.List.{length-map, map-append, reverse-append, get_or_append_left, get_or_push}
 use Rattle.pattern_match.specs.Residuals.{is_some_list, is_count}
-use Rattle.pattern_match.specs.Automaton.{Automaton, bare, single, both, both_live, either, repeated, repeat_places, up, moved, in_turn, looped, followed}
+use Rattle.pattern_match.specs.Automaton.{Automaton, bare, single, both, both_live, either, repeated, repeat_places, moved}
 use Rattle.pattern_match.specs.Class.{class_bytes}
 use Rattle.pattern_match.specs.Segments.{in_word, among, IsSegment}
-use Rattle.pattern_match.specs.Layouts.{Stands, AreSegments, IsLaid, SameBelow, AreLinked, IsLast, AreRepeated, copies_of}
+use Rattle.pattern_match.specs.Layouts.{Stands, AreSegments, IsLaid, AreLinked, IsLast, AreRepeated, copies_of}
 use Rattle.pattern_match.specs.declared.class.Class.{Class}
 use Rattle.pattern_match.specs.declared.segment.Segment.{Segment}
 use Rattle.pattern_match.proofs.SegmentWords.{moved_word, word_above}
@@ -78,11 +77,14 @@ one_place : (rows : List ℕ) (classes : List Class) (class : Class) (bytes : Li
     IsSegment (rows ++ 0 ∷ []) (map class_bytes (classes ++ class ∷ [])) (length rows) (1 * 2 ^ length rows % 2 ^ 64) (1 * 2 ^ length rows % 2 ^ 64) false true (single bytes)
 one_place rows classes class [] e i few even = cc
 one_place rows classes class (b ∷ bs) e i few even = record {
-  places = (record {
-    follows = λ k l. ap (λ w. in_word w k) (get_or_push rows 0 0 (length rows) refl) ∙ ap (λ n. n == 1) (bit_at-zero k);
-    ends = word_above 1 (length rows) (length rows) (omega arith) (omega arith) ∙ ap (in_word 1) (let z : length rows - length rows ≡ 0 = omega arith in z);
-    takes = ap (λ w. get_or w (length rows) []) (map-append class_bytes classes (class ∷ [])) ∙ get_or_push (map class_bytes classes) (class_bytes class) [] (length rows) (length-map classes class_bytes ∙ even) ∙ e;
-  }, tt);
+  places = (
+    record {
+      follows = λ k l. ap (λ w. in_word w k) (get_or_push rows 0 0 (length rows) refl) ∙ ap (λ n. n == 1) (bit_at-zero k);
+      ends = word_above 1 (length rows) (length rows) (omega arith) (omega arith) ∙ ap (in_word 1) (let z : length rows - length rows ≡ 0 = omega arith in z);
+      takes = ap (λ w. get_or w (length rows) []) (map-append class_bytes classes (class ∷ [])) ∙ get_or_push (map class_bytes classes) (class_bytes class) [] (length rows) (length-map classes class_bytes ∙ even) ∙ e;
+    },
+    tt,
+  );
   begins = λ k l. moved_word 1 (length rows) (0 ∷ []) (λ j m. one_is j) k l;
   within = λ p t. let w = moved_within 0 (length rows) 1 1 one_within p t in (omega arith, omega arith);
   empty = refl;

@@ -1,5 +1,5 @@
 -- Rows that are linked, one after the other.
-use Rattle.std.proofs.Common.{◌≡◌, ◌≢◌, refl, sym, ◌∙◌, ap, subst, ℕ, ◌-◌, ◌^◌, ◌<◌, ◌==◌, Bool, true, false, List, length, get_or, set, ◌⊎◌, inl, inr, arith, w64}
+use Rattle.std.proofs.Common.{◌≡◌, ◌≢◌, sym, ◌∙◌, ap, subst, ℕ, ◌-◌, ◌^◌, ◌<◌, ◌==◌, Bool, true, false, List, length, get_or, set, ◌⊎◌, inl, inr, w64}
 use Rattle.std.specs.Prelude.{◌||◌, ◌&&◌, bit_and, bit_or}
 use Rattle.std.specs.Int.{bit_at, trailing_zeros}
 use Rattle.std.proofs.lemmas.List.{get_or-set_same, get_or-set_other}

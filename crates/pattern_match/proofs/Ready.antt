@@ -13,7 +13,6 @@ use Rattle.pattern_match.specs.States.{bit, is_bare, AreMarks, IsMarked, AreMark
 use Rattle.pattern_match.specs.Onwards.{AreTextBytes}
 use Rattle.pattern_syntax.specs.Nodes.{tree_of}
 use Rattle.pattern_match.specs.Compiled.{IsReady, IsReadyFor, IsCompiled}
-use Rattle.pattern_match.specs.Tables.{AreTables}
 use Rattle.pattern_match.specs.declared.machine.Machine.TheInside.{Inside}
 use Rattle.pattern_match.specs.declared.class.Class.{Class}
 use Rattle.pattern_match.proofs.Language.{empty_in}

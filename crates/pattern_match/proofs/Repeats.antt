@@ -1,11 +1,11 @@
 -- Copies of a piece one behind the other, joined from the last one to the first.
-use Rattle.std.proofs.Common.{◌≡◌, refl, sym, ◌∙◌, ap, subst, ℕ, zero, suc, pred, ◌+◌, ◌-◌, ◌*◌, ◌%◌, ◌^◌, ◌<◌, ◌≤◌, ◌==◌, Bool, true, false, List, [], ◌∷◌, ◌++◌, length, map, get_or, ◌⊎◌, inl, inr, arith, length-append}
-use Rattle.std.specs.Prelude.{◌||◌, ◌&&◌, None, if◌then◌else◌}
+use Rattle.std.proofs.Common.{◌≡◌, refl, sym, ◌∙◌, ap, subst, ℕ, zero, suc, pred, ◌+◌, ◌-◌, ◌*◌, ◌%◌, ◌^◌, ◌<◌, ◌≤◌, ◌==◌, Bool, true, false, List, [], ◌∷◌, length, map, get_or, ◌⊎◌, inl, inr, arith}
+use Rattle.std.specs.Prelude.{◌||◌, None}
 use Rattle.std.proofs.lemmas.Bool.{cases_lt}
 use Rattle.std.proofs.lemmas.List.{length-map}
-use Rattle.pattern_match.specs.Automaton.{Automaton, bare, looped, copies, endless, copy_before, in_turn, up, moved, followed}
+use Rattle.pattern_match.specs.Automaton.{Automaton, bare, looped, copies, endless, copy_before, followed}
 use Rattle.pattern_match.specs.Class.{class_bytes}
-use Rattle.pattern_match.specs.Segments.{in_word, IsSegment}
+use Rattle.pattern_match.specs.Segments.{in_word}
 use Rattle.pattern_match.specs.Layouts.{Stands, AreSegments, SameBelow, AreLinked, further, before_rest, StandCopies, CanCopy, AreGrown, IsLast, AreRepeated, copies_of}
 use Rattle.pattern_match.specs.declared.class.Class.{Class}
 use Rattle.pattern_match.specs.declared.segment.Segment.{Segment}
@@ -132,7 +132,7 @@ segments_stay rows new classes others (s ∷ ss) [] end r b h = h
 segments_stay rows new classes others (s ∷ ss) (a ∷ others_too) end r b h =
     let e = h.1 in (
       same_segment rows new (map class_bytes classes) (map class_bytes others) s.start s.first s.last s.holds_empty s.is_live a
-      (λ p k u v w. r p k (omega arith)) (λ p u v. b p (omega arith)) h.0,
+          (λ p k u v w. r p k (omega arith)) (λ p u v. b p (omega arith)) h.0,
       e,
       segments_stay rows new classes others ss others_too s.start (λ p k u. r p k (omega arith)) (λ p u. b p (omega arith)) h.2,
     )
@@ -192,9 +192,9 @@ one_joined rows new newer piece rest made first copy places least left before wh
     at classes a b p t u (c, v, w) = (
       copy_before stop a c,
       f classes a c
-      (j.at ∙ (let g = more in let z : copy.start ≡ piece.start + left * places = ap (λ (w : Segment). w.start) q in omega arith))
-      (subst (λ (w : Segment). Stands new classes w a) (sym q) standing)
-      v,
+          (j.at ∙ (let g = more in let z : copy.start ≡ piece.start + left * places = ap (λ (w : Segment). w.start) q in omega arith))
+          (subst (λ (w : Segment). Stands new classes w a) (sym q) standing)
+          v,
       last,
     )
       where

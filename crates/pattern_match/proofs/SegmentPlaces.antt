@@ -1,11 +1,9 @@
 -- Places written one behind the other, and what joining, copying and looping do to them.
-use Rattle.std.proofs.Common.{◌≡◌, refl, sym, ◌∙◌, ap, subst, ℕ, zero, suc, ◌+◌, ◌-◌, ◌*◌, ◌%◌, ◌^◌, ◌<◌, ◌≤◌, Bool, true, false, List, [], ◌∷◌, ◌++◌, length, map, get_or, ◌⊎◌, inl, inr, arith}
+use Rattle.std.proofs.Common.{◌≡◌, refl, sym, ◌∙◌, ap, subst, ℕ, suc, ◌+◌, ◌*◌, ◌%◌, ◌^◌, ◌<◌, ◌≤◌, Bool, true, false, List, [], ◌∷◌, ◌++◌, length, map, get_or, arith}
 use Rattle.std.specs.Prelude.{◌||◌, ◌&&◌, if◌then◌else◌}
-use Rattle.std.proofs.lemmas.Bool.{cases_lt}
-use Rattle.std.proofs.lemmas.List.{length-map, map-append}
 use Rattle.pattern_match.specs.Automaton.{Place, moved, up, added, followed}
 use Rattle.pattern_match.specs.Segments.{in_word, among, IsWritten, AreWritten}
-use Rattle.pattern_match.proofs.Copies.{up_up, moved_moved}
+use Rattle.pattern_match.proofs.Copies.{up_up}
 use Rattle.pattern_match.proofs.SegmentWords.{moved_word, among_added}
 
 one_later : (a i : ℕ) → a + suc i ≡ suc a + i
@@ -21,11 +19,12 @@ map_twice f g (p ∷ ps) = ap (λ qs. g (f p) ∷ qs) (map_twice f g ps)
 -- the same places in two forms: what holds of each, holds of all
 pub each_written : (f g : Place → Place) (rows new : List ℕ) (last ends : ℕ) (bytes others : List (List ℕ)) (from to : ℕ) (places : List Place) → ((i : ℕ) (place : Place) → i < length places → IsWritten rows last bytes (from + i) (f place) → IsWritten new ends others (to + i) (g place)) → AreWritten rows last bytes from (map f places) → AreWritten new ends others to (map g places)
 each_written f g rows new last ends bytes others from to [] h w = tt
-each_written f g rows new last ends bytes others from to (p ∷ ps) h w =
-    (subst (λ n. IsWritten new ends others n (g p)) (sym (none_later to)) (h 0 p (omega arith) (subst (λ n. IsWritten rows last bytes n (f p)) (none_later from) w.0)),
-    each_written f g rows new last ends bytes others (suc from) (suc to) ps
-    (λ i place l v. subst (λ n. IsWritten new ends others n (g place)) (one_later to i) (h (suc i) place (omega arith) (subst (λ n. IsWritten rows last bytes n (f place)) (sym (one_later from i)) v)))
-    w.1)
+each_written f g rows new last ends bytes others from to (p ∷ ps) h w = (
+  subst (λ n. IsWritten new ends others n (g p)) (sym (none_later to)) (h 0 p (omega arith) (subst (λ n. IsWritten rows last bytes n (f p)) (none_later from) w.0)),
+  each_written f g rows new last ends bytes others (suc from) (suc to) ps
+      (λ i place l v. subst (λ n. IsWritten new ends others n (g place)) (one_later to i) (h (suc i) place (omega arith) (subst (λ n. IsWritten rows last bytes n (f place)) (sym (one_later from i)) v)))
+      w.1,
+)
 
 pub written_append : (rows : List ℕ) (last : ℕ) (bytes : List (List ℕ)) (from n : ℕ) (xs ys : List Place) → n ≡ from + length xs → AreWritten rows last bytes from xs → AreWritten rows last bytes n ys → AreWritten rows last bytes from (xs ++ ys)
 written_append rows last bytes from n [] ys e v w = subst (λ m. AreWritten rows last bytes m ys) (let f : n ≡ from = omega arith in f) w

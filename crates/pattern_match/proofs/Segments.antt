@@ -1,13 +1,13 @@
 -- Segments: parts of a pattern one behind the other, in turn, by choice and repeated.
-use Rattle.std.proofs.Common.{◌≡◌, refl, sym, ◌∙◌, ap, subst, ℕ, zero, suc, pred, ◌+◌, ◌-◌, ◌*◌, ◌%◌, ◌^◌, ◌<◌, ◌≤◌, ◌==◌, Bool, true, false, List, [], ◌∷◌, ◌++◌, length, map, get_or, ◌⊎◌, inl, inr, arith, length-append}
+use Rattle.std.proofs.Common.{◌≡◌, refl, sym, ◌∙◌, ap, subst, ℕ, ◌+◌, ◌-◌, ◌*◌, ◌%◌, ◌^◌, ◌<◌, ◌≤◌, ◌==◌, Bool, true, false, List, [], ◌∷◌, ◌++◌, length, map, get_or, ◌⊎◌, inl, inr, arith, length-append}
 use Rattle.std.specs.Prelude.{◌||◌, ◌&&◌, if◌then◌else◌}
 use Rattle.std.proofs.lemmas.Bool.{cases_lt, or_cases}
 use Rattle.std.proofs.lemmas.List.{length-map, map-append}
 use Rattle.std.specs.Cmp.{second_so}
 use Rattle.std.specs.Int.{bit_at}
 use Rattle.std.proofs.lemmas.Nat.Bits.{bit_at-zero, bit_at_above}
-use Rattle.pattern_match.specs.Automaton.{Place, Automaton, moved, up, followed, in_turn, bare, single, both_live, either, copy_before, looped}
-use Rattle.pattern_match.specs.Segments.{in_word, among, IsWritten, AreWritten, IsSegment}
+use Rattle.pattern_match.specs.Automaton.{Place, Automaton, moved, up, followed, in_turn, bare, both_live, either, copy_before, looped}
+use Rattle.pattern_match.specs.Segments.{in_word, among, AreWritten, IsSegment}
 use Rattle.pattern_match.proofs.Copies.{up_up, moved_moved}
 use Rattle.pattern_match.proofs.SegmentWords.{among_append, moved_word, word_above, word_below}
 use Rattle.pattern_match.proofs.SegmentPlaces.{no_truth, written_append, places_followed, places_stay, places_moved}

@@ -18,7 +18,8 @@ pub record IsReady (tree : Tree) (bare : Bool) (rows width : ℕ) (follow accept
   pub tables : bare ≡ false → AreTables width follow accept classes (all_places (automaton tree))
 
 abbrev pub IsReadyFor : Tree → Ready → Type 0
-IsReadyFor tree r = IsReady tree r.is_bare r.rows r.width r.follow.items r.accept.items r.classes.items
+IsReadyFor tree r =
+    IsReady tree r.is_bare r.rows r.width r.follow.items r.accept.items r.classes.items
 
 abbrev pub IsCompiled : Inside → Type 0
 IsCompiled m = IsReadyFor (tree_of m.nodes.items) m.ready

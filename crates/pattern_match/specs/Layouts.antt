@@ -1,5 +1,7 @@
 -- The segments of a pattern's parts while its nodes are read.
-use Rattle.std.specs.Prelude.{◌≡◌, ℕ, zero, suc, ◌+◌, ◌-◌, ◌<◌, ◌≤◌, ◌*◌, ◌^◌, ◌%◌, ◌==◌, ◌||◌, ◌&&◌, true, Bool, List, Option, Some, None, if◌then◌else◌, [], ◌∷◌, length, map, reverse}
+use Rattle.std.specs.Prelude.{◌≡◌, ℕ, zero, suc, ◌+◌, ◌-◌, ◌<◌, ◌≤◌, ◌*◌, ◌^◌, ◌%◌, ◌==◌, ◌||◌}
+use Rattle.std.specs.Prelude.{◌&&◌, true, List, Option, Some, None, if◌then◌else◌, [], ◌∷◌, length}
+use Rattle.std.specs.Prelude.{map, reverse}
 use Rattle.std.specs.List.{slice_index_or}
 use Rattle.pattern_syntax.specs.Tree.{Tree}
 use Rattle.pattern_syntax.specs.Nodes.{after_node}
@@ -24,7 +26,8 @@ AreSegments rows classes (s ∷ segments) (a ∷ others) end =
     Stands rows classes s a × (end ≡ s.start + length a.places)
     × AreSegments rows classes segments others s.start
 
--- as many classes as rows, of few places; the segments, their last one at the end, stand for the automata, the last one first
+-- as many classes as rows, of few places; the segments, their last one at the end, stand for the
+-- automata, the last one first
 pub record IsLaid (rows : List ℕ) (classes : List Class) (segments : List Segment)
     (automata : List Automaton) : Type 0 where
   pub few : length rows ≤ 63
@@ -80,7 +83,8 @@ pub record CanCopy (rows : List ℕ) (piece : Segment) (places copies : ℕ) : T
   pub within : (p : ℕ) → in_word piece.last p ≡ true
       → (piece.start ≤ p) × (p < piece.start + places)
 
--- the rows and the bytes of so many places at the end are again those so many before, moved up
+-- so many places at the end: each row is the one so many rows before it, moved up, and the bytes
+-- are the same
 pub record AreGrown (by : ℕ) (rows new : List ℕ) (classes others : List Class) (places : ℕ)
     : Type 0 where
   pub count : length new ≡ length rows + places

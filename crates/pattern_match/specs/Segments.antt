@@ -1,6 +1,7 @@
--- Automata of few places as bits of words. The places of a part of a pattern stand one behind the other, counted from the
--- pattern's first: such a row of places is a segment.
-use Rattle.std.specs.Prelude.{◌≡◌, ℕ, suc, ◌+◌, ◌<◌, ◌≤◌, ◌==◌, Bool, true, List, [], ◌∷◌, length, map}
+-- Automata of few places as bits of words. The places of a part of a pattern stand one behind the
+-- other, counted from the pattern's first: such a row of places is a segment.
+use Rattle.std.specs.Prelude.{◌≡◌, ℕ, suc, ◌+◌, ◌<◌, ◌≤◌, ◌==◌, Bool, true, List, [], ◌∷◌, length}
+use Rattle.std.specs.Prelude.{map}
 use Rattle.std.specs.Int.{bit_at}
 use Rattle.std.specs.List.{list_any, slice_index_or}
 use Rattle.pattern_match.specs.Automaton.{Place, Automaton, moved, up}
@@ -11,8 +12,8 @@ in_word word k = bit_at word k == 1
 abbrev pub among : List ℕ → ℕ → Bool
 among numbers k = list_any (λ n. n == k) numbers
 
--- what stands at an index is the place: the row of those that follow, among the places behind which a text may end, and
--- its bytes
+-- what stands at an index is the place: the row of those that follow, whether it is among the places
+-- behind which a text may end, and its bytes
 pub record IsWritten (rows : List ℕ) (last : ℕ) (bytes : List (List ℕ)) (index : ℕ) (place : Place)
     : Type 0 where
   pub follows : (k : ℕ) → k < 64

@@ -1,14 +1,17 @@
-ghost use Rattle.std.specs.Prelude.{◌≡◌, ◌+◌, ◌-◌, ◌*◌, ◌<◌, ◌≤◌, ◌==◌, ◌||◌, true, ℕ, List, [], IfOk, Some, None, length};
+ghost use Rattle.std.specs.Prelude.{◌≡◌, ◌+◌, ◌-◌, ◌*◌, ◌<◌, ◌≤◌, ◌==◌, ◌||◌, true, ℕ, List, []};
+ghost use Rattle.std.specs.Prelude.{IfOk, Some, None, length};
 ghost use Rattle.pattern_match.specs.Automaton.{Automaton, repeat_places};
 ghost use Rattle.pattern_match.specs.Residuals.{is_count};
-ghost use Rattle.pattern_match.specs.Layouts.{AreRepeated, CanCopy, IsLast, SameBelow, StandCopies, Stands, before_rest, copies_of};
+ghost use Rattle.pattern_match.specs.Layouts.{AreRepeated, CanCopy, IsLast, SameBelow, StandCopies};
+ghost use Rattle.pattern_match.specs.Layouts.{Stands, before_rest, copies_of};
 ghost use Rattle.pattern_match.specs.declared.class.Class as kind;
 
 use crate::class::Class;
 use crate::segment::{Segment, grow};
 use label_base::OutOfMemory;
 
-// How many copies of a piece a repeat is written as. Where there is no upper number, the last one is entered again.
+// How many copies of a piece a repeat is written as. Where there is no upper number, the last one is
+// entered again.
 fn copies_of(least: u32, most: Option<u32>) -> u32
     ensures { result ≡ copies_of least most }
 {
@@ -82,13 +85,7 @@ fn joined(
 }
 
 // The copies of a piece from the least number of them on as a way out.
-fn counted(
-    rows: &mut Vec<u64>,
-    piece: &Segment,
-    places: usize,
-    least: u32,
-    copies: u32,
-) -> Segment
+fn counted(rows: &mut Vec<u64>, piece: &Segment, places: usize, least: u32, copies: u32) -> Segment
     requires can { CanCopy rows.old.items piece.now places copies }
     ensures count { length rows.new.items ≡ length rows.old.items }
     ensures start { result.start ≡ piece.now.start }
@@ -102,13 +99,7 @@ fn counted(
 }
 
 // The copies of a piece, of which the last one is entered again from its own end.
-fn endless(
-    rows: &mut Vec<u64>,
-    piece: &Segment,
-    places: usize,
-    least: u32,
-    copies: u32,
-) -> Segment
+fn endless(rows: &mut Vec<u64>, piece: &Segment, places: usize, least: u32, copies: u32) -> Segment
     requires can { CanCopy rows.old.items piece.now places copies }
     requires some { copies ≡ copies_of least None }
     ensures count { length rows.new.items ≡ length rows.old.items }

@@ -137,8 +137,8 @@ fn put(
     }
 }
 
-/// Lays the places of nodes in postfix order, and says whether it could: there may be too many places, or a part whose
-/// places aren't those that its nodes have.
+/// Lays the places of nodes in postfix order, and says whether it could: there may be too many
+/// places, or a part that isn't laid here, as one that is repeated zero times.
 pub fn lay(
     rows: &mut Vec<u64>,
     classes: &mut Vec<Class>,

@@ -81,7 +81,11 @@ impl Machine {
         ensures behind { (text : List ℕ) → IsBehind self.now marks.old (byte ∷ text)
             ↔ IsBehind self.now marks.new text }
     {
-        marks.step(self.ready.follow.as_slice(), self.ready.classes.as_slice(), byte);
+        marks.step(
+            self.ready.follow.as_slice(),
+            self.ready.classes.as_slice(),
+            byte,
+        );
     }
 
     /// Whether a text may end here.

@@ -1,4 +1,5 @@
-ghost use Rattle.std.specs.Prelude.{◌≡◌, ◌+◌, ◌*◌, ◌^◌, ◌%◌, ◌<◌, ◌≤◌, ◌==◌, ◌&&◌, ◌||◌, true, false, ℕ, List, OnOk, length};
+ghost use Rattle.std.specs.Prelude.{◌≡◌, ◌+◌, ◌*◌, ◌^◌, ◌%◌, ◌<◌, ◌≤◌, ◌==◌, ◌&&◌, ◌||◌, true};
+ghost use Rattle.std.specs.Prelude.{false, ℕ, List, OnOk, length};
 ghost use Rattle.pattern_match.specs.Automaton.{Automaton, copy_before, looped, both_live, either};
 ghost use Rattle.pattern_match.specs.declared.class.Class as kind;
 ghost use Rattle.pattern_match.specs.Segments.{in_word};
@@ -7,8 +8,8 @@ ghost use Rattle.pattern_match.specs.Layouts.{AreGrown, AreLinked, Stands, furth
 use crate::class::Class;
 use label_base::OutOfMemory;
 
-/// A part of a pattern, whose places stand one behind the other from a place on: those that may take a first byte and those
-/// behind which a text may end, as bits.
+/// A part of a pattern, whose places stand one behind the other from a place on: those that may take
+/// a first byte and those behind which a text may end, as bits.
 #[derive(Clone, Copy)]
 pub struct Segment {
     pub start: usize,

@@ -1,4 +1,4 @@
-use Rattle.std.proofs.Common.{◌≡◌, ◌∙◌, ◌+◌, ◌-◌, Some, None, ap, sym, subst, arith}
+use Rattle.std.proofs.Common.{◌≡◌, ◌∙◌, ◌-◌, Some, ap, sym, subst, arith}
 use Rattle.pattern_match.specs.Automaton.{repeat_places}
 use Rattle.pattern_match.specs.Layouts.{StandCopies, Stands, copies_of}
 use Rattle.pattern_match.proofs.Repeats.{repeated_places, repeated_stands}

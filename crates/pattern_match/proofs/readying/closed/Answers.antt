@@ -1,4 +1,4 @@
-use Rattle.std.proofs.Common.{◌≡◌, ◌∙◌, sym, length, arith}
+use Rattle.std.proofs.Common.{◌∙◌, sym, arith}
 use Rattle.pattern_match.proofs.Closed.{bare_ready, closed_ready}
 use Rattle.pattern_match.proofs.readying.closed.Goals as goal
 
