@@ -83,11 +83,11 @@ module _ (rules : List Rule) (count : ℕ) where
 
 -- ---- a chain is gone through
 
-linked : (found : Option ℕ) (i : ℕ) → suc i ≡ link found → found ≡ Some i
+pub linked : (found : Option ℕ) (i : ℕ) → suc i ≡ link found → found ≡ Some i
 linked None i e = absurd (omega (arith, e))
 linked (Some j) i e = ap Some (omega (arith, e))
 
-unlinked : (found : Option ℕ) → 0 ≡ link found → found ≡ None
+pub unlinked : (found : Option ℕ) → 0 ≡ link found → found ≡ None
 unlinked None e = refl
 unlinked (Some j) e = absurd (omega (arith, e))
 

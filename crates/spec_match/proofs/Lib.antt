@@ -5,6 +5,9 @@ pub mod ListLemmas
 pub mod AliveLemmas
 pub mod AnswerLemmas
 pub mod SteppingLemmas
+pub mod PickedLemmas
+pub mod FoundLemmas
+pub mod FrontLemmas
 pub mod RelevantLemmas
 pub mod TableLemmas
 pub mod TrailLemmas

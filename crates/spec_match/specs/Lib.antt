@@ -14,3 +14,5 @@ pub mod Scratches
 pub mod Workspaces
 pub mod Carrying
 pub mod Chains
+pub mod Fronts
+pub mod Found

@@ -1,9 +1,10 @@
 -- What look-ups work in.
-use Rattle.std.specs.Prelude.{◌≡◌, false, List, [], map}
+use Rattle.std.specs.Prelude.{◌≡◌, ℕ, Bool, false, List, [], map}
 use Rattle.pattern_match.specs.States.{Progress}
 use Rattle.pattern_syntax.specs.Tree.{Tree}
 use Rattle.spec_reader.specs.SpecValue.{SpecValue}
 use Rattle.spec_match.specs.Alive.{Alive}
+use Rattle.spec_match.specs.Fronts.{AreFrontsIf}
 use Rattle.spec_match.specs.Listed.{IsListed}
 use Rattle.spec_match.specs.Remembering.{Kept, IsTableOf}
 use Rattle.spec_match.specs.Trail.{IsTrail, Trace}
@@ -21,11 +22,13 @@ pub record IsTableReady (patterns : List Tree) (specs : List SpecValue) (all : R
   pub draft : all.draft ≡ []
   pub trail : IsTrail (IsListed all.table.cuts patterns specs) all.table.lists all.trail
 
--- states for each pattern, a table, and one whose lists are whole
+-- states for each pattern, a table, one whose lists are whole, and the fronts of literal starts, if they were made
 pub record Room : Type 0 where
   pub states : List Progress
   pub table : Remembered
   pub whole : Remembered
+  pub are_made : Bool
+  pub fronts : List ℕ
 
 pub record IsReady (patterns : List Tree) (specs : List SpecValue) (room : Room)
     : Type 0 where
@@ -33,6 +36,7 @@ pub record IsReady (patterns : List Tree) (specs : List SpecValue) (room : Room)
   pub table : IsTableReady patterns specs room.table
   pub whole : IsTableReady patterns specs room.whole
   pub is_whole : room.whole.table.cuts ≡ false
+  pub fronts : AreFrontsIf patterns room.are_made room.fronts
 
 -- the scratch was made for this list
 unfoldable pub IsScratchOf : List SpecValue → Room → Type 0

@@ -17,6 +17,8 @@ room_in w = record {
   states = w.states.items;
   table = remembered_in w.table;
   whole = remembered_in w.whole;
+  are_made = w.fronts.are_made;
+  fronts = w.fronts.keys.items;
 }
 
 -- look-ups in these specifications may work in it

@@ -6,6 +6,7 @@ mod carried;
 #[cfg(test)]
 mod carried_tests;
 mod carrying;
+mod fronts;
 mod lists;
 mod members;
 mod pattern_test;

@@ -8,6 +8,7 @@ ghost use Rattle.spec_match.specs.StatesFor.{AreStatesFor, patterns_of, spec_in}
 ghost use Rattle.spec_match.specs.Scratches.{IsScratchOf};
 ghost use Rattle.spec_match.specs.Tables.{kept_in};
 
+use crate::fronts::Fronts;
 use crate::rule::Rule;
 use crate::scratch::Scratch;
 use crate::starts::Starts;
@@ -183,7 +184,9 @@ impl RuleSet {
         ensures value { IfOk result (λ found.
             found.items ≡ relevant_at (path_of path.now) self.now) }
     {
-        scratch.room.relevant(alloc, self.rules.as_slice(), path)
+        scratch
+            .room
+            .relevant(alloc, self.rules.as_slice(), &self.starts, path)
     }
 }
 
@@ -210,6 +213,7 @@ impl Scratch {
             states: states_of(alloc, rules.rules.as_slice())?,
             table: Table::new(alloc, true, lists, members, words)?,
             whole: whole_table(alloc, lists, members, words)?,
+            fronts: Fronts::new(alloc),
             tried: 0,
         };
         Ok(Scratch {

@@ -1,14 +1,18 @@
-ghost use Rattle.std.specs.Prelude.{◌≡◌, ◌<◌, ◌%◌, ◌^◌, ◌&&◌, ◌==◌, IfOk, length, map};
+ghost use Rattle.std.specs.Prelude.{◌≡◌, ◌<◌, ◌%◌, ◌^◌, ◌&&◌, ◌==◌, IfOk, OnOk, length, map};
+ghost use Rattle.file_paths.specs.PathRef.{path_of};
 ghost use Rattle.label_base.specs.Bounded.{greatest_below};
 ghost use Rattle.spec_match.specs.Chains.{AreStartsOf, fits_from, hashed, is_in, mixed};
 ghost use Rattle.pattern_match.specs.States.{AreStatesOf};
 ghost use Rattle.pattern_syntax.specs.Literal.{literal_start_of};
+ghost use Rattle.spec_match.specs.Found.{AreAddedAbove, AreAddedIn};
 ghost use Rattle.spec_match.specs.LastMatch.{fits};
 ghost use Rattle.spec_match.specs.Remembering.{IsAnswer};
 ghost use Rattle.spec_match.specs.StatesFor.{AreStatesFor, patterns_of, spec_in};
 
 use crate::answering::is_fit;
+use crate::relevant::try_from;
 use crate::rule::Rule;
+use file_paths::PathRef;
 use label_base::{Asked, OutOfMemory, greater};
 use pattern_match::States;
 use std::alloc::Global;
@@ -30,7 +34,7 @@ pub struct Starts {
 
 // The hash of a text with a byte more.
 #[tactic(auto, unfolding(crate::specs::Chains::mixed))]
-fn mixed(hash: u64, byte: u8) -> u64
+pub fn mixed(hash: u64, byte: u8) -> u64
     requires { hash < 2 ^ 32 }
     ensures value { result ≡ mixed hash byte }
     ensures bound { result < 2 ^ 32 }
@@ -144,5 +148,64 @@ impl Starts {
             found = greater(found, other);
         }
         found
+    }
+
+    // Adds those in a bucket that can decide at or below a path, and whose literal start has so many bytes.
+    fn add_in(
+        &self,
+        rules: &[Rule],
+        states: &mut Vec<States>,
+        bucket: usize,
+        at: usize,
+        path: &PathRef<'_>,
+        found: &mut Vec<u32>,
+        tried: &mut u64,
+    ) -> Result<(), OutOfMemory>
+        requires count { length rules.now < 2 ^ 32 }
+        requires starts { AreStartsOf rules.now self.now }
+        requires bucket { bucket < length self.now.heads.items }
+        requires states { AreStatesFor (patterns_of rules.now) states.old.items }
+        ensures states { AreStatesFor (patterns_of rules.now) states.new.items }
+        ensures added { OnOk result (AreAddedIn (path_of path.now) rules.now
+            (length self.now.heads.items) bucket at found.old.items found.new.items) }
+    {
+        let mut next = self.heads[bucket] as usize;
+        'chain: while next > 0 {
+            let i = next - 1;
+            try_from(rules, states, at, i, path, found, tried)?;
+            next = self.previous[i] as usize;
+        }
+        Ok(())
+    }
+
+    /// Adds the specifications that can decide at or below a path, of those with whose pattern's start a text begins.
+    /// Answers the text's hash.
+    pub fn add_above(
+        &self,
+        rules: &[Rule],
+        states: &mut Vec<States>,
+        text: &[u8],
+        path: &PathRef<'_>,
+        found: &mut Vec<u32>,
+        tried: &mut u64,
+    ) -> Result<u64, OutOfMemory>
+        requires count { length rules.now < 2 ^ 32 }
+        requires starts { AreStartsOf rules.now self.now }
+        requires states { AreStatesFor (patterns_of rules.now) states.old.items }
+        ensures states { AreStatesFor (patterns_of rules.now) states.new.items }
+        ensures added { OnOk result (AreAddedAbove (path_of path.now) rules.now text.now
+            found.old.items found.new.items) }
+        ensures hash { IfOk result (λ hash. hash ≡ hashed 0 text.now) }
+        ensures bound { IfOk result (λ hash. hash < 2 ^ 32) }
+    {
+        let count = self.heads.len() as u64;
+        let mut hash = 0u64;
+        self.add_in(rules, states, 0, 0, path, found, tried)?;
+        'bytes: for k in 0..text.len() {
+            hash = mixed(hash, text[k]);
+            let bucket = (hash % count) as usize;
+            self.add_in(rules, states, bucket, k + 1, path, found, tried)?;
+        }
+        Ok(hash)
     }
 }

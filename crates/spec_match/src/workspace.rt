@@ -11,8 +11,9 @@ ghost use Rattle.spec_match.specs.StatesFor.{patterns_of, spec_in};
 ghost use Rattle.spec_match.specs.Workspaces.{IsWorkspaceFor};
 
 use crate::carrying::first_child_fit;
+use crate::fronts::Fronts;
 use crate::members::Members;
-use crate::relevant::{all_relevant, listed_relevant};
+use crate::relevant::{listed_relevant, relevant_by_starts};
 use crate::rule::Rule;
 use crate::starts::Starts;
 use crate::table::Table;
@@ -27,6 +28,7 @@ pub struct Workspace {
     pub(crate) table: Table,
     // Its lists are whole, since each specification can decide below a path, whether a later one hides it or not.
     pub(crate) whole: Table,
+    pub(crate) fronts: Fronts,
     // How many specifications were tried by themselves.
     pub(crate) tried: u64,
 }
@@ -38,6 +40,7 @@ impl Drop for Workspace {
             states: _,
             table: _,
             whole: _,
+            fronts: _,
             tried: _,
         } = self;
     }
@@ -90,14 +93,44 @@ impl Workspace {
         )
     }
 
-    /// The specifications that can decide at or below a path, by the table where it has room, else each by itself.
+    // The specifications that can decide at or below a path, by the starts of the patterns.
+    fn relevant_by_starts(
+        &mut self,
+        alloc: Global,
+        rules: &[Rule],
+        starts: &Starts,
+        path: &PathRef<'_>,
+    ) -> Result<Vec<u32>, OutOfMemory>
+        requires count { length rules.now < 2 ^ 32 }
+        requires starts { AreStartsOf rules.now starts.now }
+        requires ready { IsWorkspaceFor rules.now self.old }
+        ensures ready { IsWorkspaceFor rules.now self.new }
+        ensures value { IfOk result (λ found. found.items
+            ≡ relevant_at (path_of path.now) (map spec_in rules.now)) }
+    {
+        self.fronts.prepare(alloc, rules)?;
+        relevant_by_starts(
+            alloc,
+            rules,
+            starts,
+            self.fronts.keys.as_slice(),
+            &mut self.states,
+            path,
+            &mut self.tried,
+        )
+    }
+
+    /// The specifications that can decide at or below a path, by the table where it has room, else by the starts of the
+    /// patterns.
     pub fn relevant(
         &mut self,
         alloc: Global,
         rules: &[Rule],
+        starts: &Starts,
         path: &PathRef<'_>,
     ) -> Result<Vec<u32>, OutOfMemory>
         requires count { length rules.now < 2 ^ 32 }
+        requires starts { AreStartsOf rules.now starts.now }
         requires ready { IsWorkspaceFor rules.now self.old }
         ensures ready { IsWorkspaceFor rules.now self.new }
         ensures value { IfOk result (λ found. found.items
@@ -112,7 +145,7 @@ impl Workspace {
                 list,
                 path.names() == 0,
             ),
-            None => all_relevant(alloc, rules, &mut self.states, path),
+            None => self.relevant_by_starts(alloc, rules, starts, path),
         }
     }
 }

@@ -14,3 +14,6 @@ relevant-requires-clause-ready c =
 pub returns-clause-own : goal.returns-clause-own
 returns-clause-own c =
     scratch_of c.self.inside.rules.items c.args.self.now c.self.view_is c.relevant.new.self (rw c.as_slice.ensures.value at c.relevant.ensures.ready)
+
+pub relevant-requires-clause-starts : goal.relevant-requires-clause-starts
+relevant-requires-clause-starts c = rw c.as_slice.ensures.value c.self.invariant.starts
