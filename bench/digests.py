@@ -2,12 +2,14 @@
 """Writes into a folder what makes digests dear: `fc` with the specifications, and `records`.
 
     digests.py FOLDER names N       N exact names, each in a directory of its own
-    digests.py FOLDER lists N       N directories in a folder with a specification of its own among 5,600, named so that
-                                    each leads to lists of specifications that no other does
-    digests.py FOLDER folders N     N directories in 2,790 folders, each of which has a specification among 5,600
+    digests.py FOLDER lists N       N directories in a folder with a specification of its own among
+                                    5,600, each named so that it leads to lists of specifications
+                                    that no other does
+    digests.py FOLDER folders N     N directories in 2,790 folders, each of which has a specification
+                                    among 5,600
 
-In the folder, `relabel restorecon -R -D -S fc -o dump / < records` makes a digest for each directory. The same words
-give the same bytes.
+In the folder, `relabel restorecon -R -D -S fc -o dump / < records` makes a digest for each
+directory. The same words give the same bytes.
 """
 
 import random
@@ -27,9 +29,11 @@ def names(count):
 
 
 def lists(count):
-    """What the specification has seen of a name's last twenty letters is another set of places for each name."""
+    """Which of a name's last letters are an a is another set of the pattern's places for each."""
     generator = random.Random(count)
-    folders = [f"{OWN}/{generator.getrandbits(24):024b}".replace("0", "a").replace("1", "b") for _ in range(count)]
+    letters = str.maketrans("01", "ab")
+    numbers = [f"{generator.getrandbits(24):024b}" for _ in range(count)]
+    folders = [f"{OWN}/{number.translate(letters)}" for number in numbers]
     line = f"{OWN}/[^/]*a[^/]{{20}}(/.*)?\t\tsystem_u:object_r:own_t:s0"
     return [*realistic.policy(), line], [OWN, *sorted(set(folders))], "file"
 
