@@ -5,8 +5,8 @@
     digests.py FOLDER lists N       N directories in a folder with a specification of its own among
                                     5,600, each named so that it leads to lists of specifications
                                     that no other does
-    digests.py FOLDER folders N     N directories in 2,790 folders, each of which has a specification
-                                    among 5,600
+    digests.py FOLDER folders N     N directories in 2,790 folders, each with a specification of
+                                    its own among 5,600
 
 In the folder, `relabel restorecon -R -D -S fc -o dump / < records` makes a digest for each
 directory. The same words give the same bytes.

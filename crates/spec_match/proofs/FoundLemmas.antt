@@ -1,5 +1,5 @@
 -- The specifications that can decide at or below a path are found one after the other.
-use Rattle.std.proofs.Common.{◌≡◌, ◌∙◌, refl, sym, ap, subst, ℕ, zero, suc, ◌+◌, ◌<◌, ◌≤◌, ◌⊎◌, inl, inr, Bool, true, false, cond, List, [], ◌∷◌, ◌++◌, Option, Some, None, length, length-append, get_or, map, take, eq-eqb, arith}
+use Rattle.std.proofs.Common.{◌≡◌, ◌∙◌, refl, sym, ap, subst, ℕ, zero, suc, ◌+◌, ◌<◌, ◌≤◌, ◌⊎◌, inl, inr, Bool, true, false, cond, List, [], ◌∷◌, ◌++◌, Some, length, length-append, get_or, map, take, eq-eqb, arith}
 use Rattle.std.specs.Prelude.{slice_get}
 use Rattle.std.specs.List.{Contains, dedup}
 use Rattle.std.specs.List.Sorted.{IsPermutation, IsSorted}
@@ -193,7 +193,7 @@ module _ (path : Path) (rules : List Rule) (text : List ℕ) where
       (λ j r d. elim (before_or_last r.0 k (let l = r.1 in omega (arith, l))) [
         | inl low ↦ inl (r.0, low, r.2, r.3)
         | inr last ↦ (let h = in_front_of count j k (r.2 ∙ sym last) (subst (λ m. start_of rules j ≡ take m text) (sym last) r.3) in
-          inr (decides_within path rules j d, subst (λ q. is_in rules count q j ≡ true) (sym e) h.0, subst (λ q. starts_at rules q j ≡ true) (sym f) h.1))
+            inr (decides_within path rules j d, subst (λ q. is_in rules count q j ≡ true) (sym e) h.0, subst (λ q. starts_at rules q j ≡ true) (sym f) h.1))
       ])
       a i
 
@@ -210,7 +210,7 @@ module _ (path : Path) (rules : List Rule) (text : List ℕ) where
       (λ j. (rest : List ℕ) × (text ≡ literal_start_of (pattern_at (patterns_of rules) j) ++ rest))
       old new
       (λ j q d.
-        let start = literal_start_of (pattern_at (patterns_of rules) j) in
-        let size = ap (λ (w : List ℕ). length w) q.1 ∙ length-append start q.0 in
-        (length start, omega (arith, size, end), refl, sym (ap (take (length start)) q.1 ∙ take-append_seam start q.0)))
+      let start = literal_start_of (pattern_at (patterns_of rules) j) in
+      let size = ap (λ (w : List ℕ). length w) q.1 ∙ length-append start q.0 in
+      (length start, omega (arith, size, end), refl, sym (ap (take (length start)) q.1 ∙ take-append_seam start q.0)))
       a

@@ -1,6 +1,6 @@
 -- The fronts of literal starts that end with a slash, by their hashes.
-use Rattle.std.proofs.Common.{◌≡◌, ◌∙◌, refl, sym, ap, subst, ℕ, zero, suc, ◌+◌, ◌*◌, ◌/◌, ◌%◌, ◌^◌, ◌<◌, ◌≤◌, ◌==◌, ◌⊎◌, inl, inr, Bool, true, false, List, [], ◌∷◌, ◌++◌, Option, Some, None, length, get_or, map, drop, append_assoc, append-nil, arith}
-use Rattle.std.specs.Prelude.{if◌then◌else◌, slice_index}
+use Rattle.std.proofs.Common.{◌≡◌, ◌∙◌, refl, sym, ap, subst, ℕ, zero, suc, ◌+◌, ◌/◌, ◌%◌, ◌^◌, ◌<◌, ◌≤◌, ◌⊎◌, inl, inr, List, [], ◌∷◌, ◌++◌, Some, length, get_or, map, drop, append_assoc, append-nil, arith}
+use Rattle.std.specs.Prelude.{slice_index}
 use Rattle.std.specs.List.{Contains}
 use Rattle.std.specs.List.Sorted.{IsNonDecreasing, IsNonDecreasingBy}
 use Rattle.std.proofs.lemmas.Bool.{cases_lt}
@@ -10,9 +10,8 @@ use Rattle.file_paths.specs.Path.{Path, path_text}
 use Rattle.file_paths.specs.declared.path.TheConstants.{SLASH}
 use Rattle.pattern_match.proofs.Cutting.{cut_behind_start}
 use Rattle.pattern_match.proofs.Quotients.{below_tells}
-use Rattle.pattern_match.specs.Quotients.{holds_below}
 use Rattle.pattern_match.specs.States.{Below}
-use Rattle.pattern_syntax.specs.Language.{In, Opens}
+use Rattle.pattern_syntax.specs.Language.{Opens}
 use Rattle.pattern_syntax.specs.Literal.{literal_start_of}
 use Rattle.pattern_syntax.specs.Tree.{Tree, Nothing}
 use Rattle.spec_match.specs.Alive.{pattern_at}

@@ -1,5 +1,5 @@
--- How the specifications that can decide at or below a path are found: by the bytes that the texts of their patterns begin
--- with.
+-- How the specifications that can decide at or below a path are found: by the bytes that the texts
+-- of their patterns begin with.
 use Rattle.std.specs.Prelude.{◌≡◌, ℕ, ◌+◌, ◌<◌, ◌%◌, true, List, [], ◌∷◌, ◌++◌, length, map, Some, slice_get}
 use Rattle.std.specs.List.{Contains}
 use Rattle.file_paths.specs.Path.{Path, path_text}

@@ -1,4 +1,5 @@
--- The fronts of literal starts that end with a slash, each as its hash and the index of its specification.
+-- The fronts of literal starts that end with a slash, each as its hash and the index of its
+-- specification.
 use Rattle.std.specs.Prelude.{◌≡◌, ℕ, ◌+◌, ◌*◌, ◌==◌, Bool, true, List, [], ◌∷◌, ◌++◌, if◌then◌else◌}
 use Rattle.std.specs.List.Sorted.{IsNonDecreasing, IsPermutation}
 use Rattle.file_paths.specs.declared.path.TheConstants.{SLASH}

@@ -22,7 +22,8 @@ pub record IsTableReady (patterns : List Tree) (specs : List SpecValue) (all : R
   pub draft : all.draft ≡ []
   pub trail : IsTrail (IsListed all.table.cuts patterns specs) all.table.lists all.trail
 
--- states for each pattern, a table, one whose lists are whole, and the fronts of literal starts, if they were made
+-- states for each pattern, a table, one whose lists are whole, and the fronts of literal starts, if
+-- they were made
 pub record Room : Type 0 where
   pub states : List Progress
   pub table : Remembered

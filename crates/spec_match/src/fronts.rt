@@ -2,7 +2,8 @@ ghost use Rattle.std.specs.Prelude.{◌≡◌, ◌<◌, ◌≤◌, ◌/◌, ◌^
 ghost use Rattle.std.specs.List.Sorted.{IsNonDecreasing};
 ghost use Rattle.file_paths.specs.PathRef.{path_of};
 ghost use Rattle.spec_match.specs.Found.{AreAddedBelow, IsAddedOf};
-ghost use Rattle.spec_match.specs.Fronts.{AreFronts, AreFrontsIf, all_keys, front_key, front_keys, key_if};
+ghost use Rattle.spec_match.specs.Fronts.{AreFronts, AreFrontsIf, all_keys};
+ghost use Rattle.spec_match.specs.Fronts.{front_key, front_keys, key_if};
 ghost use Rattle.spec_match.specs.StatesFor.{AreStatesFor, patterns_of};
 
 use crate::relevant::try_rule;
@@ -16,9 +17,9 @@ use std::alloc::Global;
 // A hash is below it, and so is an index.
 const SPAN: u64 = 4_294_967_296;
 
-/// Specifications by the fronts of their literal starts that end with a slash, so that those are found whose texts all lie
-/// below a path: for each front its hash and the specification's index as one number. They are made where they are first
-/// wanted.
+/// Specifications by the fronts of their literal starts that end with a slash, so that those are
+/// found whose texts all lie below a path: for each front its hash and the specification's index as
+/// one number. They are made where they are first wanted.
 #[derive(Drop)]
 pub struct Fronts {
     pub(crate) are_made: bool,
@@ -122,7 +123,8 @@ fn try_key(
     try_rule(rules, states, i, path, found, tried)
 }
 
-/// Adds the specifications that can decide at or below a path, of those that have a front with a hash.
+/// Adds the specifications that can decide at or below a path, of those that have a front with a
+/// hash.
 pub fn add_below(
     keys: &[u64],
     rules: &[Rule],

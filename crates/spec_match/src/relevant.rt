@@ -97,8 +97,8 @@ fn in_order(mut found: Vec<u32>) -> Vec<u32>
     found
 }
 
-/// The indices of the specifications that can decide at or below a path, in ascending order: those are tried whose texts
-/// begin as it does.
+/// The indices of the specifications that can decide at or below a path, in ascending order: those
+/// are tried whose texts begin as it does.
 pub fn relevant_by_starts(
     alloc: Global,
     rules: &[Rule],

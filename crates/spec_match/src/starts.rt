@@ -150,7 +150,8 @@ impl Starts {
         found
     }
 
-    // Adds those in a bucket that can decide at or below a path, and whose literal start has so many bytes.
+    // Adds those in a bucket that can decide at or below a path, and whose literal start has so many
+    // bytes.
     fn add_in(
         &self,
         rules: &[Rule],
@@ -178,8 +179,8 @@ impl Starts {
         Ok(())
     }
 
-    /// Adds the specifications that can decide at or below a path, of those with whose pattern's start a text begins.
-    /// Answers the text's hash.
+    /// Adds the specifications that can decide at or below a path, of those with whose pattern's
+    /// start a text begins. Answers the text's hash.
     pub fn add_above(
         &self,
         rules: &[Rule],

@@ -61,6 +61,29 @@ fn one_of_a_thousand_is_tried(rt: HostRuntime) {
     assert_eq!(rt; tried_by_path(rt.alloc()), Some((Some(5), 1)));
 }
 
+// How many specifications can decide at or below a path, and how many were tried for it, where the
+// tables have no room.
+fn tried_for_relevant(alloc: Global, path: &[u8]) -> Option<(usize, u64)> {
+    let rules = thousand_rules(alloc)?;
+    let path = NormPath::read(alloc, path).ok()?;
+    let mut scratch = Scratch::with_room(alloc, &rules, 0, 0, 0).ok()?;
+    let found = rules.relevant(alloc, &mut scratch, &path.path()).ok()?;
+    Some((found.len(), scratch.tried()))
+}
+
+#[test]
+fn what_begins_otherwise_is_not_tried_for_a_digest(rt: HostRuntime) {
+    for (path, count) in [
+        (b"/".as_slice(), 1000usize),
+        (b"/s5", 1),
+        (b"/s5/x", 1),
+        (b"/s", 0),
+    ] {
+        let tried = tried_for_relevant(rt.alloc(), path);
+        assert!(rt; tried == Some((count, count as u64)));
+    }
+}
+
 fn last_child_match<L: Ledger>(
     rules: &RuleSet,
     carried: &Carried,

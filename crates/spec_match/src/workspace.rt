@@ -120,8 +120,8 @@ impl Workspace {
         )
     }
 
-    /// The specifications that can decide at or below a path, by the table where it has room, else by the starts of the
-    /// patterns.
+    /// The specifications that can decide at or below a path, by the table where it has room, else
+    /// by the starts of the patterns.
     pub fn relevant(
         &mut self,
         alloc: Global,

@@ -1,4 +1,4 @@
-use Rattle.std.proofs.Common.{◌≡◌, ◌∙◌, ap, arith, sym}
+use Rattle.std.proofs.Common.{◌≡◌, ◌∙◌, ap, arith}
 use Rattle.pattern_syntax.specs.Literal.{literal_start_of}
 use Rattle.spec_match.specs.Alive.{pattern_at}
 use Rattle.spec_match.specs.Fronts.{all_keys}

@@ -1,9 +1,9 @@
-use Rattle.std.proofs.Common.{◌≡◌, ◌%◌, arith, map, sym}
+use Rattle.std.proofs.Common.{◌≡◌, ◌%◌, map, sym}
 use Rattle.std.proofs.lemmas.Result.{on_ok_weaker}
 use Rattle.file_paths.specs.PathRef.{path_of}
 use Rattle.spec_match.specs.StatesFor.{spec_in}
 use Rattle.spec_match.specs.declared.fronts.TheConstants.{SPAN}
-use Rattle.spec_match.proofs.FoundLemmas.{added_as, added_none, decides_within}
+use Rattle.spec_match.proofs.FoundLemmas.{added_as}
 use Rattle.spec_match.proofs.fronts.try_key.Goals as goal
 
 pub returns-clause-added : goal.returns-clause-added

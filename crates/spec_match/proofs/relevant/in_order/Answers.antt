@@ -1,4 +1,3 @@
-use Rattle.std.proofs.Common.{List}
 use Rattle.std.proofs.lemmas.List.Filters.{dedup_is}
 use Rattle.spec_match.proofs.FoundLemmas.{found_sorted}
 use Rattle.spec_match.proofs.relevant.in_order.Goals as goal

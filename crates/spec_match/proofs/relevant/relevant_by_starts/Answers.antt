@@ -1,4 +1,4 @@
-use Rattle.std.proofs.Common.{◌≡◌, ◌∙◌, map}
+use Rattle.std.proofs.Common.{map}
 use Rattle.file_paths.specs.PathRef.{path_of}
 use Rattle.spec_match.specs.StatesFor.{spec_in}
 use Rattle.spec_match.proofs.FrontLemmas.{all_found}
