@@ -150,8 +150,8 @@ impl Starts {
         found
     }
 
-    // Adds those in a bucket that can decide at or below a path, and whose literal start has so many
-    // bytes.
+    // Adds those in a bucket that can decide at or below a path, and whose literal start has so
+    // many bytes.
     fn add_in(
         &self,
         rules: &[Rule],
