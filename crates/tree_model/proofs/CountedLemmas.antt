@@ -3,7 +3,7 @@ use Rattle.std.proofs.Common.{◌≡◌, ◌∙◌, ap, ap₂, sym, refl, subst,
 use Rattle.std.specs.Prelude.{◌&&◌, ◌||◌, nat_le, nat_lt, Option, Some, None, is_some, slice_get}
 use Rattle.std.proofs.lemmas.Bool.{cases_eq}
 use Rattle.std.proofs.lemmas.List.{length-map}
-use Rattle.label_base.specs.Bounded.{all_below, all_numbers, implies}
+use Rattle.label_base.specs.Bounded.{all_numbers, implies}
 use Rattle.label_base.proofs.BoundedLemmas.{all_from, all_same, count_numbers}
 use Rattle.find_records.specs.Record.{Record}
 use Rattle.tree_model.specs.Counted.{AreClosedFrom, AreUncounted, names_flags}

@@ -1,5 +1,5 @@
 -- The entries of a tree of records of a format are of it.
-use Rattle.std.proofs.Common.{◌≡◌, ℕ, zero, suc, ◌<◌, refl, sym, subst, List, [], ◌∷◌, length, arith}
+use Rattle.std.proofs.Common.{ℕ, zero, suc, ◌<◌, refl, sym, subst, List, [], ◌∷◌, length, arith}
 use Rattle.std.specs.Prelude.{Contains, get_or}
 use Rattle.std.specs.List.{AllByRecursion}
 use Rattle.std.proofs.lemmas.List.Elements.{All-contains, All-from_recursion, Contains-append_right, Contains-append_left}

@@ -1,8 +1,7 @@
 -- Groups are inodes, numbered by their first entries.
-use Rattle.std.proofs.Common.{◌≡◌, ◌∙◌, ap, sym, refl, subst, ℕ, zero, suc, ◌<◌, ◌≤◌, ◌==◌, Bool, true, false, List, [], ◌∷◌, length, map, get_or, arith, ◌⊎◌, inl, inr}
+use Rattle.std.proofs.Common.{◌≡◌, ◌∙◌, ap, sym, refl, subst, ℕ, zero, suc, ◌<◌, ◌≤◌, Bool, true, false, List, [], ◌∷◌, length, map, get_or, arith, ◌⊎◌, inl, inr}
 use Rattle.std.specs.Prelude.{not}
 use Rattle.std.specs.List.{list_any, position_or_len}
-use Rattle.std.proofs.lemmas.Bool.{eqb-true, and_parts}
 use Rattle.std.proofs.lemmas.List.{length-map}
 use Rattle.std.proofs.lemmas.List.Sums.{prefix_len-le-length}
 use Rattle.find_records.specs.Record.{Record}
@@ -12,6 +11,7 @@ use Rattle.tree_model.specs.GroupLists.{groups_behind}
 use Rattle.tree_model.specs.Laws.{GroupsAreInodes, HasEntryBefore, TellOneInode}
 use Rattle.tree_model.specs.Links.{inode_of, same_inode}
 use Rattle.tree_model.proofs.GroupLemmas.{by_head, count_groups, group_at, group_inside, group_named, groups_of, name_here}
+use Rattle.tree_model.proofs.FirstLemmas.{exact}
 use Rattle.tree_model.proofs.NumberingLemmas.{Inode}
 
 abbrev place : Inode → List Inode → ℕ
@@ -21,13 +21,6 @@ place_within : (i : Inode) (seen : List Inode) → place i seen ≤ length seen
 place_within i seen = prefix_len-le-length (λ j. not (same_inode i j)) seen
 
 -- ---- one group, one inode
-
-exact : (a b : Inode) → same_inode a b ≡ true → a ≡ b
-exact a b h =
-    let both = and_parts (a.0 == b.0) (a.1 == b.1) h in
-    let first = eqb-true a.0 b.0 both.0 in
-    let second = eqb-true a.1 b.1 both.1 in
-    λ i. (first i, second i)
 
 read_case : (i x : Inode) (seen : List Inode) (b : Bool) → same_inode i x ≡ b → place i (x ∷ seen) < length (x ∷ seen)
     → (place i seen < length seen → get_or seen (place i seen) (0, 0) ≡ i) → get_or (x ∷ seen) (place i (x ∷ seen)) (0, 0) ≡ i

@@ -44,7 +44,7 @@ no_case : (p : Inode → Bool) (x : Inode) (xs : List Inode) (b : Bool) → p x 
 no_case p x xs true e h f = absurd (not_any p x xs h e)
 no_case p x xs false e h f = omega (arith, by_head p x xs false e, f (any_head p x xs false h e))
 
-no_place : (p : Inode → Bool) (xs : List Inode) → list_any p xs ≡ false → first_place p xs ≡ length xs
+pub no_place : (p : Inode → Bool) (xs : List Inode) → list_any p xs ≡ false → first_place p xs ≡ length xs
 no_place p [] h = refl
 no_place p (x ∷ xs) h = no_case p x xs (p x) refl h (no_place p xs)
 

@@ -27,6 +27,9 @@ pub mod NameLemmas
 pub mod GroupLemmas
 pub mod StartLemmas
 pub mod NumberingLemmas
+pub mod FirstLemmas
+pub mod BucketLemmas
+pub mod InOrderLemmas
 pub mod KnownLemmas
 pub mod UpLemmas
 pub mod PlaceLemmas

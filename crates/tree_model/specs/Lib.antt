@@ -11,6 +11,7 @@ pub mod Known
 pub mod Up
 pub mod Groups
 pub mod GroupLists
+pub mod Firsts
 pub mod RunLists
 pub mod Kept
 pub mod Selection

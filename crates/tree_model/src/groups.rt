@@ -1,22 +1,19 @@
-ghost use Rattle.std.specs.Prelude.{◌≡◌, ◌+◌, ◌-◌, ◌<◌, ◌≤◌, ◌^◌, ◌++◌, ◌||◌, [], false, is_some, length, take, drop, map, get_or, IfOk, OnOk};
-ghost use Rattle.std.specs.List.{position_or_len};
+ghost use Rattle.std.specs.Prelude.{◌≡◌, ℕ, ◌+◌, ◌-◌, ◌<◌, ◌≤◌, ◌^◌, ◌++◌, ◌∷◌, ◌||◌, List, [], false, is_some, length, take, drop, map, get_or, IfOk, OnOk};
+ghost use Rattle.tree_model.specs.Firsts.{count_next, firsts_of, group_next};
 ghost use Rattle.tree_model.specs.GroupLists.{AreGroups, AreHeads, AreNext, AreStarts, groups_behind, names_at, names_below, next_at};
 ghost use Rattle.tree_model.specs.Counted.{AreUncounted};
-ghost use Rattle.tree_model.specs.Groups.{groups_in, with_inode};
+ghost use Rattle.tree_model.specs.Groups.{groups_in, inodes_behind};
 ghost use Rattle.tree_model.specs.Kept.{KeepsGroups};
-ghost use Rattle.tree_model.specs.Links.{inode_of, same_inode};
+ghost use Rattle.tree_model.specs.Links.{inode_of};
 ghost use Rattle.tree_model.specs.Extents.{EndsFrom};
 ghost use Rattle.tree_model.specs.Tree.{ByPath};
 
 use crate::closed::closed_by;
 use crate::counted::clear_counted;
+use crate::firsts::{Inode, firsts_of};
 use crate::sorted::Sorted;
-use indexmap::IndexSet;
 use label_base::OutOfMemory;
 use std::alloc::Global;
-
-/// An inode by its device and its number there.
-pub type Inode = (u64, u64);
 
 /// The group of each entry, and how many groups there are.
 #[derive(Drop)]
@@ -27,21 +24,65 @@ pub struct Numbering {
     pub counted: bool,
 }
 
-// The number of an inode, which is added behind the others if it is new.
-fn number_of(seen: &mut IndexSet<Inode>, inode: Inode) -> Result<usize, OutOfMemory>
-    ensures number { IfOk result (λ number.
-        number ≡ position_or_len (same_inode inode) seen.old.keys) }
-    ensures seen { OnOk result (seen.new.keys ≡ with_inode seen.old.keys inode) }
-{
-    let (number, _) = seen.insert_full(inode)?;
-    Ok(number)
-}
-
 // Whether a link count was seen, or this is one.
 fn is_counted(counted: bool, links: Option<u64>) -> bool
     ensures { result ≡ (counted || is_some links) }
 {
     counted || links.is_some()
+}
+
+// The inodes of entries, and whether an entry has a link count.
+#[derive(Drop)]
+struct Inodes {
+    inodes: Vec<Inode>,
+    counted: bool,
+}
+
+fn list_inodes(alloc: Global, sorted: &Sorted) -> Result<Inodes, OutOfMemory>
+    ensures inodes { IfOk result (λ listed. listed.inodes.items ≡ map inode_of sorted.now) }
+    ensures counted { IfOk result (λ listed. listed.counted ≡ false → AreUncounted sorted.now) }
+{
+    let mut inodes = Vec::with_capacity(alloc, sorted.len() as usize)?;
+    let mut counted = false;
+    'entries: for e in 0..sorted.len() {
+        let entry = sorted.entry(e);
+        inodes.push((entry.device, entry.inode))?;
+        counted = is_counted(counted, entry.links);
+    }
+    Ok(Inodes { inodes, counted })
+}
+
+// Adds the group of the next entry: a new one, unless the first entry of its inode has one.
+fn push_group_of(group_of: &mut Vec<u32>, count: &mut u32, first: u32) -> Result<(), OutOfMemory>
+    requires { count.old < 2 ^ 32 - 1 }
+    ensures groups { OnOk result (group_of.new.items
+        ≡ group_of.old.items ++ group_next group_of.old.items count.old first ∷ []) }
+    ensures count { OnOk result (count.new ≡ count_next group_of.old.items count.old first) }
+{
+    if (first as usize) < group_of.len() {
+        let group = group_of[first as usize];
+        group_of.push(group)?;
+    } else {
+        group_of.push(*count)?;
+        *count += 1;
+    }
+    Ok(())
+}
+
+// The group of each entry, by the first entry of its inode, and how many groups there are.
+fn number_by(alloc: Global, firsts: &[u32]) -> Result<(Vec<u32>, u32), OutOfMemory>
+    requires { length firsts.now < 2 ^ 32 }
+    ensures groups { IfOk result (λ numbers. (inodes : List (ℕ × ℕ))
+        → firsts.now ≡ firsts_of inodes → numbers.0.items ≡ groups_behind [] inodes) }
+    ensures count { IfOk result (λ numbers. (inodes : List (ℕ × ℕ))
+        → firsts.now ≡ firsts_of inodes → numbers.1 ≡ length (inodes_behind [] inodes)) }
+{
+    let mut group_of = Vec::with_capacity(alloc, firsts.len())?;
+    let mut count = 0;
+    'entries: for first in firsts {
+        push_group_of(&mut group_of, &mut count, *first)?;
+    }
+    Ok((group_of, count))
 }
 
 /// Numbers the groups by their first entries.
@@ -56,19 +97,14 @@ pub fn number_groups(alloc: Global, sorted: &Sorted) -> Result<Numbering, OutOfM
     ensures counted { IfOk result (λ numbering.
         numbering.counted ≡ false → AreUncounted sorted.now) }
 {
-    let mut group_of = Vec::with_capacity(alloc, sorted.len() as usize)?;
-    let mut seen = IndexSet::with_capacity(alloc, sorted.len() as usize)?;
-    let mut counted = false;
-    'entries: for e in 0..sorted.len() {
-        let entry = sorted.entry(e);
-        let group = number_of(&mut seen, (entry.device, entry.inode))?;
-        group_of.push(group as u32)?;
-        counted = is_counted(counted, entry.links);
-    }
+    let _count = sorted.len();
+    let listed = list_inodes(alloc, sorted)?;
+    let firsts = firsts_of(alloc, listed.inodes.as_slice())?;
+    let (group_of, count) = number_by(alloc, firsts.as_slice())?;
     Ok(Numbering {
         group_of,
-        count: seen.len() as u32,
-        counted,
+        count,
+        counted: listed.counted,
     })
 }
 

@@ -10,6 +10,7 @@ mod counted;
 mod exclude;
 mod extents;
 mod fault;
+mod firsts;
 mod groups;
 mod guess;
 mod job_entries;

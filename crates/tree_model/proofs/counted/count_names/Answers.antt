@@ -1,6 +1,6 @@
 use Rattle.std.proofs.Common.{◌≡◌, ◌∙◌, ◌<◌, ap, sym, subst, arith, length, get_or}
 use Rattle.tree_model.specs.Groups.{group_of, groups_in, names_in}
-use Rattle.tree_model.proofs.KeptGroups.{IsPart, group_count, group_told, group_within, part_is}
+use Rattle.tree_model.proofs.KeptGroups.{group_count, group_told, group_within, part_is}
 use Rattle.tree_model.proofs.counted.count_names.Goals as goal
 
 pub word_at-group-requires : goal.word_at-group-requires
