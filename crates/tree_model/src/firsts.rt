@@ -13,7 +13,7 @@ pub type Inode = (u64, u64);
 // An odd number with its bits in no order.
 const MIX: u64 = 0x9E37_79B9_7F4A_7C15;
 
-// How many steps for an entry are gone along buckets, before all entries are put in an order instead.
+// How many steps for an entry are gone along buckets, before inodes are put in an order instead.
 const STEPS: u64 = 8;
 
 // The bucket of an inode, one of so many.
@@ -64,8 +64,8 @@ fn is_same_inode(inodes: &[Inode], a: u32, b: u32) -> bool
     device == other_device && number == other_number
 }
 
-// The first entry of the inode of an entry, found along the bucket of both. Where no steps are left, the
-// number of entries.
+// The first entry of the inode of an entry, found along the bucket of both. Where no steps are
+// left, the number of entries.
 fn first_along(entries: &Bucketed<'_>, e: u32, steps: &mut u64) -> u32
     requires bucketed { AreBucketed entries.now.inodes.now entries.now.buckets.now
         entries.now.first.now entries.now.next.now }
@@ -127,7 +127,8 @@ fn keep_first(kept: &mut BTreeMap<Inode, u32>, inodes: &[Inode], e: u32) -> Resu
     requires within { e < length inodes.now }
     requires put { ArePut inodes.now e kept.old }
     ensures put { OnOk result (ArePut inodes.now (e + 1) kept.new) }
-    ensures first { IfOk result (λ first. first ≡ first_of inodes.now (get_or inodes.now e (0, 0))) }
+    ensures first { IfOk result (λ first.
+        first ≡ first_of inodes.now (get_or inodes.now e (0, 0))) }
 {
     let inode = inodes[e as usize];
     if let Some(first) = kept.get(&inode) {
@@ -152,7 +153,7 @@ fn firsts_in_order(alloc: Global, inodes: &[Inode]) -> Result<Vec<u32>, OutOfMem
 
 /// The first entry of the inode of each entry.
 ///
-/// Whoever chooses inodes can choose some of one bucket, but no more steps than there is an order for.
+/// Whoever chooses inodes can choose many of one bucket: then it takes what an order takes.
 pub fn firsts_of(alloc: Global, inodes: &[Inode]) -> Result<Vec<u32>, OutOfMemory>
     requires { length inodes.now < 2 ^ 32 }
     ensures { IfOk result (λ firsts. firsts.items ≡ firsts_of inodes.now) }
