@@ -1,11 +1,15 @@
 #!/usr/bin/env python3
-"""Writes records whose inodes were chosen to make the numbering of groups slow to standard output.
+"""Writes records whose inodes were chosen to be slow to number to standard output.
 
-    inodes.py --same-hash N     N files: devices and inodes that the kit's fixed hash of pairs puts together
-    inodes.py --same-chain N    N files of one device, whose inodes tree_model mixes to one place
+    inodes.py --same-hash N     N files: devices and inodes that the kit's hash of a pair, which
+                                has no key, puts together
+    inodes.py --same-chain N    N files of one device, whose inodes tree_model mixes to one bucket
 
-Each stands in one directory. Nothing is random: the same words give the same bytes. `python3 bench/inodes.py --same-hash 80000` takes
-setfiles with `-n` and one specification as long as 80,000 other records.
+Each stands in one directory. The same words give the same bytes. To walk them is to take as long as
+to walk N other records:
+
+    inodes.py --same-chain 80000 >records; printf '/.* system_u:object_r:usr_t:s0\\n' >fc
+    time ./relabel setfiles -n fc / <records
 """
 
 import argparse
@@ -23,13 +27,13 @@ def folded(first, second):
 
 
 def same_hash(count):
-    """The kit's hash of a pair folds in its second part: that is 0 where the part is what the first was folded to."""
+    """The hash is 0 where the second part is what the first was folded to."""
     for device in range(count):
         yield device, folded(START ^ device, MIX ^ 16)
 
 
 def same_chain(count):
-    """The numbers that tree_model mixes to 0, 1, 2 ..: of these it takes the upper half, which is 0."""
+    """The numbers that tree_model mixes to 0, 1, 2 ..: it takes the upper half, which is 0."""
     back = pow(MIX, -1, WORD)
     for mixed in range(count):
         yield DEVICE, (mixed * back - DEVICE) * back % WORD
