@@ -1,14 +1,6 @@
 -- A row of texts, cut in two.
-use Rattle.std.proofs.Common.{◌≡◌, ◌∙◌, sym, refl, ap, ℕ, zero, suc, ◌+◌, ◌*◌, ◌/◌, ◌<◌, ◌≤◌, List, [], ◌++◌, arith, append-nil, append_assoc}
-use Rattle.std.proofs.Math.Nat.{div-mul-le_self, mul-le-mul_left}
-use Rattle.threaded_texts.specs.Stretch.{share_of, stretch}
-
--- a part of the workers has no more than all
-pub share_within : (count workers some : ℕ) → some ≤ workers → share_of count workers some ≤ count
-share_within count workers some few =
-    let part = mul-le-mul_left (count / workers) few in
-    let whole = div-mul-le_self count workers in
-    omega (arith, part, whole)
+use Rattle.std.proofs.Common.{◌≡◌, ◌∙◌, sym, ap, ℕ, zero, suc, ◌+◌, List, ◌++◌, arith, append-nil, append_assoc}
+use Rattle.threaded_texts.specs.Stretch.{stretch}
 
 -- so many texts, and others behind them
 pub stretch_more : (text : ℕ → List ℕ) (first m n : ℕ)
@@ -36,12 +28,12 @@ text_more text first n old before now so_far added =
     ∙ append_assoc old (stretch text first n) (text (first + n))
     ∙ ap (λ k. old ++ stretch text first k) (sym one)
 
--- two halves
-pub halves : (text : ℕ → List ℕ) (first front back count : ℕ) (to ahead behind made : List ℕ)
+-- two parts
+pub parted : (text : ℕ → List ℕ) (first front back count : ℕ) (to ahead behind made : List ℕ)
     → front + back ≡ count → ahead ≡ to ++ stretch text first front
     → behind ≡ stretch text (first + front) back → made ≡ ahead ++ behind
     → made ≡ to ++ stretch text first count
-halves text first front back count to ahead behind made all a b m =
+parted text first front back count to ahead behind made all a b m =
     m ∙ ap (λ t. t ++ behind) a ∙ append_assoc to (stretch text first front) behind
     ∙ ap (λ t. to ++ (stretch text first front ++ t)) b
     ∙ ap (λ t. to ++ t) (sym (stretch_more text first front back))

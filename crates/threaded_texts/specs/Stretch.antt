@@ -1,11 +1,7 @@
 -- Texts in a row.
-use Rattle.std.specs.Prelude.{ℕ, zero, suc, ◌+◌, ◌*◌, ◌/◌, List, [], ◌++◌}
+use Rattle.std.specs.Prelude.{ℕ, zero, suc, ◌+◌, List, [], ◌++◌}
 
 -- so many texts, from the one with the number first on
 abbrev pub stretch : (ℕ → List ℕ) → (first count : ℕ) → List ℕ
 stretch text first zero = []
 stretch text first (suc n) = stretch text first n ++ text (first + n)
-
--- how many of so many texts fall to some of the workers
-abbrev pub share_of : (count workers some : ℕ) → ℕ
-share_of count workers some = count / workers * some

@@ -1,6 +1,6 @@
 ghost use Rattle.std.specs.Prelude.{◌≡◌, ◌+◌, ◌<◌, ◌≤◌, ◌^◌, ◌++◌, [], IfOk};
 ghost use Rattle.std.specs.Thread.{IsSync};
-ghost use Rattle.threaded_texts.specs.Stretch.{share_of, stretch};
+ghost use Rattle.threaded_texts.specs.Stretch.{stretch};
 
 use crate::texts::Texts;
 use label_base::{Bytes, OutOfMemory};
@@ -9,6 +9,9 @@ use std::thread::{Threads, join};
 
 // About as many bytes as a text has.
 const TEXT_ROOM: usize = 64;
+
+/// The most workers that are at work at once: each is a call deep on the caller's stack.
+pub const MOST_AT_ONCE: u32 = 256;
 
 /// An empty text, with room for so many if there is: a text that grows step by step leaves its earlier places behind.
 pub fn text_for(alloc: Global, texts: u32) -> Bytes
@@ -39,20 +42,18 @@ fn add_stretch<T: Texts>(
     Ok(to)
 }
 
-// How many of so many texts fall to some of the workers.
-#[tactic(auto, using(crate::proofs::StretchLemmas::share_within))]
-fn share_of(count: u32, workers: u32, some: u32) -> u32
+// How many of so many texts fall to the last of the workers.
+fn last_share(count: u32, workers: u32) -> u32
     requires workers { 0 < workers }
-    requires some { some ≤ workers }
-    ensures value { result ≡ share_of count workers some }
-    ensures within { result ≤ count }
+    ensures { result ≤ count }
 {
-    count / workers * some
+    count / workers
 }
 
-// Adds so many texts, by two halves of the workers at once.
+// Adds so many texts: a thread makes those of the last worker, while the caller sees to those of
+// the others. So what each thread made is copied once.
 #[cycle(stretches)]
-fn add_halves<R: Threads + Sync, T: Texts + Sync>(
+fn add_parted<R: Threads + Sync, T: Texts + Sync>(
     rt: &R,
     alloc: Global,
     texts: &T,
@@ -66,34 +67,23 @@ fn add_halves<R: Threads + Sync, T: Texts + Sync>(
     requires workers { 1 < workers }
     ensures { IfOk result (λ made. made ≡ to ++ stretch (T.text texts.now) first count) }
 {
-    let behind = workers / 2;
-    let ahead = workers - behind;
-    let back = share_of(count, workers, behind);
+    let others = workers - 1;
+    let back = last_share(count, workers);
     let front = count - back;
     let middle = first + front;
     let (made_behind, made) = join(
         rt,
         || -> Result<Bytes, OutOfMemory>
-            requires { IsSync R.row × IsSync T.row × (middle + back ≤ T.count texts.now)
+            requires { IsSync T.row × (middle + back ≤ T.count texts.now)
                 × (middle + back < 2 ^ 32) }
             ensures { IfOk result (λ made. made ≡ stretch (T.text texts.entry.now) middle back) }
-        {
-            add_stretches(
-                rt,
-                alloc,
-                texts,
-                middle,
-                back,
-                behind,
-                text_for(alloc, back),
-            )
-        },
+        { add_stretch(alloc, texts, middle, back, text_for(alloc, back)) },
         || -> Result<Bytes, OutOfMemory>
             requires { IsSync R.row × IsSync T.row × (first + front ≤ T.count texts.now)
                 × (first + front < 2 ^ 32) }
             ensures { IfOk result (λ made.
                 made ≡ to ++ stretch (T.text texts.entry.now) first front) }
-        { add_stretches(rt, alloc, texts, first, front, ahead, to) },
+        { add_stretches(rt, alloc, texts, first, front, others, to) },
     );
     let mut made = made?;
     made.push(made_behind?.as_slice())?;
@@ -118,11 +108,12 @@ fn add_stretches<R: Threads + Sync, T: Texts + Sync>(
     if workers < 2 {
         return add_stretch(alloc, texts, first, count, to);
     }
-    add_halves(rt, alloc, texts, first, count, workers, to)
+    add_parted(rt, alloc, texts, first, count, workers, to)
 }
 
-/// Adds so many texts at the end of one, in the order of their numbers, by so many workers at once: each makes a stretch of
-/// them. Where no thread can be started, one after the other makes its own. It fails for want of memory alone.
+/// Adds so many texts at the end of one, in the order of their numbers, by so many workers at once,
+/// or [`MOST_AT_ONCE`]: each makes a stretch of them. Where no thread can be started, one after the
+/// other makes its own. It fails for want of memory alone.
 pub fn add_texts<R: Threads + Sync, T: Texts + Sync>(
     rt: &R,
     alloc: Global,
@@ -134,5 +125,5 @@ pub fn add_texts<R: Threads + Sync, T: Texts + Sync>(
     requires { count ≤ T.count texts.now }
     ensures { IfOk result (λ made. made ≡ to ++ stretch (T.text texts.now) 0 count) }
 {
-    add_stretches(rt, alloc, texts, 0, count, workers, to)
+    add_stretches(rt, alloc, texts, 0, count, workers.min(MOST_AT_ONCE), to)
 }
