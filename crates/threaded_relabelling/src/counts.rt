@@ -5,8 +5,9 @@ ghost use Rattle.threaded_relabelling.specs.Counts.{fewest_for, workers_for, wit
 use relabel_core::{Options, uses_digests};
 use tree_relabelling::MOST_WORKERS;
 
-/// The fewest entries of a tree for each of several workers where digests are made, which take longer than all else.
-pub const FEWEST_WITH_DIGESTS: u32 = 30_000;
+/// The fewest entries of a tree for each of several workers where digests are made, which take
+/// longer than all else; but each worker learns for itself what can decide in a directory.
+pub const FEWEST_WITH_DIGESTS: u32 = 60_000;
 
 /// The fewest where none are made: lines and sections alone take a fifth as long, and starting threads as long as before.
 pub const FEWEST: u32 = 100_000;
