@@ -450,12 +450,26 @@ static int open_part(int folder, struct text part, int flags)
     return openat(folder, name, O_NOFOLLOW | O_CLOEXEC | flags);
 }
 
+/* A folder that can be read, since its attributes are reached faster so, and else as a place. */
+static int open_readable(int above_it, struct text part)
+{
+    int opened = open_part(above_it, part, O_RDONLY | O_DIRECTORY);
+
+    return opened < 0 && errno == EACCES ? open_part(above_it, part, O_PATH | O_DIRECTORY) : opened;
+}
+
 /* Removes a directory's digest; false where it has one that stays. */
 static bool clear_digest(int folder)
 {
-    if (getxattr(name_of(folder), DIGEST, NULL, 0) < 0 && (errno == ENODATA || errno == EOPNOTSUPP))
+    ssize_t found = fgetxattr(folder, DIGEST, NULL, 0);
+    bool is_place = found < 0 && errno == EBADF;
+
+    if (is_place)
+        found = getxattr(name_of(folder), DIGEST, NULL, 0);
+    if (found < 0 && (errno == ENODATA || errno == EOPNOTSUPP))
         return true;
-    return removexattr(name_of(folder), DIGEST) == 0 || errno == ENODATA;
+    found = is_place ? removexattr(name_of(folder), DIGEST) : fremovexattr(folder, DIGEST);
+    return found == 0 || errno == ENODATA;
 }
 
 /* Closes what isn't on the way to this name, and answers where the rest of the name begins. */
@@ -478,7 +492,7 @@ static size_t keep_common(struct text name)
 static int open_folder(int above_it, struct text folder, size_t at, bool *is_stuck)
 {
     static int last = -1; /* one too deep to be kept stays open until the next such one */
-    int next = open_part(above_it, behind(folder, at), O_PATH | O_DIRECTORY);
+    int next = open_readable(above_it, behind(folder, at));
 
     if (next < 0)
         return -1;
@@ -523,14 +537,16 @@ static enum fit fit_of_error(void)
     return errno == ENOTDIR || errno == ELOOP ? REPLACED : FAILED;
 }
 
-/* A regular file is opened for reading, since an attribute is set faster so; all else, and a file
- * that can't be read, as a place alone. */
+/* A regular file or a directory is opened for reading, since an attribute is set faster so; all
+ * else, and what can't be read, as a place alone. */
 static int open_last(int folder, const struct record *record, struct text part)
 {
     int opened = -1;
 
     if (part.length == 0)
         return dup(folder);
+    if (record->kind == S_IFDIR)
+        return open_readable(folder, part);
     if (record->kind == S_IFREG)
         opened = open_part(folder, part, O_RDONLY | O_NONBLOCK | O_NOCTTY);
     if (opened < 0 && (record->kind != S_IFREG || errno != ENOENT))
