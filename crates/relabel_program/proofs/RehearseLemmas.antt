@@ -8,9 +8,9 @@ use Rattle.tool_words.specs.declared.usage.Usage.{Usage}
 use Rattle.run_faults.specs.Causes.{IsReported}
 use Rattle.run_faults.specs.declared.cause.Cause.{Cause}
 use Rattle.run_faults.specs.declared.cause.Cause.TheVariants.{Done, WalkErrors, Differs, Denied}
-use Rattle.run_endings.specs.declared.ending.Ending.{Ending}
+use Rattle.tool_runs.specs.Outside.{Outside}
 use Rattle.tool_runs.specs.Plan.{Plan, answer_in, input_in, planned}
-use Rattle.tool_runs.specs.Run.{Ends, Reports, Run}
+use Rattle.tool_runs.specs.Run.{EndsAsMeant, Reports, Run, WritesAndSaves}
 use Rattle.policy_rehearsal.specs.Plan.{rehearse_plan}
 use Rattle.policy_rehearsal.specs.Told.{TellsKept, TellsKeptLabels}
 use Rattle.policy_rehearsal.specs.Words.{rehearse_words}
@@ -45,48 +45,63 @@ plan_asked (tool ∷ texts) words is = asked_by (tool_named tool) texts words is
 
 -- ---- what is written
 
-module _ {S O : Type 0} (files : S → Option Files) (written : O → Option (List ℕ)) (store_now : S) (out out_now : O)
-    (words : RehearseWords) (known : Files) (bytes : List ℕ) where
-  abbrev Told : Type 0
-  Told = TellsKept words known bytes (Appends (written out) (written out_now))
+module _ {S I : Type 0} (before after : Outside S I) where
+  abbrev IsReport : List ℕ → Type 0
+  IsReport text = Appends before.sink.written after.sink.written text
 
-  reported : (cause : Cause) → Reports files written store_now out out_now known ((rehearse_plan words).answer known bytes) cause → Told
-  reported cause reports =
-      answer_keeps words known bytes (Appends (written out) (written out_now)) reports.reported reports.is_meant reports.whole
+  module _ (words : RehearseWords) (known : Files) (bytes : List ℕ) where
+    abbrev Kept : Type 0
+    Kept = TellsKept words known bytes IsReport
 
-  ended : (cause : Cause) → IsReported cause → Ends files written store_now out out_now known ((rehearse_plan words).answer known bytes) cause → Told
-  ended Done kind ends = reported Done ends
-  ended (WalkErrors count) kind ends = reported (WalkErrors count) ends
-  ended (Differs count) kind ends = reported (Differs count) ends
-  ended (Denied finding) kind ends = reported (Denied finding) ends
-  ended cause kind ends = absurd kind
+    abbrev EndsSo : Cause → Type 0
+    EndsSo cause = EndsAsMeant ((rehearse_plan words).answer known bytes)
+        (WritesAndSaves before after known) cause
 
-module _ {S I O : Type 0} (files : S → Option Files) (calls : S → Option ℕ) (read_faults write_faults : S → ℕ)
-    (left : I → Option (List ℕ)) (input_faults : I → ℕ) (written : O → Option (List ℕ)) (out_faults : O → ℕ)
-    (texts : List (List ℕ)) (store store_now : S) (input input_now : I) (out out_now : O) (cause : Cause) where
-  both : (words : RehearseWords) (found : Option Files) (given : Option (List ℕ)) → IsReported cause
-      → IfSome found (λ known. IfSome given (λ bytes.
-      Ends files written store_now out out_now known ((rehearse_plan words).answer known bytes) cause))
-      → IfSome found (λ known. IfSome given (λ bytes. TellsKept words known bytes (Appends (written out) (written out_now))))
-  both words None given kind ends = tt
-  both words (Some known) None kind ends = tt
-  both words (Some known) (Some bytes) kind ends = ended files written store_now out out_now words known bytes cause kind ends
+    reported : (cause : Cause)
+        → Reports ((rehearse_plan words).answer known bytes) (WritesAndSaves before after known) cause
+        → Kept
+    reported cause reports =
+        answer_keeps words known bytes IsReport reports.reported reports.is_meant reports.done.whole
 
-  kept_by : (words : RehearseWords) (asked : Result Plan Usage) → asked ≡ Ok (rehearse_plan words)
-      → IfSome (files store) (λ known. IfSome (input_in asked (left input)) (λ bytes.
-      Ends files written store_now out out_now known (answer_in asked known bytes) cause))
-      → TellsKeptLabels words (files store) (left input) (written out) (written out_now) cause
-  kept_by words asked is ends = λ kind.
-      both words (files store) (left input) kind
-      (subst (λ (asked : Result Plan Usage). IfSome (files store) (λ known. IfSome (input_in asked (left input)) (λ bytes.
-      Ends files written store_now out out_now known (answer_in asked known bytes) cause))) is ends)
+    ended : (cause : Cause) → IsReported cause → EndsSo cause → Kept
+    ended Done kind ends = reported Done ends
+    ended (WalkErrors count) kind ends = reported (WalkErrors count) ends
+    ended (Differs count) kind ends = reported (Differs count) ends
+    ended (Denied finding) kind ends = reported (Denied finding) ends
+    ended cause kind ends = absurd kind
 
-  kept_if : (asked : Option RehearseWords) → ((words : RehearseWords) → asked ≡ Some words → TellsKeptLabels words (files store) (left input) (written out) (written out_now) cause)
-      → IfSome asked (λ words. TellsKeptLabels words (files store) (left input) (written out) (written out_now) cause)
-  kept_if None kept = tt
-  kept_if (Some words) kept = kept words refl
+  module _ (cause : Cause) where
+    both : (words : RehearseWords) (found : Option Files) (given : Option (List ℕ))
+        → IsReported cause
+        → IfSome found (λ known. IfSome given (λ bytes. EndsSo words known bytes cause))
+        → IfSome found (λ known. IfSome given (λ bytes. Kept words known bytes))
+    both words None given kind ends = tt
+    both words (Some known) None kind ends = tt
+    both words (Some known) (Some bytes) kind ends = ended words known bytes cause kind ends
 
-  -- the labels at the end are those without skipping
-  pub keeps : Run files calls read_faults write_faults left input_faults written out_faults (asked_of texts) store store_now input input_now out out_now cause
-      → IfSome (rehearse_asked texts) (λ words. TellsKeptLabels words (files store) (left input) (written out) (written out_now) cause)
-  keeps ran = kept_if (rehearse_asked texts) (λ words is. kept_by words (asked_of texts) (plan_asked texts words is) ran.is_meant)
+    abbrev KeptLabels : RehearseWords → Type 0
+    KeptLabels words = TellsKeptLabels words before.store.files before.input.left
+        before.sink.written after.sink.written cause
+
+    -- the end that is meant, by what is asked
+    abbrev Meant : Result Plan Usage → Type 0
+    Meant asked = IfSome before.store.files (λ known.
+        IfSome (input_in asked before.input.left) (λ bytes.
+        EndsAsMeant (answer_in asked known bytes) (WritesAndSaves before after known) cause))
+
+    kept_by : (words : RehearseWords) (asked : Result Plan Usage) → asked ≡ Ok (rehearse_plan words)
+        → Meant asked → KeptLabels words
+    kept_by words asked is ends = λ kind.
+        both words before.store.files before.input.left kind (subst Meant is ends)
+
+    kept_if : (asked : Option RehearseWords)
+        → ((words : RehearseWords) → asked ≡ Some words → KeptLabels words)
+        → IfSome asked KeptLabels
+    kept_if None kept = tt
+    kept_if (Some words) kept = kept words refl
+
+    -- the labels at the end are those without skipping
+    pub keeps : (texts : List (List ℕ)) → Run (asked_of texts) before after cause
+        → IfSome (rehearse_asked texts) KeptLabels
+    keeps texts ran = kept_if (rehearse_asked texts) (λ words is.
+        kept_by words (asked_of texts) (plan_asked texts words is) ran.is_meant)

@@ -3,15 +3,15 @@ use Rattle.std.proofs.Common.{◌≡◌, ◌∙◌, ap, refl, sym, subst, ℕ, L
 use Rattle.std.specs.Prelude.{Option, Result, Ok, Err, IfOk, IsOk}
 use Rattle.std.specs.FinMap as map
 use Rattle.input_output.specs.Source.{Rose}
-use Rattle.input_output.specs.Store.{Files}
 use Rattle.tool_words.specs.declared.usage.Usage.{Usage}
 use Rattle.run_faults.specs.declared.cause.Cause.{Cause}
 use Rattle.run_faults.specs.declared.cause.Cause.TheVariants.{Done, OutOfMemory, ReadFault, WriteFault, WalkErrors, Differs, Denied}
 use Rattle.run_endings.specs.Endings.{cause_of}
 use Rattle.run_endings.specs.declared.ending.End.TheVariants as ends
 use Rattle.run_endings.specs.declared.ending.Ending.{Ending}
+use Rattle.tool_runs.specs.Outside.{InputSeen, Outside, StoreSeen}
 use Rattle.tool_runs.specs.Plan.{Plan, planned}
-use Rattle.tool_runs.specs.Run.{EndsAlone, ReportsAlone, Run}
+use Rattle.tool_runs.specs.Run.{EndsAsMeant, Reports, Run, Writes}
 use Rattle.sample_tree.specs.Accepted.{IsAlwaysDone}
 use Rattle.sample_tree.specs.Plan.{sample_plan}
 use Rattle.sample_tree.specs.Words.{sample_words}
@@ -46,47 +46,55 @@ asks (tool ∷ words) h =
 
 -- ---- how a run of it ends
 
--- the end of a walk without errors is no other
-other_end : {O : Type 0} (written : O → Option (List ℕ)) (out out_now : O) (meant : Result Ending Cause) (cause : Cause) (ending : Ending) → meant ≡ Ok ending → ending.end ≡ ends.Done → ReportsAlone written out out_now meant cause → cause ≡ Done
-other_end written out out_now meant cause ending is done reports =
-    let same : reports.reported ≡ ending = cc in
-    reports.cause_is ∙ ap (λ (e : Ending). cause_of e.end) same ∙ ap cause_of done
-
 not_refused : (meant : Result Ending Cause) (ending : Ending) (cause : Cause) → meant ≡ Ok ending → meant ≡ Err cause → ⊥
 not_refused meant ending cause is refused = cc
 
-module _ {O : Type 0} (written : O → Option (List ℕ)) (out out_now : O) (meant : Result Ending Cause) (ending : Ending) (is : meant ≡ Ok ending) (done : ending.end ≡ ends.Done) (read_faults input_faults : ℕ) where
-  ends_so : (cause : Cause) → EndsAlone written out out_now meant cause → (cause ≡ ReadFault → Rose read_faults read_faults ⊎ Rose input_faults input_faults) → EndsSample read_faults input_faults cause
-  ends_so Done so read = tt
-  ends_so WriteFault so read = tt
-  ends_so OutOfMemory so read = tt
-  ends_so ReadFault so read = read refl
-  ends_so (WalkErrors count) so read =
-      let same : WalkErrors count ≡ Done = other_end written out out_now meant (WalkErrors count) ending is done so in cc
-  ends_so (Differs count) so read =
-      let same : Differs count ≡ Done = other_end written out out_now meant (Differs count) ending is done so in cc
-  ends_so (Denied finding) so read =
-      let same : Denied finding ≡ Done = other_end written out out_now meant (Denied finding) ending is done so in cc
-  ends_so cause so read = absurd (not_refused meant ending cause is so)
+module _ (meant : Result Ending Cause) (IsDone : Ending → Type 0) (ending : Ending) (is : meant ≡ Ok ending) (done : ending.end ≡ ends.Done) where
+  -- the end of a walk without errors is no other
+  other_end : (cause : Cause) → Reports meant IsDone cause → cause ≡ Done
+  other_end cause reports =
+      let same : reports.reported ≡ ending = same_ending reports.reported reports.is_meant in
+      reports.cause_is ∙ ap (λ (e : Ending). cause_of e.end) same ∙ ap cause_of done
+    where
+      same_ending : (reported : Ending) → meant ≡ Ok reported → reported ≡ ending
+      same_ending reported so = cc
 
-module _ {S I O : Type 0} (files : S → Option Files) (calls : S → Option ℕ) (read_faults write_faults : S → ℕ) (left : I → Option (List ℕ)) (input_faults : I → ℕ) (written : O → Option (List ℕ)) (out_faults : O → ℕ) (store store_now : S) (input input_now : I) (out out_now : O) (cause : Cause) where
+  module _ (read_faults input_faults : ℕ) where
+    ends_so : (cause : Cause) → EndsAsMeant meant IsDone cause → (cause ≡ ReadFault → Rose read_faults read_faults ⊎ Rose input_faults input_faults) → EndsSample read_faults input_faults cause
+    ends_so Done so read = tt
+    ends_so WriteFault so read = tt
+    ends_so OutOfMemory so read = tt
+    ends_so ReadFault so read = read refl
+    ends_so (WalkErrors count) so read =
+        let same : WalkErrors count ≡ Done = other_end (WalkErrors count) so in cc
+    ends_so (Differs count) so read =
+        let same : Differs count ≡ Done = other_end (Differs count) so in cc
+    ends_so (Denied finding) so read =
+        let same : Denied finding ≡ Done = other_end (Denied finding) so in cc
+    ends_so cause so read = absurd (not_refused meant ending cause is so)
+
+module _ {S I : Type 0} (before after : Outside S I) (cause : Cause) where
   -- a failed read raised a count of an object that is as it was
-  read_so : (words : SampleWords) → Run files calls read_faults write_faults left input_faults written out_faults (Ok (sample_plan words)) store store_now input input_now out out_now cause → cause ≡ ReadFault → Rose (read_faults store) (read_faults store) ⊎ Rose (input_faults input) (input_faults input)
+  read_so : (words : SampleWords) → Run (Ok (sample_plan words)) before after cause → cause ≡ ReadFault
+      → Rose before.store.read_faults before.store.read_faults ⊎ Rose before.input.faults before.input.faults
   read_so words run is = elim (run.read_failed is) [
-    | inl failed ↦ inl (subst (λ (s : S). Rose (read_faults store) (read_faults s)) (run.no_files refl refl) failed.0)
-    | inr failed ↦ inr (subst (λ (i : I). Rose (input_faults input) (input_faults i)) (run.no_records refl) failed.rose)
+    | inl failed ↦ inl (subst (λ (s : StoreSeen S). Rose before.store.read_faults s.read_faults) (run.no_files refl refl) failed.rose)
+    | inr failed ↦ inr (subst (λ (i : InputSeen I). Rose before.input.faults i.faults) (run.no_records refl) failed.rose)
   ]
 
-  ends_of : (words : SampleWords) → IsAlwaysDone (sample_plan words) → Run files calls read_faults write_faults left input_faults written out_faults (Ok (sample_plan words)) store store_now input input_now out out_now cause → EndsSample (read_faults store) (input_faults input) cause
+  ends_of : (words : SampleWords) → IsAlwaysDone (sample_plan words) → Run (Ok (sample_plan words)) before after cause
+      → EndsSample before.store.read_faults before.input.faults cause
   ends_of words always run =
       let answer = always.answers map.empty [] in
-      ends_so written out out_now ((sample_plan words).answer map.empty []) answer.0 answer.1 answer.2 (read_faults store) (input_faults input) cause (run.is_meant_alone refl map.empty) (read_so words run)
+      ends_so ((sample_plan words).answer map.empty []) (Writes before after) answer.0 answer.1 answer.2 before.store.read_faults before.input.faults cause
+      (run.is_meant_alone refl map.empty) (read_so words run)
 
-  pub runs_sample : (words : List (List ℕ)) → Run files calls read_faults write_faults left input_faults written out_faults (asked_of words) store store_now input input_now out out_now cause → RunsSample words (read_faults store) (input_faults input) cause
+  pub runs_sample : (words : List (List ℕ)) → Run (asked_of words) before after cause
+      → RunsSample words before.store.read_faults before.input.faults cause
   runs_sample words run = λ ask.
       let sample = asks words ask in
       let always = always_done sample.asked sample.few in
-      let moved = subst (λ (asked : Result Plan Usage). Run files calls read_faults write_faults left input_faults written out_faults asked store store_now input input_now out out_now cause) sample.plan run in (
+      let moved = subst (λ (asked : Result Plan Usage). Run asked before after cause) sample.plan run in (
         subst (λ (asked : Result Plan Usage). IfOk asked IsAlwaysDone) (sym sample.plan) always,
         ends_of sample.asked always moved,
       )

@@ -6,6 +6,7 @@ ghost use Rattle.tool_words.specs.declared.usage.UsageWhy.TheVariants.{UnknownTo
 ghost use Rattle.run_faults.specs.Faults.{status_of};
 ghost use Rattle.tool_runs.specs.Plan.{is_soft_in, planned};
 ghost use Rattle.tool_runs.specs.Complete.{Complete};
+ghost use Rattle.tool_runs.specs.Outside.{outside};
 ghost use Rattle.tool_runs.specs.Run.{Run};
 ghost use Rattle.tree_relabelling.specs.Plan.{relabel_plan};
 ghost use Rattle.tree_relabelling.specs.Words.{restorecon_words, setfiles_words};
@@ -97,9 +98,9 @@ fn run_setfiles<S: Store, I: Source, O: Sink>(
 ) -> Outcome
     requires { length words.now + FIRST < 2 ^ 31 }
     ensures status { result.status ≡ status_of (is_soft_in (planned relabel_plan (setfiles_words FIRST (word_texts words.now)))) result.cause }
-    ensures run { Run S.files S.calls S.read_faults S.write_faults I.left I.faults O.written O.faults
-        (planned relabel_plan (setfiles_words FIRST (word_texts words.now))) store.old store.new input.old input.new
-        out.old out.new result.cause }
+    ensures run { Run (planned relabel_plan (setfiles_words FIRST (word_texts words.now)))
+        (outside S.Store I.Source O.Sink store.old input.old out.old)
+        (outside S.Store I.Source O.Sink store.new input.new out.new) result.cause }
 {
     run_words(alloc, read_setfiles(alloc, words, FIRST), store, input, out)
 }
@@ -114,9 +115,9 @@ fn run_restorecon<S: Store, I: Source, O: Sink>(
 ) -> Outcome
     requires { length words.now + FIRST < 2 ^ 31 }
     ensures status { result.status ≡ status_of (is_soft_in (planned relabel_plan (restorecon_words FIRST (word_texts words.now)))) result.cause }
-    ensures run { Run S.files S.calls S.read_faults S.write_faults I.left I.faults O.written O.faults
-        (planned relabel_plan (restorecon_words FIRST (word_texts words.now))) store.old store.new input.old input.new
-        out.old out.new result.cause }
+    ensures run { Run (planned relabel_plan (restorecon_words FIRST (word_texts words.now)))
+        (outside S.Store I.Source O.Sink store.old input.old out.old)
+        (outside S.Store I.Source O.Sink store.new input.new out.new) result.cause }
 {
     run_words(
         alloc,
@@ -137,9 +138,9 @@ fn run_lookup<S: Store, I: Source, O: Sink>(
 ) -> Outcome
     requires { length words.now + FIRST < 2 ^ 31 }
     ensures status { result.status ≡ status_of (is_soft_in (planned lookup_plan (lookup_words FIRST (word_texts words.now)))) result.cause }
-    ensures run { Run S.files S.calls S.read_faults S.write_faults I.left I.faults O.written O.faults
-        (planned lookup_plan (lookup_words FIRST (word_texts words.now))) store.old store.new input.old input.new
-        out.old out.new result.cause }
+    ensures run { Run (planned lookup_plan (lookup_words FIRST (word_texts words.now)))
+        (outside S.Store I.Source O.Sink store.old input.old out.old)
+        (outside S.Store I.Source O.Sink store.new input.new out.new) result.cause }
 {
     run_words(alloc, read_lookup(alloc, words, FIRST), store, input, out)
 }
@@ -154,9 +155,9 @@ fn run_homes<S: Store, I: Source, O: Sink>(
 ) -> Outcome
     requires { length words.now + FIRST < 2 ^ 31 }
     ensures status { result.status ≡ status_of (is_soft_in (planned homes_plan (homes_words FIRST (word_texts words.now)))) result.cause }
-    ensures run { Run S.files S.calls S.read_faults S.write_faults I.left I.faults O.written O.faults
-        (planned homes_plan (homes_words FIRST (word_texts words.now))) store.old store.new input.old input.new
-        out.old out.new result.cause }
+    ensures run { Run (planned homes_plan (homes_words FIRST (word_texts words.now)))
+        (outside S.Store I.Source O.Sink store.old input.old out.old)
+        (outside S.Store I.Source O.Sink store.new input.new out.new) result.cause }
 {
     run_words(alloc, read_homes(alloc, words, FIRST), store, input, out)
 }
@@ -171,9 +172,9 @@ fn run_rehearse<S: Store, I: Source, O: Sink>(
 ) -> Outcome
     requires { length words.now + FIRST < 2 ^ 31 }
     ensures status { result.status ≡ status_of (is_soft_in (planned rehearse_plan (rehearse_words FIRST (word_texts words.now)))) result.cause }
-    ensures run { Run S.files S.calls S.read_faults S.write_faults I.left I.faults O.written O.faults
-        (planned rehearse_plan (rehearse_words FIRST (word_texts words.now))) store.old store.new input.old input.new
-        out.old out.new result.cause }
+    ensures run { Run (planned rehearse_plan (rehearse_words FIRST (word_texts words.now)))
+        (outside S.Store I.Source O.Sink store.old input.old out.old)
+        (outside S.Store I.Source O.Sink store.new input.new out.new) result.cause }
 {
     run_words(alloc, read_rehearse(alloc, words, FIRST), store, input, out)
 }
@@ -188,9 +189,9 @@ fn run_sample<S: Store, I: Source, O: Sink>(
 ) -> Outcome
     requires { length words.now + FIRST < 2 ^ 31 }
     ensures status { result.status ≡ status_of (is_soft_in (planned sample_plan (sample_words FIRST (word_texts words.now)))) result.cause }
-    ensures run { Run S.files S.calls S.read_faults S.write_faults I.left I.faults O.written O.faults
-        (planned sample_plan (sample_words FIRST (word_texts words.now))) store.old store.new input.old input.new
-        out.old out.new result.cause }
+    ensures run { Run (planned sample_plan (sample_words FIRST (word_texts words.now)))
+        (outside S.Store I.Source O.Sink store.old input.old out.old)
+        (outside S.Store I.Source O.Sink store.new input.new out.new) result.cause }
 {
     run_words(alloc, read_sample(alloc, words, FIRST), store, input, out)
 }
@@ -205,9 +206,9 @@ fn run_audit<S: Store, I: Source, O: Sink>(
 ) -> Outcome
     requires { length words.now + FIRST < 2 ^ 31 }
     ensures status { result.status ≡ status_of (is_soft_in (planned audit_plan (audit_words FIRST (word_texts words.now)))) result.cause }
-    ensures run { Run S.files S.calls S.read_faults S.write_faults I.left I.faults O.written O.faults
-        (planned audit_plan (audit_words FIRST (word_texts words.now))) store.old store.new input.old input.new
-        out.old out.new result.cause }
+    ensures run { Run (planned audit_plan (audit_words FIRST (word_texts words.now)))
+        (outside S.Store I.Source O.Sink store.old input.old out.old)
+        (outside S.Store I.Source O.Sink store.new input.new out.new) result.cause }
 {
     run_words(alloc, read_audit(alloc, words, FIRST), store, input, out)
 }
@@ -220,9 +221,9 @@ fn refuse_tool<S: Store, I: Source, O: Sink>(
     out: &mut O,
 ) -> Outcome
     ensures status { result.status ≡ status_of (is_soft_in (Err (usage 0 UnknownTool))) result.cause }
-    ensures run { Run S.files S.calls S.read_faults S.write_faults I.left I.faults O.written O.faults
-        (Err (usage 0 UnknownTool)) store.old store.new input.old input.new
-        out.old out.new result.cause }
+    ensures run { Run (Err (usage 0 UnknownTool))
+        (outside S.Store I.Source O.Sink store.old input.old out.old)
+        (outside S.Store I.Source O.Sink store.new input.new out.new) result.cause }
 {
     let refused: Result<SampleWords, Fault<Usage>> = Err(unknown_tool());
     run_words(alloc, refused, store, input, out)
@@ -239,9 +240,9 @@ fn run_named<S: Store, I: Source, O: Sink>(
 ) -> Outcome
     requires { length words.now + FIRST < 2 ^ 31 }
     ensures status { result.status ≡ status_of (is_soft_in (asked_for tool (word_texts words.now))) result.cause }
-    ensures run { Run S.files S.calls S.read_faults S.write_faults I.left I.faults O.written O.faults
-        (asked_for tool (word_texts words.now)) store.old store.new input.old input.new
-        out.old out.new result.cause }
+    ensures run { Run (asked_for tool (word_texts words.now))
+        (outside S.Store I.Source O.Sink store.old input.old out.old)
+        (outside S.Store I.Source O.Sink store.new input.new out.new) result.cause }
 {
     match tool {
         Some(ToolName::Setfiles) => run_setfiles(alloc, words, store, input, out),
@@ -265,9 +266,9 @@ fn run_asked<S: Store, I: Source, O: Sink>(
 ) -> Outcome
     requires { length words.now < 2 ^ 31 }
     ensures status { result.status ≡ status_of (is_soft_in (asked_of (word_texts words.now))) result.cause }
-    ensures run { Run S.files S.calls S.read_faults S.write_faults I.left I.faults O.written O.faults
-        (asked_of (word_texts words.now)) store.old store.new input.old input.new
-        out.old out.new result.cause }
+    ensures run { Run (asked_of (word_texts words.now))
+        (outside S.Store I.Source O.Sink store.old input.old out.old)
+        (outside S.Store I.Source O.Sink store.new input.new out.new) result.cause }
 {
     let [word, rest @ ..] = words else {
         return refuse_tool(alloc, store, input, out);
@@ -287,12 +288,13 @@ pub fn plain<S: Store, I: Source, O: Sink>(
     requires { length words.now < 2 ^ 31 }
     ensures status { result.status
         ≡ status_of (is_soft_in (asked_of (word_texts words.now))) result.cause }
-    ensures run { Run S.files S.calls S.read_faults S.write_faults I.left I.faults O.written O.faults
-        (asked_of (word_texts words.now)) store.old store.new input.old input.new out.old out.new
-        result.cause }
-    ensures complete { Complete S.files S.read_faults S.write_faults I.left I.faults O.written
-        O.faults (asked_of (word_texts words.now)) store.old store.new input.old input.new out.old
-        out.new result.status result.cause }
+    ensures run { Run (asked_of (word_texts words.now))
+        (outside S.Store I.Source O.Sink store.old input.old out.old)
+        (outside S.Store I.Source O.Sink store.new input.new out.new) result.cause }
+    ensures complete { Complete (asked_of (word_texts words.now))
+        (outside S.Store I.Source O.Sink store.old input.old out.old)
+        (outside S.Store I.Source O.Sink store.new input.new out.new)
+        result.status result.cause }
     ensures sample { RunsSample (word_texts words.now) (S.read_faults store.old) (I.faults input.old)
         result.cause }
     ensures keeps { IfSome (rehearse_asked (word_texts words.now)) (λ asked.
@@ -314,9 +316,9 @@ fn run_relabelling<R: Threads + Wait + Sync, S: Store, I: Source, O: Sink>(
 ) -> Outcome
     requires { length words.choice.operands < 2 ^ 31 }
     ensures status { result.status ≡ status_of words.soft_errors result.cause }
-    ensures run { Run S.files S.calls S.read_faults S.write_faults I.left I.faults O.written O.faults
-        (Ok (relabel_plan words)) store.old store.new input.old input.new
-        out.old out.new result.cause }
+    ensures run { Run (Ok (relabel_plan words))
+        (outside S.Store I.Source O.Sink store.old input.old out.old)
+        (outside S.Store I.Source O.Sink store.new input.new out.new) result.cause }
 {
     let count = workers_for(words.workers, cores);
     if count == 1 {
@@ -342,9 +344,9 @@ fn run_read<R: Threads + Wait + Sync, S: Store, I: Source, O: Sink>(
         → result.status ≡ status_of (is_soft_in (planned relabel_plan meant)) result.cause }
     ensures run { (meant : Result RelabelWords Usage)
         → Answers (λ words. words) cause_of asked meant
-        → Run S.files S.calls S.read_faults S.write_faults I.left I.faults O.written O.faults
-        (planned relabel_plan meant) store.old store.new input.old input.new
-        out.old out.new result.cause }
+        → Run (planned relabel_plan meant)
+        (outside S.Store I.Source O.Sink store.old input.old out.old)
+        (outside S.Store I.Source O.Sink store.new input.new out.new) result.cause }
 {
     match asked {
         Ok(words) => run_relabelling(rt, alloc, words, cores, store, input, out),
@@ -366,9 +368,9 @@ fn run_named_by<R: Threads + Wait + Sync, S: Store, I: Source, O: Sink>(
 ) -> Outcome
     requires { length words.now + FIRST < 2 ^ 31 }
     ensures status { result.status ≡ status_of (is_soft_in (asked_for tool (word_texts words.now))) result.cause }
-    ensures run { Run S.files S.calls S.read_faults S.write_faults I.left I.faults O.written O.faults
-        (asked_for tool (word_texts words.now)) store.old store.new input.old input.new
-        out.old out.new result.cause }
+    ensures run { Run (asked_for tool (word_texts words.now))
+        (outside S.Store I.Source O.Sink store.old input.old out.old)
+        (outside S.Store I.Source O.Sink store.new input.new out.new) result.cause }
 {
     match tool {
         Some(ToolName::Setfiles) => {
@@ -395,9 +397,9 @@ fn run_asked_by<R: Threads + Wait + Sync, S: Store, I: Source, O: Sink>(
 ) -> Outcome
     requires { length words.now < 2 ^ 31 }
     ensures status { result.status ≡ status_of (is_soft_in (asked_of (word_texts words.now))) result.cause }
-    ensures run { Run S.files S.calls S.read_faults S.write_faults I.left I.faults O.written O.faults
-        (asked_of (word_texts words.now)) store.old store.new input.old input.new
-        out.old out.new result.cause }
+    ensures run { Run (asked_of (word_texts words.now))
+        (outside S.Store I.Source O.Sink store.old input.old out.old)
+        (outside S.Store I.Source O.Sink store.new input.new out.new) result.cause }
 {
     let [word, rest @ ..] = words else {
         return refuse_tool(alloc, store, input, out);
@@ -429,12 +431,13 @@ pub fn top<R: Threads + Wait + Sync, S: Store, I: Source, O: Sink>(
     requires few { length words.now < 2 ^ 31 }
     ensures status { result.status
         ≡ status_of (is_soft_in (asked_of (word_texts words.now))) result.cause }
-    ensures run { Run S.files S.calls S.read_faults S.write_faults I.left I.faults O.written O.faults
-        (asked_of (word_texts words.now)) store.old store.new input.old input.new out.old out.new
-        result.cause }
-    ensures complete { Complete S.files S.read_faults S.write_faults I.left I.faults O.written
-        O.faults (asked_of (word_texts words.now)) store.old store.new input.old input.new out.old
-        out.new result.status result.cause }
+    ensures run { Run (asked_of (word_texts words.now))
+        (outside S.Store I.Source O.Sink store.old input.old out.old)
+        (outside S.Store I.Source O.Sink store.new input.new out.new) result.cause }
+    ensures complete { Complete (asked_of (word_texts words.now))
+        (outside S.Store I.Source O.Sink store.old input.old out.old)
+        (outside S.Store I.Source O.Sink store.new input.new out.new)
+        result.status result.cause }
     ensures sample { RunsSample (word_texts words.now) (S.read_faults store.old) (I.faults input.old)
         result.cause }
     ensures keeps { IfSome (rehearse_asked (word_texts words.now)) (λ asked.

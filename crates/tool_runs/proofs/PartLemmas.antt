@@ -1,6 +1,6 @@
 -- What the parts of a run say, as far as its end follows from that.
 use Rattle.std.proofs.Common.{◌≡◌, ◌∙◌, ap, sym, subst, refl, cond, ℕ, ◌+◌, ◌≤◌, arith, inl, inr, List}
-use Rattle.std.specs.Prelude.{Bool, true, false, Option, Some, None, Result, Ok, Err, is_some, IfSome, option_map}
+use Rattle.std.specs.Prelude.{Bool, true, false, Option, Some, None, Result, Ok, Err, is_some, IfSome, IsOkAnd, option_map}
 use Rattle.std.specs.FinMap as map
 use Rattle.std.specs.FinMap.{get-insert, get-remove, same_map, nat_cmp-IsAntisymmetric, slice_cmp-IsAntisymmetric}
 use Rattle.std.specs.Ordering.{eq_by_cmp, nat_cmp}
@@ -8,23 +8,52 @@ use Rattle.std.specs.Cmp.Lexicographic.{slice_cmp, nat_list_cmp_total}
 use Rattle.input_output.specs.Store.{Calls, Files}
 use Rattle.input_output.specs.declared.store.SaveFault.{SaveFault}
 use Rattle.input_output.specs.declared.store.SaveFault.TheVariants as save
+use Rattle.input_output.specs.declared.store.Store as stores
 use Rattle.find_records.specs.Record.{Record}
 use Rattle.find_records.specs.declared.format.Format.{Format}
 use Rattle.run_faults.specs.Causes.{and_then, CauseCounts, Explained, IsFileCause, IsInputCause, IsReadingCause, IsReported, IsWritten}
 use Rattle.run_faults.specs.declared.cause.Cause.{Cause}
 use Rattle.run_faults.specs.declared.cause.Cause.TheVariants.{Done, RecordRefused, Unended, Doubled, Limit, WalkErrors, Differs, Denied, ReadFault, WriteFault, OutOfMemory}
 use Rattle.run_faults.specs.declared.cause.LimitKind.TheVariants.{File, Specs, Records, RecordBytes}
-use Rattle.run_input.specs.Files.{CallsUpTo, CauseOpens}
+use Rattle.run_input.specs.Files.{CallsUpTo, CauseOpens, FilesSay, Reads}
 use Rattle.run_input.specs.Records.{entries_for}
 use Rattle.run_input.proofs.ReadsLemmas.{explained_next, no_calls, up_to_more}
-use Rattle.run_endings.specs.Endings.{LineOrFront, Saves, cause_of, writes_of}
+use Rattle.run_endings.specs.Endings.{Saves, cause_of, writes_of}
 use Rattle.run_endings.specs.declared.ending.End.{End}
 use Rattle.run_endings.specs.declared.ending.End.TheVariants as ends
 use Rattle.run_endings.specs.declared.ending.Ending.{Ending}
 use Rattle.run_endings.specs.declared.ending.Saved.{Saved}
+use Rattle.tool_runs.specs.Outside.{Outside, SinkSeen, StoreSeen, WritesLine, store_seen}
 use Rattle.tool_runs.specs.Plan.{answer_by, refusal_in}
-use Rattle.tool_runs.specs.Run.{CallsMade, Ends, EndsAlone, FilesDecide, OthersStay, Reports, ReportsAlone, files_with}
+use Rattle.tool_runs.specs.Run.{CallsMade, EndsAsMeant, FilesDecide, OthersStay, Reports, files_with}
 use Rattle.tool_runs.specs.Stages.{saved_name}
+
+-- ---- what is seen
+
+-- files were read, as a store is seen
+abbrev pub FilesRead : {S V : Type 0} → (Files → FilesSay V) → (store store_now : StoreSeen S)
+    → Result V Cause → Type 0
+FilesRead {S} read store store_now result =
+    Reads (λ (s : StoreSeen S). s.files) (λ (s : StoreSeen S). s.calls)
+    (λ (s : StoreSeen S). s.read_faults) (λ (s : StoreSeen S). s.write_faults) read store store_now
+    result
+
+pub reads_seen : {S V : Type 0} (tells : stores.Ghosts S) (read : Files → FilesSay V) (store store_now : S)
+    (result : Result V Cause)
+    → Reads tells.files tells.calls tells.read_faults tells.write_faults read store store_now result
+    → FilesRead read (store_seen tells store) (store_seen tells store_now) result
+reads_seen tells read store store_now result ran = record {
+  same = ran.same;
+  unwritten = ran.unwritten;
+  gives = ran.gives;
+  opens = ran.opens;
+  counts = ran.counts;
+  kinds = ran.kinds;
+}
+
+pub ok_and : (P : Ending → Type 0) (meant : Result Ending Cause) (made : Ending) → meant ≡ Ok made
+    → P made → IsOkAnd meant P
+ok_and P meant made is held = subst (λ (m : Result Ending Cause). IsOkAnd m P) (sym is) held
 
 -- ---- options
 
@@ -40,9 +69,10 @@ if_both (Some x) next first second = next x first second
 
 -- ---- what the files decide
 
-module _ {R : Type 0} (untouched : Type 0) where
+module _ {S I R : Type 0} (before after : Outside S I) where
   pub files_refused : (meant : Result R Cause) (cause : Cause) → Explained meant cause
-      → IsFileCause cause → untouched → FilesDecide (refusal_in meant) cause untouched
+      → IsFileCause cause → after.input ≡ before.input
+      → FilesDecide (refusal_in meant) before after cause
   files_refused (Err refusal) ReadFault is kind still =
       record { cause_is = inr tt; of_files = tt; no_input_read = still }
   files_refused (Err refusal) OutOfMemory is kind still =
@@ -53,15 +83,15 @@ module _ {R : Type 0} (untouched : Type 0) where
   files_refused (Ok value) OutOfMemory is kind still = λ _. tt
   files_refused (Ok value) cause is kind still = absurd (cc)
 
-  pub files_memory : (meant : Result R Cause) → untouched
-      → FilesDecide (refusal_in meant) OutOfMemory untouched
+  pub files_memory : (meant : Result R Cause) → after.input ≡ before.input
+      → FilesDecide (refusal_in meant) before after OutOfMemory
   files_memory (Err refusal) still =
       record { cause_is = inr tt; of_files = tt; no_input_read = still }
   files_memory (Ok value) still = λ _. tt
 
   pub files_accepted : (meant : Result R Cause) (found : R) (cause : Cause) → meant ≡ Ok found
       → (IsFileCause cause → IsReadingCause cause)
-      → FilesDecide (refusal_in meant) cause untouched
+      → FilesDecide (refusal_in meant) before after cause
   files_accepted (Err refusal) found cause accepted later = absurd (cc)
   files_accepted (Ok value) found cause accepted later = later
 
@@ -101,31 +131,14 @@ unwritten_input cause kind written = written
 
 -- ---- what is meant
 
-pub ends_explained : {S O : Type 0} (files : S → Option Files) (written : O → Option (List ℕ))
-    (store : S) (out out_now : O) (known : Files) (meant : Result Ending Cause) (cause : Cause)
-    → (IsWritten cause → ⊥) → Explained meant cause
-    → Ends files written store out out_now known meant cause
-ends_explained files written store out out_now known meant Done unwritten is =
-    absurd (unwritten tt)
-ends_explained files written store out out_now known meant (WalkErrors count) unwritten is =
-    absurd (unwritten tt)
-ends_explained files written store out out_now known meant (Differs count) unwritten is =
-    absurd (unwritten tt)
-ends_explained files written store out out_now known meant (Denied finding) unwritten is =
-    absurd (unwritten tt)
-ends_explained files written store out out_now known meant WriteFault unwritten is =
-    absurd (unwritten tt)
-ends_explained files written store out out_now known meant cause unwritten is = is
-
-pub alone_explained : {O : Type 0} (written : O → Option (List ℕ)) (out out_now : O)
-    (meant : Result Ending Cause) (cause : Cause) → (IsWritten cause → ⊥) → Explained meant cause
-    → EndsAlone written out out_now meant cause
-alone_explained written out out_now meant Done unwritten is = absurd (unwritten tt)
-alone_explained written out out_now meant (WalkErrors count) unwritten is = absurd (unwritten tt)
-alone_explained written out out_now meant (Differs count) unwritten is = absurd (unwritten tt)
-alone_explained written out out_now meant (Denied finding) unwritten is = absurd (unwritten tt)
-alone_explained written out out_now meant WriteFault unwritten is = absurd (unwritten tt)
-alone_explained written out out_now meant cause unwritten is = is
+pub ends_explained : (meant : Result Ending Cause) (IsDone : Ending → Type 0) (cause : Cause)
+    → (IsWritten cause → ⊥) → Explained meant cause → EndsAsMeant meant IsDone cause
+ends_explained meant IsDone Done unwritten is = absurd (unwritten tt)
+ends_explained meant IsDone (WalkErrors count) unwritten is = absurd (unwritten tt)
+ends_explained meant IsDone (Differs count) unwritten is = absurd (unwritten tt)
+ends_explained meant IsDone (Denied finding) unwritten is = absurd (unwritten tt)
+ends_explained meant IsDone WriteFault unwritten is = absurd (unwritten tt)
+ends_explained meant IsDone cause unwritten is = is
 
 module _ {R : Type 0} (takes : Option Format) (read : Files → Result R Cause)
     (answered : R → List Record → Result Ending Cause) (known : Files) (bytes : List ℕ) where
@@ -176,11 +189,11 @@ never_read cause counts is = absurd (cc)
 
 -- ---- calls of the store
 
-pub still_up_to : {S : Type 0} (calls : S → Option ℕ) (store store_now : S) (most : ℕ)
-    → store_now ≡ store → CallsUpTo (calls store) (calls store_now) most
-still_up_to calls store store_now most still =
-    subst (λ (now : Option ℕ). CallsUpTo (calls store) now most) (sym (ap calls still))
-    (0, omega arith, no_calls (calls store))
+pub still_up_to : {S : Type 0} (store store_now : StoreSeen S) (most : ℕ) → store_now ≡ store
+    → CallsUpTo store.calls store_now.calls most
+still_up_to {S} store store_now most still =
+    subst (λ (now : StoreSeen S). CallsUpTo store.calls now.calls most) (sym still)
+    (0, omega arith, no_calls store.calls)
 
 pub all_up_to : (old now : Option ℕ) (opened writes : ℕ) → Calls old now opened
     → CallsUpTo old now (opened + writes)
@@ -240,10 +253,10 @@ none_named (Some saved) is = absurd (cc)
 
 -- ---- counts of the sink
 
-pub line_later : {O : Type 0} (written : O → Option (List ℕ)) (faults : O → ℕ) (old new : O)
-    (line : List ℕ) → LineOrFront written faults old new line → faults old ≤ faults new
-line_later written faults old new line (inl whole) = omega (arith, whole.1)
-line_later written faults old new line (inr front) = front.1
+pub line_later : (sink sink_now : SinkSeen) (line : List ℕ) → WritesLine sink sink_now line
+    → sink.faults ≤ sink_now.faults
+line_later sink sink_now line (inl whole) = omega (arith, whole.1)
+line_later sink sink_now line (inr front) = front.1
 
 pub reported_written : (cause : Cause) → IsReported cause → IsWritten cause
 reported_written WriteFault reported = tt
@@ -323,22 +336,12 @@ end_kept (ends.WalkErrors count) is = absurd (cc)
 end_kept (ends.Differs count) is = absurd (cc)
 end_kept (ends.Denied finding) is = absurd (cc)
 
-pub ends_reported : {S O : Type 0} (files : S → Option Files) (written : O → Option (List ℕ))
-    (store : S) (out out_now : O) (known : Files) (meant : Result Ending Cause) (end : End)
-    → Reports files written store out out_now known meant (cause_of end)
-    → Ends files written store out out_now known meant (cause_of end)
-ends_reported files written store out out_now known meant ends.Done reports = reports
-ends_reported files written store out out_now known meant (ends.WalkErrors count) reports = reports
-ends_reported files written store out out_now known meant (ends.Differs count) reports = reports
-ends_reported files written store out out_now known meant (ends.Denied finding) reports = reports
-
-pub alone_reported : {O : Type 0} (written : O → Option (List ℕ)) (out out_now : O)
-    (meant : Result Ending Cause) (end : End) → ReportsAlone written out out_now meant (cause_of end)
-    → EndsAlone written out out_now meant (cause_of end)
-alone_reported written out out_now meant ends.Done answers = answers
-alone_reported written out out_now meant (ends.WalkErrors count) answers = answers
-alone_reported written out out_now meant (ends.Differs count) answers = answers
-alone_reported written out out_now meant (ends.Denied finding) answers = answers
+pub ends_reported : (meant : Result Ending Cause) (IsDone : Ending → Type 0) (end : End)
+    → Reports meant IsDone (cause_of end) → EndsAsMeant meant IsDone (cause_of end)
+ends_reported meant IsDone ends.Done reports = reports
+ends_reported meant IsDone (ends.WalkErrors count) reports = reports
+ends_reported meant IsDone (ends.Differs count) reports = reports
+ends_reported meant IsDone (ends.Denied finding) reports = reports
 
 pub same_known : (old new : Option Files) → new ≡ old → IfSome old (λ known. new ≡ Some known)
 same_known None new is = tt

@@ -18,10 +18,10 @@ use Rattle.run_faults.specs.declared.cause.Cause.TheVariants as causes
 use Rattle.run_faults.specs.declared.cause.Cause.TheVariants.{ReadFault, OutOfMemory}
 use Rattle.run_input.specs.Files.{FilesSay}
 use Rattle.run_input.proofs.ReadsLemmas.{all_some}
-use Rattle.run_endings.specs.Endings.{LineOrFront}
 use Rattle.run_endings.specs.declared.ending.Ending.{Ending}
+use Rattle.tool_runs.specs.Outside.{InputSeen, Outside, SinkSeen, StoreSeen, WritesLine}
 use Rattle.tool_runs.specs.Plan.{Plan, plan_by, planned}
-use Rattle.tool_runs.specs.Run.{Run}
+use Rattle.tool_runs.specs.Run.{Run, WritesAndSaves}
 use Rattle.tool_runs.proofs.MemoryRuns.{given_up_early}
 use Rattle.tool_runs.proofs.PartLemmas.{ends_explained, line_later, reported_written}
 
@@ -30,16 +30,19 @@ same_usage a b index why =
     ap (λ (i : ℕ). record { index = i; why = a.why }) index
     ∙ ap (λ (w : UsageWhy). record { index = b.index; why = w }) why
 
-module _ {S I O : Type 0} (files : S → Option Files) (calls : S → Option ℕ)
-    (read_faults write_faults : S → ℕ)
-    (left : I → Option (List ℕ)) (input_faults : I → ℕ) (written : O → Option (List ℕ))
-    (out_faults : O → ℕ) (store : S) (input : I) (out out_now : O) where
+-- the store and the input are as they were
+module _ {S I : Type 0} (store : StoreSeen S) (input : InputSeen I) (sink sink_now : SinkSeen) where
+  abbrev before : Outside S I
+  before = record { store = store; input = input; sink = sink }
+
+  abbrev after : Outside S I
+  after = record { store = store; input = input; sink = sink_now }
+
   abbrev Ended : Result Plan Usage → Cause → Type 0
-  Ended asked = Run files calls read_faults write_faults left input_faults written out_faults asked
-      store store input input out out_now
+  Ended asked = Run asked before after
 
   abbrev Line : Cause → Type 0
-  Line cause = LineOrFront written out_faults out out_now (fault_line [] cause)
+  Line cause = WritesLine sink sink_now (fault_line [] cause)
 
   refused_words : (wrong : Usage) (cause : Cause)
       → (cause ≡ causes.Usage wrong.index wrong.why) ⊎ (cause ≡ OutOfMemory)
@@ -55,12 +58,12 @@ module _ {S I O : Type 0} (files : S → Option Files) (calls : S → Option ℕ
         files_decide = tt;
         calls_made = tt;
         no_files = tt;
-        is_meant = all_some (files store) (λ known.
-            ends_explained files written store out out_now known
-            (Err (causes.Usage wrong.index wrong.why)) cause unwritten explained);
+        is_meant = all_some store.files (λ known.
+            ends_explained (Err (causes.Usage wrong.index wrong.why))
+            (WritesAndSaves before after known) cause unwritten explained);
         is_meant_alone = tt;
         others_stay = refl;
-        same_files = λ _. all_known (files store);
+        same_files = λ _. all_known store.files;
         fault_line_written = λ _. line;
         all_read = λ written. absurd (unwritten written);
         read_failed = λ is. absurd (unread is);
@@ -70,7 +73,7 @@ module _ {S I O : Type 0} (files : S → Option Files) (calls : S → Option ℕ
         write_counts = omega arith;
         no_read_failed = λ _. (refl, refl);
         no_write_failed = λ _. refl;
-        sink_counts = line_later written out_faults out out_now _ line;
+        sink_counts = line_later sink sink_now _ line;
         no_report_failed = λ reported. absurd (unwritten (reported_written cause reported));
       }
     where
@@ -97,9 +100,8 @@ module _ {S I O : Type 0} (files : S → Option Files) (calls : S → Option ℕ
         (λ written. written) (λ is. absurd (cc)) tt (λ other is. absurd (cc))
         (subst Line is line))
     no_memory (Ok w) cause is line =
-        given_up_early files calls read_faults write_faults left input_faults written out_faults
-        (reads w) (takes w) (soft w) (output w) (read w) (answered w) store store input input out
-        out_now cause is refl refl (subst Line is line)
+        given_up_early (reads w) (takes w) (soft w) (output w) (read w) (answered w) before after
+        cause is refl refl (subst Line is line)
 
     -- wrong words, or want of memory
     pub ended_by_words : (meant : Result W Usage) (fault : Fault Usage) (cause : Cause)
@@ -122,20 +124,11 @@ module _ {S I O : Type 0} (files : S → Option Files) (calls : S → Option ℕ
         subst (Ended (planned plan meant)) (sym same)
         (ended_by_words meant fault given explains is line)
 
-module _ {S I O W : Type 0} (files : S → Option Files) (calls : S → Option ℕ)
-    (read_faults write_faults : S → ℕ)
-    (left : I → Option (List ℕ)) (input_faults : I → ℕ) (written : O → Option (List ℕ))
-    (out_faults : O → ℕ) (store store_now : S) (input input_now : I) (out out_now : O)
-    (plan : W → Plan) where
+module _ {S I W : Type 0} (before after : Outside S I) (plan : W → Plan) where
   -- a tool was run, and its cause handed on
   pub ended_tool : (meant : Result W Usage) (w : W) (given cause : Cause) → cause ≡ given
-      → meant ≡ Ok w
-      → Run files calls read_faults write_faults left input_faults written out_faults (Ok (plan w))
-      store store_now input input_now out out_now given
-      → Run files calls read_faults write_faults left input_faults written out_faults
-      (planned plan meant) store store_now input input_now out out_now cause
+      → meant ≡ Ok w → Run (Ok (plan w)) before after given
+      → Run (planned plan meant) before after cause
   ended_tool meant w given cause same is ran =
-      subst (λ (k : Cause). Run files calls read_faults write_faults left input_faults written out_faults
-      (planned plan meant) store store_now input input_now out out_now k) (sym same)
-      (subst (λ (m : Result W Usage). Run files calls read_faults write_faults left input_faults written
-      out_faults (planned plan m) store store_now input input_now out out_now given) (sym is) ran)
+      subst (Run (planned plan meant) before after) (sym same)
+      (subst (λ (m : Result W Usage). Run (planned plan m) before after given) (sym is) ran)

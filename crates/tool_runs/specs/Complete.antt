@@ -1,6 +1,6 @@
--- What a run is in which no call failed: its cause, its status, its text and its files are those of the
--- answer, or memory was wanting.
-use Rattle.std.specs.Prelude.{◌≡◌, ℕ, List, Option, Some, Result, Ok, Err, ◌⊎◌}
+-- What a run is in which no call failed: its cause, its status, its text and its files are those of
+-- the answer, or memory was wanting.
+use Rattle.std.specs.Prelude.{◌≡◌, ℕ, List, Some, Result, Ok, Err, ◌⊎◌}
 use Rattle.std.specs.Io.KnownBytes.{Appends}
 use Rattle.input_output.specs.Source.{Rose}
 use Rattle.input_output.specs.Store.{Files}
@@ -11,6 +11,7 @@ use Rattle.run_faults.specs.declared.cause.Cause.{Cause}
 use Rattle.run_faults.specs.declared.cause.Cause.TheVariants.{OutOfMemory}
 use Rattle.run_endings.specs.Endings.{cause_of}
 use Rattle.run_endings.specs.declared.ending.Ending.{Ending}
+use Rattle.tool_runs.specs.Outside.{Outside}
 use Rattle.tool_runs.specs.Plan.{Plan, answer_in, input_in, is_soft_in, reads_in}
 use Rattle.tool_runs.specs.Run.{files_with}
 
@@ -28,26 +29,27 @@ files_in known (Ok ending) = files_with known ending.saved
 files_in known (Err cause) = known
 
 -- the run's status, text and files are those of this answer
-pub record Answered {S O : Type 0} (files : S → Option Files) (written : O → Option (List ℕ))
-    (store_now : S) (out out_now : O) (asked : Result Plan Usage) (known : Files)
-    (meant : Result Ending Cause) (status : ℕ) (cause : Cause) : Type 0 where
+pub record Answered {S I : Type 0} (asked : Result Plan Usage) (before after : Outside S I)
+    (known : Files) (meant : Result Ending Cause) (status : ℕ) (cause : Cause) : Type 0 where
   pub cause_is : cause ≡ cause_in meant
   pub status_is : status ≡ status_of (is_soft_in asked) (cause_in meant)
-  pub text_is : Appends (written out) (written out_now) (text_in (reads_in asked) meant)
-  pub files_are : files store_now ≡ Some (files_in known meant)
+  pub text_is : Appends before.sink.written after.sink.written (text_in (reads_in asked) meant)
+  pub files_are : after.store.files ≡ Some (files_in known meant)
 
--- no count of failed calls rose, and the files and the bytes of the input are known: the run is the
--- answer's, or memory was wanting
-abbrev pub Complete : {S I O : Type 0} → (S → Option Files) → (read_faults write_faults : S → ℕ)
-    → (I → Option (List ℕ)) → (I → ℕ) → (O → Option (List ℕ)) → (O → ℕ)
-    → Result Plan Usage → S → S → I → I → O → O → ℕ → Cause → Type 0
-Complete files read_faults write_faults left input_faults written out_faults asked store store_now
-    input input_now out out_now status cause =
+-- no count of failed calls rose
+pub record NoCallFailed {S I : Type 0} (before after : Outside S I) : Type 0 where
+  pub files_read : Rose before.store.read_faults after.store.read_faults → ⊥
+  pub file_written : Rose before.store.write_faults after.store.write_faults → ⊥
+  pub input_read : Rose before.input.faults after.input.faults → ⊥
+  pub sink_written : Rose before.sink.faults after.sink.faults → ⊥
+
+-- where no call failed, and the files and the bytes of the input are known, the run is the answer's,
+-- or memory was wanting
+abbrev pub Complete : {S I : Type 0} → Result Plan Usage → (before after : Outside S I)
+    → (status : ℕ) → Cause → Type 0
+Complete asked before after status cause =
     (known : Files) (bytes : List ℕ)
-    → files store ≡ Some known → input_in asked (left input) ≡ Some bytes
-    → (Rose (read_faults store) (read_faults store_now) → ⊥)
-    → (Rose (write_faults store) (write_faults store_now) → ⊥)
-    → (Rose (input_faults input) (input_faults input_now) → ⊥)
-    → (Rose (out_faults out) (out_faults out_now) → ⊥)
-    → Answered files written store_now out out_now asked known (answer_in asked known bytes)
-    status cause ⊎ (cause ≡ OutOfMemory)
+    → before.store.files ≡ Some known → input_in asked before.input.left ≡ Some bytes
+    → NoCallFailed before after
+    → Answered asked before after known (answer_in asked known bytes) status cause
+    ⊎ (cause ≡ OutOfMemory)

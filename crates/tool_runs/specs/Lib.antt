@@ -1,4 +1,5 @@
 pub mod Plan
+pub mod Outside
 pub mod Run
 pub mod Complete
 pub mod Stages

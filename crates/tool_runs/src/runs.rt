@@ -5,6 +5,7 @@ ghost use Rattle.tool_words.specs.declared.usage.Usage.{Usage};
 ghost use Rattle.run_faults.specs.Faults.{status_of};
 ghost use Rattle.run_input.specs.Files.{Reads};
 ghost use Rattle.run_input.specs.Records.{AreTaken};
+ghost use Rattle.tool_runs.specs.Outside.{outside, sink_seen, store_seen};
 ghost use Rattle.tool_runs.specs.Plan.{is_soft_in, plan_by, planned};
 ghost use Rattle.tool_runs.specs.Run.{Run};
 ghost use Rattle.tool_runs.specs.Stages.{Ended};
@@ -35,9 +36,10 @@ fn end_run<T: Tool, S: Store, O: Sink>(
     requires tree { length tree.now < 2 ^ 31 }
     requires of_format { AreTaken (T.records tool.now) tree.now }
     requires list { list.now ≡ T.reads tool.now }
-    ensures { Ended S.files S.calls S.read_faults S.write_faults O.written O.faults (T.reads tool.now)
-        (T.output tool.now) (T.answered tool.now found.now tree.now) store.old store.new
-        out.old out.new result }
+    ensures { Ended (T.reads tool.now) (T.output tool.now)
+        (T.answered tool.now found.now tree.now)
+        (store_seen S.Store store.old) (store_seen S.Store store.new)
+        (sink_seen O.Sink out.old) (sink_seen O.Sink out.new) result }
 {
     let ending = match tool.answer(alloc, found, tree) {
         Ok(ending) => ending,
@@ -68,10 +70,10 @@ fn run_found<T: Tool, S: Store, I: Source, O: Sink>(
         → (T.reads tool.now ≡ [] → store.old ≡ before)
         → (T.reads tool.now ≡ [] → (known : Files)
         → (T.files_say tool.now known).says ≡ Ok found.now)
-        → Run S.files S.calls S.read_faults S.write_faults I.left I.faults O.written O.faults
-        (Ok (plan_by (T.reads tool.now) (T.records tool.now) (T.is_soft tool.now)
+        → Run (Ok (plan_by (T.reads tool.now) (T.records tool.now) (T.is_soft tool.now)
         (T.output tool.now) (T.files_say tool.now) (T.answered tool.now)))
-        before store.new input.old input.new out.old out.new result }
+        (outside S.Store I.Source O.Sink before input.old out.old)
+        (outside S.Store I.Source O.Sink store.new input.new out.new) result }
 {
     let tree = match read_entries(alloc, tool.record_format(), input) {
         Ok(tree) => tree,
@@ -91,10 +93,10 @@ fn run_listed<T: Tool, S: Store, I: Source, O: Sink>(
 ) -> Cause
     requires fit { T.IsFit tool.now }
     requires list { list.now ≡ T.reads tool.now }
-    ensures { Run S.files S.calls S.read_faults S.write_faults I.left I.faults O.written O.faults
-        (Ok (plan_by (T.reads tool.now) (T.records tool.now) (T.is_soft tool.now)
+    ensures { Run (Ok (plan_by (T.reads tool.now) (T.records tool.now) (T.is_soft tool.now)
         (T.output tool.now) (T.files_say tool.now) (T.answered tool.now)))
-        store.old store.new input.old input.new out.old out.new result }
+        (outside S.Store I.Source O.Sink store.old input.old out.old)
+        (outside S.Store I.Source O.Sink store.new input.new out.new) result }
 {
     let found = match tool.read_files(alloc, list, store) {
         Ok(found) => found,
@@ -112,10 +114,10 @@ fn run_tool<T: Tool, S: Store, I: Source, O: Sink>(
     out: &mut O,
 ) -> Cause
     requires fit { T.IsFit tool.now }
-    ensures { Run S.files S.calls S.read_faults S.write_faults I.left I.faults O.written O.faults
-        (Ok (plan_by (T.reads tool.now) (T.records tool.now) (T.is_soft tool.now)
+    ensures { Run (Ok (plan_by (T.reads tool.now) (T.records tool.now) (T.is_soft tool.now)
         (T.output tool.now) (T.files_say tool.now) (T.answered tool.now)))
-        store.old store.new input.old input.new out.old out.new result }
+        (outside S.Store I.Source O.Sink store.old input.old out.old)
+        (outside S.Store I.Source O.Sink store.new input.new out.new) result }
 {
     let list = match tool.file_list(alloc) {
         Ok(list) => list,
@@ -140,10 +142,10 @@ pub fn run_words<T: Tool + Drop, S: Store, I: Source, O: Sink>(
         (T.records tool) (T.is_soft tool) (T.output tool) (T.files_say tool) (T.answered tool))
         meant)) result.cause }
     ensures run { (meant : Result T Usage) → Answers (λ tool. tool) cause_of words meant
-        → Run S.files S.calls S.read_faults S.write_faults I.left I.faults O.written O.faults
-        (planned (λ tool. plan_by (T.reads tool) (T.records tool) (T.is_soft tool)
+        → Run (planned (λ tool. plan_by (T.reads tool) (T.records tool) (T.is_soft tool)
         (T.output tool) (T.files_say tool) (T.answered tool)) meant)
-        store.old store.new input.old input.new out.old out.new result.cause }
+        (outside S.Store I.Source O.Sink store.old input.old out.old)
+        (outside S.Store I.Source O.Sink store.new input.new out.new) result.cause }
 {
     match words {
         Ok(tool) => outcome(

@@ -6,13 +6,12 @@ use Rattle.relabel_program.proofs.runs.top.Goals as goal
 
 pub returns-clause-complete : goal.returns-clause-complete
 returns-clause-complete g c =
-    complete _ _ _ _ _ _ _ _ _ _ _ _ _ _ _ _ _ c.run_asked_by.ensures.status c.run_asked_by.ensures.run
+    complete _ _ _ _ _ c.run_asked_by.ensures.status c.run_asked_by.ensures.run
 
 pub returns-clause-sample : goal.returns-clause-sample
 returns-clause-sample g c =
-    runs_sample _ _ _ _ _ _ _ _ _ _ _ _ _ _ _ (word_texts c.args.words.now)
-    c.run_asked_by.ensures.run
+    runs_sample _ _ _ (word_texts c.args.words.now) c.run_asked_by.ensures.run
 
 pub returns-clause-keeps : goal.returns-clause-keeps
 returns-clause-keeps g c =
-    keeps _ _ _ _ _ _ _ _ (word_texts c.args.words.now) _ _ _ _ _ _ _ c.run_asked_by.ensures.run
+    keeps _ _ _ (word_texts c.args.words.now) c.run_asked_by.ensures.run
