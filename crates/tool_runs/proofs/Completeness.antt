@@ -1,6 +1,6 @@
 -- Where no call failed, a run's cause, status, text and files are the answer's.
 use Rattle.std.proofs.Common.{◌≡◌, ◌∙◌, ap, sym, subst, refl, ℕ, ◌⊎◌, inl, inr, List}
-use Rattle.std.specs.Prelude.{Option, Some, Result, Ok, Err, IfSome}
+use Rattle.std.specs.Prelude.{Option, Some, Result, Err, IfSome}
 use Rattle.std.specs.Io.KnownBytes.{Appends}
 use Rattle.input_output.specs.Source.{Rose}
 use Rattle.input_output.specs.Store.{Files}
@@ -12,7 +12,7 @@ use Rattle.run_faults.specs.declared.cause.Cause.TheVariants.{Done, WalkErrors, 
 use Rattle.run_endings.specs.declared.ending.Ending.{Ending}
 use Rattle.tool_runs.specs.Outside.{Outside, SinkSeen, WritesLine}
 use Rattle.tool_runs.specs.Plan.{Plan, answer_in, input_in, is_soft_in, reads_in}
-use Rattle.tool_runs.specs.Complete.{Answered, Complete, NoCallFailed, cause_in, files_in, text_in}
+use Rattle.tool_runs.specs.Complete.{Answered, Complete, cause_in, files_in, text_in}
 use Rattle.tool_runs.specs.Run.{EndsAsMeant, FileFailed, InputFailed, LosesDump, LosesReport, Reports, Run, WritesAndSaves}
 
 whole_line : (sink sink_now : SinkSeen) (line : List ℕ) → (Rose sink.faults sink_now.faults → ⊥)

@@ -18,7 +18,8 @@ use Rattle.tool_runs.specs.Plan.{plan_by, refusal_in}
 use Rattle.tool_runs.specs.Run.{FilesDecide, OthersStay, Run}
 use Rattle.tool_runs.proofs.PartLemmas.{FilesRead, files_accepted, files_memory, if_some, line_later, same_known, stay_same, still_up_to}
 
-module _ {S I R : Type 0} (reads : List NamedFile) (takes : Option Format) (soft : Bool) (output : Option (List ℕ))
+module _ {S I R : Type 0} (reads : List NamedFile) (takes : Option Format) (soft : Bool)
+    (output : Option (List ℕ))
     (read : Files → FilesSay R) (answered : R → List Record → Result Ending Cause)
     (before after : Outside S I) where
   abbrev Ran : Cause → Type 0
@@ -81,7 +82,7 @@ module _ {S I R : Type 0} (reads : List NamedFile) (takes : Option Format) (soft
   given_up_early cause is still unread line =
       let same : after.store.files ≡ before.store.files = ap (λ (s : StoreSeen S). s.files) still in
       let counted : after.store.read_faults ≡ before.store.read_faults
-          = ap (λ (s : StoreSeen S). s.read_faults) still in
+      = ap (λ (s : StoreSeen S). s.read_faults) still in
       let taken : after.input.faults ≡ before.input.faults = ap (λ (i : InputSeen I). i.faults) unread in
       subst Ran (sym is) (gave_up
       (all_some before.store.files (λ known. files_memory before after (read known).says unread))

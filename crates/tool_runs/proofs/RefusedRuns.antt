@@ -1,6 +1,6 @@
 -- A run whose files or input are refused.
 use Rattle.std.proofs.Common.{◌≡◌, ap, sym, subst, ℕ, arith, ◌⊎◌, inl, inr, List, []}
-use Rattle.std.specs.Prelude.{Bool, Option, None, Result, Ok, Err}
+use Rattle.std.specs.Prelude.{Bool, Option, Result, Ok, Err}
 use Rattle.input_output.specs.Store.{Files}
 use Rattle.file_roles.specs.declared.list.NamedFile.{NamedFile}
 use Rattle.find_records.specs.Record.{Record}
@@ -21,7 +21,8 @@ use Rattle.tool_runs.specs.Stages.{InputRead}
 use Rattle.tool_runs.proofs.PartLemmas.{FilesRead, all_up_to, cause_up_to, counts_calm, counts_later, ends_explained, file_calls, file_explains, files_accepted, files_memory, files_refused, if_some, input_calls, input_explains, input_later, line_later, reported_written, same_known, stay_same, unwritten_file, unwritten_input}
 use Rattle.tool_runs.proofs.MemoryRuns.{accepted_memory, gave_up}
 
-module _ {S I R : Type 0} (reads : List NamedFile) (takes : Option Format) (soft : Bool) (output : Option (List ℕ))
+module _ {S I R : Type 0} (reads : List NamedFile) (takes : Option Format) (soft : Bool)
+    (output : Option (List ℕ))
     (read : Files → FilesSay R) (answered : R → List Record → Result Ending Cause)
     (before after : Outside S I) where
   abbrev Ran : Cause → Type 0
@@ -51,8 +52,8 @@ module _ {S I R : Type 0} (reads : List NamedFile) (takes : Option Format) (soft
             files_refused before after (says known) cause explained ended.kinds still)
             ended.gives;
         calls_made = if_some before.store.files (λ known.
-            file_calls before.store.calls after.store.calls (read known).opened (writes_of output) cause
-            ended.kinds) ended.opens;
+            file_calls before.store.calls after.store.calls (read known).opened (writes_of output)
+            cause ended.kinds) ended.opens;
         no_files = λ none _. unread none;
         is_meant = if_some before.store.files (λ known explained.
             all_some (input_for takes before.input.left) (λ bytes.
@@ -74,7 +75,8 @@ module _ {S I R : Type 0} (reads : List NamedFile) (takes : Option Format) (soft
           no_input_read = still;
         });
         write_failed = λ is. absurd (subst IsFileCause is ended.kinds);
-        read_counts = counts_later before.store.read_faults after.store.read_faults cause ended.counts;
+        read_counts =
+            counts_later before.store.read_faults after.store.read_faults cause ended.counts;
         input_counts = omega (arith, taken still);
         write_counts = omega (arith, ended.unwritten);
         no_read_failed = λ calm. (
@@ -156,13 +158,14 @@ module _ {S I R : Type 0} (reads : List NamedFile) (takes : Option Format) (soft
       → (reads ≡ [] → (known : Files) → Explained (says known) refusal) → after.input ≡ before.input
       → WritesLine before.sink after.sink (fault_line list cause) → Ran cause
   ended_by_file refusal cause list (inl is) own ended unread alone still line =
-      subst Ran (sym is) (refused_file refusal ended unread alone still (line_for list cause refusal own is line))
+      subst Ran (sym is)
+      (refused_file refusal ended unread alone still (line_for list cause refusal own is line))
   ended_by_file refusal cause list (inr is) own ended unread alone still line =
       subst Ran (sym is) (gave_up _ _ _ _ _ _ _ _
       (all_some before.store.files (λ known. files_memory before after (says known) still))
       (if_some before.store.files (λ known.
-      cause_up_to before.store.calls after.store.calls (read known).opened (writes_of output) refusal)
-      ended.opens) (λ none _. unread none) (λ _. still)
+      cause_up_to before.store.calls after.store.calls (read known).opened (writes_of output)
+      refusal) ended.opens) (λ none _. unread none) (λ _. still)
       (stay_same before.store.files after.store.files output ended.same)
       (same_known before.store.files after.store.files ended.same)
       (line_for list cause OutOfMemory own is line)
@@ -179,10 +182,12 @@ module _ {S I R : Type 0} (reads : List NamedFile) (takes : Option Format) (soft
       → WritesLine before.sink after.sink (fault_line list cause) → Ran cause
   ended_by_input refusal cause list found (inl is) own accepted entries kind unread alone line =
       subst Ran (sym is)
-      (refused_input refusal found accepted entries kind unread alone (line_for list cause refusal own is line))
+      (refused_input refusal found accepted entries kind unread alone
+      (line_for list cause refusal own is line))
   ended_by_input refusal cause list found (inr is) own accepted entries kind unread alone line =
       subst Ran (sym is) (gave_up _ _ _ _ _ _ _ _
-      (accepted_memory reads takes soft output read answered before after after.store found accepted)
+      (accepted_memory reads takes soft output read answered before after after.store found
+      accepted)
       (if_some before.store.files (λ known.
       all_up_to before.store.calls after.store.calls (read known).opened (writes_of output))
       accepted.opens) (λ none _. unread none) entries.untouched

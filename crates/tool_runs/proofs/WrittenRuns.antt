@@ -15,16 +15,17 @@ use Rattle.run_faults.specs.declared.cause.Cause.TheVariants.{ReadFault, WriteFa
 use Rattle.run_input.specs.Files.{CallsUpTo, FilesSay}
 use Rattle.run_input.specs.Records.{entries_for, input_for}
 use Rattle.run_input.proofs.ReadsLemmas.{calls_on}
-use Rattle.run_endings.specs.Endings.{Saves, WritesReport, cause_of, writes_of}
+use Rattle.run_endings.specs.Endings.{Saves, cause_of, writes_of}
 use Rattle.run_endings.specs.declared.ending.Ending.{Ending}
-use Rattle.tool_runs.specs.Outside.{Outside, SinkSeen, StoreSeen, WritesLine}
+use Rattle.tool_runs.specs.Outside.{Outside, StoreSeen, WritesLine}
 use Rattle.tool_runs.specs.Plan.{answer_by, plan_by}
 use Rattle.tool_runs.specs.Run.{EndsAsMeant, LosesDump, LosesReport, OthersStay, Run, Writes, WritesAndSaves, WritesFrontAndSaves, files_with}
-use Rattle.tool_runs.specs.Stages.{Ended, GivesUp, InputRead, RefusesAnswer, WritesAnswer, WritesBehind, saved_name}
+use Rattle.tool_runs.specs.Stages.{Ended, GivesUp, InputRead, WritesBehind, saved_name}
 use Rattle.tool_runs.proofs.PartLemmas.{FilesRead, all_saved, all_up_to, answer_is, end_kept, end_written, ends_explained, ends_reported, exactly, failing_named, files_accepted, if_both, if_some, input_calls, input_later, line_later, none_named, none_saved, ok_and, others_stay, reported_written, same_known, stay_same, unwritten_input, writes_named, written_calls, written_later}
 use Rattle.tool_runs.proofs.MemoryRuns.{accepted_memory, gave_up}
 
-module _ {S I R : Type 0} (reads : List NamedFile) (takes : Option Format) (soft : Bool) (output : Option (List ℕ))
+module _ {S I R : Type 0} (reads : List NamedFile) (takes : Option Format) (soft : Bool)
+    (output : Option (List ℕ))
     (read : Files → FilesSay R) (answered : R → List Record → Result Ending Cause)
     (before after : Outside S I) where
   abbrev Ran : Cause → Type 0
@@ -39,7 +40,8 @@ module _ {S I R : Type 0} (reads : List NamedFile) (takes : Option Format) (soft
   abbrev Meant : Cause → Type 0
   Meant cause = IfSome before.store.files (λ known.
       IfSome (input_for takes before.input.left) (λ bytes.
-      EndsAsMeant (answer_by takes says answered known bytes) (WritesAndSaves before after known) cause))
+      EndsAsMeant (answer_by takes says answered known bytes) (WritesAndSaves before after known)
+      cause))
 
   abbrev Solo : Cause → Type 0
   Solo cause = reads ≡ [] → (known : Files)
@@ -343,8 +345,8 @@ module _ {S I R : Type 0} (reads : List NamedFile) (takes : Option Format) (soft
         → Ended reads output (answered found entries) mid after.store before.sink after.sink cause
         → Ran cause
     ended_run cause (inl refusal) =
-        ended_by_tool cause refusal.refusal refusal.explained refusal.of_input
+        ended_by_tool cause refusal.refusal refusal.given refusal.of_input
         refusal.no_read_failed refusal.cause_is refusal.untouched refusal.line
     ended_run cause (inr answer) =
-        by_saving answer.made answer.is_meant answer.named answer.calls_made answer.unasked answer.read_counts cause
-        answer.saving answer.file_saved answer.write_counts answer.behind
+        by_saving answer.made answer.is_meant answer.named answer.calls_made answer.unasked
+        answer.read_counts cause answer.saving answer.file_saved answer.write_counts answer.behind

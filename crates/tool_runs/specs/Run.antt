@@ -8,7 +8,7 @@ use Rattle.input_output.specs.Store.{Calls, Files}
 use Rattle.tool_words.specs.declared.usage.Usage.{Usage}
 use Rattle.tool_runs.specs.Outside.{Outside, WritesLine}
 use Rattle.tool_runs.specs.Plan.{Plan, answer_in, input_in, output_in, reads_in}
-use Rattle.run_faults.specs.Causes.{Explained, IsFileCause, IsReadingCause, IsReported, IsWritten}
+use Rattle.run_faults.specs.Causes.{Gives, IsFileCause, IsReadingCause, IsReported, IsWritten}
 use Rattle.run_endings.specs.Endings.{cause_of, writes_of}
 use Rattle.run_input.specs.Files.{CallsUpTo}
 use Rattle.run_input.specs.Records.{input_for}
@@ -87,7 +87,7 @@ EndsAsMeant meant IsDone (WalkErrors count) = Reports meant IsDone (WalkErrors c
 EndsAsMeant meant IsDone (Differs count) = Reports meant IsDone (Differs count)
 EndsAsMeant meant IsDone (Denied finding) = Reports meant IsDone (Denied finding)
 EndsAsMeant meant IsDone WriteFault = IsOk meant
-EndsAsMeant meant IsDone cause = Explained meant cause
+EndsAsMeant meant IsDone cause = Gives meant (Err cause)
 
 -- ---- failed reads and writes
 

@@ -7,7 +7,7 @@ use Rattle.input_output.specs.declared.store.SaveFault.TheVariants as save
 use Rattle.file_roles.specs.declared.list.NamedFile.{NamedFile}
 use Rattle.find_records.specs.Record.{Record}
 use Rattle.find_records.specs.declared.format.Format.{Format}
-use Rattle.run_faults.specs.Causes.{Counts, Explained, Gives, IsInputCause}
+use Rattle.run_faults.specs.Causes.{Counts, Gives, IsInputCause}
 use Rattle.run_faults.specs.Faults.{fault_line}
 use Rattle.run_faults.specs.declared.cause.Cause.{Cause}
 use Rattle.run_faults.specs.declared.cause.Cause.TheVariants.{OutOfMemory, ReadFault, WriteFault}
@@ -33,7 +33,7 @@ pub record InputRead {I : Type 0} (records : Option Format) (input input_now : I
 pub record RefusesAnswer {S : Type 0} (reads : List NamedFile) (meant : Result Ending Cause)
     (store store_now : StoreSeen S) (sink sink_now : SinkSeen) (cause : Cause) : Type 0 where
   pub refusal : Cause
-  pub explained : Explained meant refusal
+  pub given : Gives meant (Err refusal)
   pub of_input : IsInputCause refusal
   pub no_read_failed : refusal ≡ ReadFault → ⊥
   pub cause_is : (cause ≡ refusal) ⊎ (cause ≡ OutOfMemory)

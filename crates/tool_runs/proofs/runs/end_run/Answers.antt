@@ -13,7 +13,7 @@ returns-in-Err g c =
     let asked = c.in-Err.ensures in
     inl (record {
       refusal = c.in-Err.refusal;
-      explained = asked.meant;
+      given = asked.meant;
       of_input = asked.kinds;
       no_read_failed = never_read c.in-Err.refusal (asked.counts 0);
       cause_is = c.refuse.ensures.cause;
