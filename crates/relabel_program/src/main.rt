@@ -8,10 +8,16 @@ ghost use Rattle.std.specs.Prelude.{◌<◌, ◌^◌, IfOk, length};
 #[cfg(test)]
 mod audit_tests;
 #[cfg(test)]
+mod digest_tests;
+#[cfg(test)]
 mod failing_tests;
+#[cfg(test)]
+mod realistic_tests;
 mod runs;
 #[cfg(test)]
 mod tests;
+#[cfg(test)]
+mod worked_tests;
 
 use crate::runs::top;
 use input_output::{FileStore, ReadSource, WriteSink};

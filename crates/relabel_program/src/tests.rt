@@ -11,7 +11,7 @@ use std::thread::Threads;
 
 pub(crate) const WORDS: &[&str] = &["setfiles", "-n", "-v", "-F", "fc", "/"];
 
-const TYPES: &str = "/etc/selinux/targeted/contexts/customizable_types";
+pub(crate) const TYPES: &str = "/etc/selinux/targeted/contexts/customizable_types";
 
 pub(crate) const SPECS: &[u8] =
     b"/ -d system_u:object_r:root_t:s0\n/etc/passwd system_u:object_r:passwd_file_t:s0\n";
@@ -209,13 +209,16 @@ fn each_refusal_of_words_is_told_before_all_else(rt: HostRuntime) -> Result<(), 
 
 /// Base files that are refused, and their line.
 const REFUSED: &[(&[u8], &[u8])] = &[
-    (b"[ u:r:a_t", b"relabel: fc: line 1: pattern: syntax at 0\n"),
     (
-        b"# first\na{2,1} u:r:a_t",
+        b"[ system_u:object_r:a_t:s0\n",
+        b"relabel: fc: line 1: pattern: syntax at 0\n",
+    ),
+    (
+        b"# x\na{2,1} system_u:object_r:a_t:s0\n",
         b"relabel: fc: line 2: pattern: syntax at 1\n",
     ),
     (
-        b"# first\n# second\n(?=x) u:r:a_t",
+        b"# x\n# y\n(?=x) system_u:object_r:a_t:s0\n",
         b"relabel: fc: line 3: pattern: unsupported at 0\n",
     ),
     (
@@ -247,6 +250,18 @@ fn each_refused_base_file_is_told_before_the_input(rt: HostRuntime) -> Result<()
 /// Files that are refused, and their line.
 const REFUSED_FILES: &[(&[(&str, &[u8])], &[u8])] = &[
     (&[], b"relabel: fc: not found\n"),
+    (
+        &[("fc", SPECS), ("fc.subs", b"/a\n")],
+        b"relabel: fc.subs: line 1: not a substitution\n",
+    ),
+    (
+        &[("fc", SPECS), ("fc.subs", b"/ /b\n")],
+        b"relabel: fc.subs: line 1: not a substitution\n",
+    ),
+    (
+        &[("fc", SPECS), ("fc.subs", b"a /b\n")],
+        b"relabel: fc.subs: line 1: not a substitution\n",
+    ),
     (
         &[("fc", SPECS), ("fc.subs_dist", b"/a /b\n/ /c\n")],
         b"relabel: fc.subs_dist: line 2: not a substitution\n",
@@ -346,22 +361,6 @@ fn labels_that_stay_give_an_empty_dump(rt: HostRuntime) -> Result<(), Fail> {
     Ok(())
 }
 
-const VOIDED: &[u8] =
-    b"# file: /srv\nsecurity.sehash=0x0000000000000000000000000000000000000000\n\n# file: /srv/b\nsecurity.selinux=\"unconfined_u:object_r:var_t:s0-s0:c0.c1023\"\n\n";
-
-#[test]
-fn a_stored_digest_is_voided_where_a_label_below_changes(rt: HostRuntime) -> Result<(), Fail> {
-    let files: &[(&str, &[u8])] = &[
-        ("fc", VAR_SPECS),
-        ("k", b"# file: srv\nsecurity.sehash=0xAB\n\n"),
-    ];
-    let records =
-        b"d 1 9 system_u:object_r:var_t:s0 /srv\0f 1 21 unconfined_u:object_r:tmp_t:s0-s0:c0.c1023 /srv/b\0";
-    let ran = run(rt.alloc(), KEPT_WORDS, files, records, &NONE_FAILS)?;
-    assert!(rt; ran.ended(0, b"") && ran.has("out", VOIDED));
-    Ok(())
-}
-
 #[test]
 fn types_are_read_last(rt: HostRuntime) -> Result<(), Fail> {
     let sixth = Failing {
@@ -370,17 +369,6 @@ fn types_are_read_last(rt: HostRuntime) -> Result<(), Fail> {
     };
     let ran = first(rt.alloc(), &sixth)?;
     assert!(rt; ran.refused(253, b"relabel: read failed\n"));
-    Ok(())
-}
-
-#[test]
-fn customizable_types_are_kept_without_force(rt: HostRuntime) -> Result<(), Fail> {
-    let words = &["restorecon", "-n", "-v", "-S", "fc", "/srv/a"];
-    let files: &[(&str, &[u8])] = &[("fc", VAR_SPECS), (TYPES, b"public_content_t\n")];
-    let records = b"f 1 20 u:r:public_content_t:s0 /srv/a\0";
-    let ran = run(rt.alloc(), words, files, records, &NONE_FAILS)?;
-    let line = b"/srv/a not reset as customized by admin to u:r:public_content_t:s0\n".as_slice();
-    assert!(rt; ran.ended(0, line));
     Ok(())
 }
 
@@ -421,7 +409,7 @@ HOME_DIR/.+\tunconfined_u:object_r:ROLE_home_t:s0
 /srv\tsystem_u:object_r:srv_t:s0
 ";
 
-const HOMES: &[u8] = b"/home\t-d\tsystem_u:object_r:home_root_t:s0
+pub(crate) const HOMES: &[u8] = b"/home\t-d\tsystem_u:object_r:home_root_t:s0
 /home/ana\t-d\tunconfined_u:object_r:user_home_dir_t:s0
 /home/b\\.o\t-d\tunconfined_u:object_r:staff_home_dir_t:s0
 /home/ana/.+\tunconfined_u:object_r:user_home_t:s0
@@ -481,6 +469,11 @@ fn a_sample_is_walked_twice(rt: HostRuntime) -> Result<(), Fail> {
             "7",
             b"entries 15\nrelabelled 2\nconflicts 3\nerrors 0\nskipped again 1\nrelabelled again 0\n",
         ),
+        (
+            "1000",
+            b"entries 1101\nrelabelled 333\nconflicts 500\nerrors 0\nskipped again 1\n\
+            relabelled again 0\n",
+        ),
     ] {
         let ran = run(rt.alloc(), &["sample", count], &[], RECORDS, &first)?;
         assert!(rt; ran.refused(0, lines), "at {count}");
@@ -511,22 +504,6 @@ fn a_lookup_compares_with_the_records(rt: HostRuntime) -> Result<(), Fail> {
 }
 
 #[test]
-fn a_specification_that_decides_nothing_is_told(rt: HostRuntime) -> Result<(), Fail> {
-    let words = &["setfiles", "-n", "-W", "fc", "/etc"];
-    let files: &[(&str, &[u8])] = &[("fc", b"/etc(/.*)? u:r:etc_t:s0\n/opt/.* -d u:r:opt_t:s0\n")];
-    let ran = run(
-        rt.alloc(),
-        words,
-        files,
-        b"d 1 7 u:r:etc_t:s0 /etc\0",
-        &NONE_FAILS,
-    )?;
-    let line = b"Warning! No matches for (/opt/.*, -d, u:r:opt_t:s0)\n".as_slice();
-    assert!(rt; ran.ended(0, line));
-    Ok(())
-}
-
-#[test]
 fn options_may_stand_in_one_word(rt: HostRuntime) -> Result<(), Fail> {
     let words = &["setfiles", "-nvFT2", "fc", "/"];
     let ran = run(rt.alloc(), words, &[("fc", SPECS)], RECORDS, &NONE_FAILS)?;
@@ -537,7 +514,7 @@ fn options_may_stand_in_one_word(rt: HostRuntime) -> Result<(), Fail> {
 /// Words of runs that meet an error, and their status.
 const ERRORS: &[(&[&str], u8)] = &[
     (&["setfiles", "-n", "fc", "/etc"], 255),
-    (&["setfiles", "-nC", "fc", "/etc"], 1),
+    (&["setfiles", "-n", "-C", "fc", "/etc"], 1),
 ];
 
 #[test]
@@ -558,18 +535,36 @@ fn errors_of_the_walk_may_be_soft(rt: HostRuntime) -> Result<(), Fail> {
 
 /// Inputs that are refused, and their line.
 const REFUSED_RECORDS: &[(&[u8], &[u8])] = &[
-    (b"d 1 2 ? /\0f 1 5 ? /a", b"relabel: record 2: not ended\n"),
-    (b"Q 1 5 ? /a\0", b"relabel: record 1: bad type\n"),
     (
-        b"d 1 2 ? /\0f 18446744073709551616 5 ? /a\0",
+        b"f 1 5 system_u:object_r:a_t:s0 /a",
+        b"relabel: record 1: not ended\n",
+    ),
+    (
+        b"Q 1 5 system_u:object_r:a_t:s0 /a\0",
+        b"relabel: record 1: bad type\n",
+    ),
+    (
+        b"f 18446744073709551616 5 system_u:object_r:a_t:s0 /a\0",
+        b"relabel: record 1: bad number\n",
+    ),
+    (
+        b"d 1 2 ? /\0f 1 x ? /a\0",
         b"relabel: record 2: bad number\n",
     ),
     (b"f 1 5 /a\0", b"relabel: record 1: missing field\n"),
     (b"f 1 5 ? \0", b"relabel: record 1: path: empty\n"),
-    (b"f 1 5 ? a\0", b"relabel: record 1: path: not absolute\n"),
-    (b"f 1 5 ? /a/../b\0", b"relabel: record 1: path: dot part\n"),
     (
-        b"f 1 5 ? /a\0d 1 2 ? /\0f 1 6 ? //a/\0",
+        b"f 1 5 system_u:object_r:a_t:s0 a\0",
+        b"relabel: record 1: path: not absolute\n",
+    ),
+    (
+        b"f 1 5 system_u:object_r:a_t:s0 /a/../b\0",
+        b"relabel: record 1: path: dot part\n",
+    ),
+    (
+        b"f 1 5 system_u:object_r:a_t:s0 /a\0\
+        f 1 5 system_u:object_r:a_t:s0 //a/\0\
+        f 1 5 system_u:object_r:b_t:s0 /a\0",
         b"relabel: records 1 and 3: one path, two entries\n",
     ),
 ];
@@ -584,7 +579,7 @@ fn each_refused_input_is_told(rt: HostRuntime) -> Result<(), Fail> {
 }
 
 fn long_record(alloc: Global) -> Result<Bytes, OutOfMemory> {
-    let mut record = Bytes::copy_of(alloc, b"f 1 5 ? /")?;
+    let mut record = Bytes::copy_of(alloc, b"f 1 5 system_u:object_r:a_t:s0 /")?;
     record.push([b'x'; 4095].as_slice())?;
     record.push(b"\0")?;
     Ok(record)
@@ -605,15 +600,6 @@ fn records_past_their_limit(rt: HostRuntime) -> Result<(), Fail> {
     let records = repeated(rt.alloc(), b"d 1 2 ? /\0", 2_097_153)?;
     let ran = run(rt.alloc(), WORDS, files, records.as_slice(), &NONE_FAILS)?;
     assert!(rt; ran.ended(255, b"relabel: limit: records\n"));
-    Ok(())
-}
-
-#[test]
-fn one_entry_given_twice(rt: HostRuntime) -> Result<(), Fail> {
-    let files: &[(&str, &[u8])] = &[("fc", SPECS)];
-    let records = b"d 1 2 system_u:object_r:root_t:s0 /\0f 1 5 ? /a\0f 1 5 ? //a/\0";
-    let ran = run(rt.alloc(), WORDS, files, records, &NONE_FAILS)?;
-    assert!(rt; ran.ended(0, b"Warning no default label for /a\n"));
     Ok(())
 }
 
@@ -648,22 +634,46 @@ fn as_many_specifications_as_there_may_be(rt: HostRuntime) -> Result<(), Fail> {
     Ok(())
 }
 
-fn with_feeds(alloc: Global, count: u32) -> Result<Ran, OutOfMemory> {
+const RUN_SPECS: &[u8] = b"/var/run(/.*)? system_u:object_r:var_run_t:s0\n";
+
+// A run with so many empty lines in the first file of substitutions.
+fn with_feeds(alloc: Global, words: &[&str], count: u32) -> Result<Ran, OutOfMemory> {
     let feeds = repeated(alloc, b"\n", count)?;
-    let files: &[(&str, &[u8])] = &[("fc", SPECS), ("fc.subs", feeds.as_slice())];
-    run(alloc, WORDS, files, RECORDS, &NONE_FAILS)
+    let files: &[(&str, &[u8])] = &[
+        ("fc", RUN_SPECS),
+        ("fc.subs", feeds.as_slice()),
+        ("fc.subs_dist", b"/run /var/run\n"),
+    ];
+    run(alloc, words, files, RECORDS, &NONE_FAILS)
 }
+
+const RUN_WORDS: &[&str] = &[
+    "matchpathcon",
+    "-n",
+    "-f",
+    "fc",
+    "/run/x",
+    "/run",
+    "/runner",
+    "/myweb/a",
+];
 
 #[test]
 fn a_substitution_file_past_its_limit(rt: HostRuntime) -> Result<(), Fail> {
-    let ran = with_feeds(rt.alloc(), 1_048_577)?;
-    assert!(rt; ran.refused(255, b"relabel: limit: bytes of fc.subs\n"));
+    for words in [WORDS, RUN_WORDS] {
+        let ran = with_feeds(rt.alloc(), words, 1_048_577)?;
+        assert!(rt; ran.refused(255, b"relabel: limit: bytes of fc.subs\n"));
+    }
     Ok(())
 }
 
 #[test]
 fn a_substitution_file_at_its_limit(rt: HostRuntime) -> Result<(), Fail> {
-    assert!(rt; with_feeds(rt.alloc(), 1_048_576)?.ended(0, REPORT));
+    let lines = b"system_u:object_r:var_run_t:s0\nsystem_u:object_r:var_run_t:s0\n\
+        <<none>>\n<<none>>\n"
+        .as_slice();
+    let ran = with_feeds(rt.alloc(), RUN_WORDS, 1_048_576)?;
+    assert!(rt; ran.refused(0, lines));
     Ok(())
 }
 
