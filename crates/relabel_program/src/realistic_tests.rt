@@ -157,7 +157,7 @@ fn of_cut_records(alloc: Global, records: &[u8]) -> Result<Ran, OutOfMemory> {
     run(
         alloc,
         &["setfiles", "-n", "fc", "/"],
-        FILES,
+        &[("fc", b"# nothing\n")],
         records,
         &NONE_FAILS,
     )
