@@ -5,4 +5,4 @@ use Rattle.threaded_relabelling.specs.declared.counts.TheConstants.{FEWEST, FEWE
 pub record ConstantsAreStated : Type 0 where
   -- the fewest entries for each of several workers, without and with digests
   pub fewest : FEWEST ≡ 100000
-  pub fewest_with_digests : FEWEST_WITH_DIGESTS ≡ 30000
+  pub fewest_with_digests : FEWEST_WITH_DIGESTS ≡ 60000
