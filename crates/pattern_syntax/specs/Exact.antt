@@ -12,3 +12,7 @@ is_exact_text [] = true
 is_exact_text (b ∷ []) = not (is_meta b)
 is_exact_text (b ∷ c ∷ bs) =
     if b == 92 then is_exact_text bs else not (is_meta b) && is_exact_text (c ∷ bs)
+
+-- a byte that stands for itself in a pattern, whatever is behind it
+abbrev pub is_itself : ℕ → Bool
+is_itself b = not (is_meta b || (b == 92) || (b == 41) || (b == 0))

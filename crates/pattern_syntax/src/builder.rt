@@ -69,15 +69,15 @@ fn factor(least: u32, most: Option<u32>) -> u32
 }
 
 impl Builder {
-    /// Nothing read yet.
-    pub(crate) fn new(alloc: Global) -> Builder
-        ensures { Stands result new_reading }
+    /// Nothing read yet, with room for so many nodes.
+    pub(crate) fn with_room(alloc: Global, room: usize) -> Result<Builder, OutOfMemory>
+        ensures { IfOk result (λ builder. Stands builder new_reading) }
     {
-        Builder {
-            nodes: Vec::new(alloc),
+        Ok(Builder {
+            nodes: Vec::with_capacity(alloc, room)?,
             level: Level::new(),
             outer: Vec::new(alloc),
-        }
+        })
     }
 
     #[tactic(auto, using(crate::proofs::BuildingLemmas::after_pushed))]

@@ -2,7 +2,7 @@
 ghost use Rattle.std.specs.Prelude.{◌≡◌, ◌<◌, ◌≤◌, length, drop, false, MatchOption};
 ghost use Rattle.pattern_syntax.specs.Exact.{is_meta, is_exact_text};
 
-fn is_metacharacter(b: u8) -> bool
+pub(crate) fn is_metacharacter(b: u8) -> bool
     ensures { result ≡ is_meta b }
 {
     b == b'.'

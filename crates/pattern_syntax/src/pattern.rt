@@ -5,6 +5,7 @@ ghost use Rattle.pattern_syntax.specs.Literal.{node_code, code_byte, led_byte, i
 ghost use Rattle.pattern_syntax.specs.Parts.{IsWhole, IsStart, IsPattern};
 
 use crate::builder::Builder;
+use crate::limits::MOST_POSITIONS;
 use crate::node::Node;
 use crate::pattern_fault::PatternFault;
 use crate::placed::token_from;
@@ -75,7 +76,7 @@ fn leading_bytes(alloc: Global, nodes: &[Node]) -> Result<Bytes, OutOfMemory>
     requires { IsWhole nodes.now }
     ensures { IfOk result (λ start. IsStart nodes.now start) }
 {
-    let mut start = Bytes::new(alloc);
+    let mut start = Bytes::with_capacity(alloc, nodes.len() / 2)?;
     if have_sides(nodes) {
         return Ok(start);
     }
@@ -90,6 +91,12 @@ fn leading_bytes(alloc: Global, nodes: &[Node]) -> Result<Bytes, OutOfMemory>
         }
     }
     Ok(start)
+}
+
+// Room for two nodes a byte, which most texts don't pass, for as many bytes as a pattern may have
+// positions. A row that needs more grows.
+fn room_for(length: usize) -> usize {
+    length.min(MOST_POSITIONS as usize) * 2
 }
 
 impl Pattern {
@@ -113,7 +120,7 @@ impl Pattern {
         requires { length bytes.now < 2 ^ 32 }
         ensures { Answers (λ pattern. pattern) pattern_cause result (pattern_of bytes.now) }
     {
-        let mut builder = Builder::new(alloc);
+        let mut builder = Builder::with_room(alloc, room_for(bytes.len()))?;
         let mut at = 0;
         'tokens: while at < bytes.len() {
             if builder.is_full() {

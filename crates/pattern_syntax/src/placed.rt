@@ -3,16 +3,25 @@ ghost use Rattle.std.specs.Prelude.{◌≡◌, ◌==◌, ◌<◌, ◌≤◌, ◌
 ghost use Rattle.label_base.specs.Answers.{Answers};
 ghost use Rattle.pattern_syntax.specs.PatternCause.{pattern_cause};
 ghost use Rattle.pattern_syntax.specs.Reading.{placed_cut};
+ghost use Rattle.pattern_syntax.specs.Exact.{is_itself};
 ghost use Rattle.pattern_syntax.specs.Tokens.{token_at};
 ghost use Rattle.pattern_syntax.specs.Views.{token_of, token_cut};
 ghost use Rattle.pattern_syntax.specs.Building.{IsProperToken};
 
 use crate::cutting::read_token;
+use crate::exact::is_metacharacter;
 use crate::pattern_fault::PatternFault;
 use crate::refusal::Refusal;
 use crate::token::Token;
 
-/// The token at a place, and its length.
+// Whether a byte stands for itself, whatever is behind it.
+fn is_itself(b: u8) -> bool
+    ensures { result ≡ is_itself b }
+{
+    !(is_metacharacter(b) || b == b'\\' || b == b')' || b == 0)
+}
+
+/// The token at a place, and its length. Most bytes stand for themselves, which is seen at once.
 pub(crate) fn token_from(bytes: &[u8], at: usize) -> Result<(Token, usize), PatternFault>
     requires room { length bytes.now < 2 ^ 32 }
     requires before_end { at < length bytes.now }
@@ -22,6 +31,10 @@ pub(crate) fn token_from(bytes: &[u8], at: usize) -> Result<(Token, usize), Patt
     ensures causes { IfErr result (λ fault. is_some (pattern_cause fault) ≡ true) }
     ensures proper { IfOk result (λ cut. IsProperToken (token_of cut.0)) }
 {
+    let b = bytes[at];
+    if is_itself(b) {
+        return Ok((Token::Byte(b), 1));
+    }
     match read_token(at == 0, &bytes[at..]) {
         Ok(cut) => Ok(cut),
         Err(Refusal::Syntax) => Err(PatternFault::Syntax { at: at as u32 }),

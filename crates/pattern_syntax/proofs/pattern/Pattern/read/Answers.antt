@@ -14,12 +14,12 @@ use Rattle.pattern_syntax.proofs.pattern.Pattern.read.Goals as goal
 
 pub tokens-init : goal.tokens-init
 unfolding pattern_of
-tokens-init c = (new_reading, c.new-builder.ensures, omega arith, refl)
+tokens-init c = (new_reading, c.in_ok-builder.ensures, omega arith, refl)
 
 pub returns-in_err-token : goal.returns-in_err-token
 returns-in_err-token c =
     let i = c.tokens.invariant in
-    let p = err_from_is_err_and c.from_residual.result c.from_residual.ensures.1 in
+    let p = err_from_is_err_and c.from_residual-in_err-token.result c.from_residual-in_err-token.ensures.1 in
     rw (p.1, p.2) (token_explained (pattern_cause c.in_err-token.field-0.0) (pattern_of c.args.bytes.now) (length c.args.bytes.now) i.0 c.tokens.at c.args.bytes.now (omega arith) i.3 c.in_err-token.ensures.value)
 
 pub returns-in_err-add : goal.returns-in_err-add
