@@ -1,5 +1,7 @@
--- The grammar of security contexts, user:role:type or user:role:type:range, and below it how it is computed.
-use Rattle.std.specs.Prelude.{◌≡◌, ℕ, Bool, true, false, ◌&&◌, ◌||◌, ◌==◌, codes, List, [], ◌∷◌, ◌++◌, length, Option, Some, None, if◌then◌else◌, not}
+-- The grammar of security contexts, user:role:type or user:role:type:range, and below it how it is
+-- computed.
+use Rattle.std.specs.Prelude.{◌≡◌, ℕ, Bool, true, false, ◌&&◌, ◌||◌, ◌==◌, codes, List, [], ◌∷◌}
+use Rattle.std.specs.Prelude.{◌++◌, length, Option, Some, None, if◌then◌else◌, not}
 use Rattle.std.specs.Char.{is_ascii_alphanumeric, is_ascii_graphic}
 use Rattle.std.specs.List.{list_all, list_any}
 use Rattle.label_base.specs.Cut.{front, behind}
@@ -47,7 +49,7 @@ abbrev pub with_kind_of : ContextValue → ContextValue → ContextValue
 with_kind_of context other = record context { kind = other.kind }
 
 -- the bytes spell this context
-pub record Spells (bytes : List ℕ) (c : ContextValue) : Type 0 where
+pub record SpellsContext (bytes : List ℕ) (c : ContextValue) : Type 0 where
   pub parts : IsContext c
   pub text : bytes ≡ context_text c
 

@@ -20,9 +20,9 @@ both_hold false y h = absurd (never h)
 and_true : (x y : Bool) → x ≡ true → y ≡ true → (x && y) ≡ true
 and_true x y p q = ap (λ v. v && y) p ∙ q
 
-abbrev HasValue : Option (List ℕ) → Type 0
-HasValue None = ⊥
-HasValue (Some x) = Unit {0}
+abbrev HasContextValue : Option (List ℕ) → Type 0
+HasContextValue None = ⊥
+HasContextValue (Some x) = Unit {0}
 
 abbrev value_or_none : Option (List ℕ) → List ℕ
 value_or_none None = []
@@ -30,8 +30,9 @@ value_or_none (Some x) = x
 
 pub option_decides : (x y : Option (List ℕ)) → Decides (same_option x y) (x ≡ y)
 option_decides None None = (λ _. refl, λ _. refl)
-option_decides None (Some y) = (λ e. absurd (never e), λ e. absurd (subst HasValue (sym e) tt))
-option_decides (Some x) None = (λ e. absurd (never e), λ e. absurd (subst HasValue e tt))
+option_decides None (Some y) =
+    (λ e. absurd (never e), λ e. absurd (subst HasContextValue (sym e) tt))
+option_decides (Some x) None = (λ e. absurd (never e), λ e. absurd (subst HasContextValue e tt))
 option_decides (Some x) (Some y) = (
   λ e. ap (λ t. Some t) ((bytes_eq-Decides x y).0 e),
   λ e. (bytes_eq-Decides x y).1

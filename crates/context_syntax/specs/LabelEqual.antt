@@ -10,10 +10,10 @@ use Rattle.context_syntax.specs.Label.{same_label}
 use Rattle.context_syntax.specs.declared.label.Label.{Label}
 use Rattle.context_syntax.specs.declared.label.Label.TheVariants.{Absent, Odd, Is}
 
-abbrev IsOdd : Label → Type 0
-IsOdd (Odd x) = Unit {0}
-IsOdd Absent = ⊥
-IsOdd (Is c) = ⊥
+abbrev IsOddLabel : Label → Type 0
+IsOddLabel (Odd x) = Unit {0}
+IsOddLabel Absent = ⊥
+IsOddLabel (Is c) = ⊥
 
 abbrev IsContextLabel : Label → Type 0
 IsContextLabel (Is c) = Unit {0}
@@ -42,10 +42,10 @@ label_decides (Is x) (Is y) = (
   λ e. (context_decides x y).1
       (ap (context_or x) e),
 )
-label_decides Absent (Odd y) = (λ e. absurd (never e), λ e. absurd (subst IsOdd (sym e) tt))
+label_decides Absent (Odd y) = (λ e. absurd (never e), λ e. absurd (subst IsOddLabel (sym e) tt))
 label_decides Absent (Is y) = (λ e. absurd (never e), λ e. absurd (subst IsContextLabel (sym e) tt))
-label_decides (Odd x) Absent = (λ e. absurd (never e), λ e. absurd (subst IsOdd e tt))
-label_decides (Odd x) (Is y) = (λ e. absurd (never e), λ e. absurd (subst IsOdd e tt))
+label_decides (Odd x) Absent = (λ e. absurd (never e), λ e. absurd (subst IsOddLabel e tt))
+label_decides (Odd x) (Is y) = (λ e. absurd (never e), λ e. absurd (subst IsOddLabel e tt))
 label_decides (Is x) Absent = (λ e. absurd (never e), λ e. absurd (subst IsContextLabel e tt))
 label_decides (Is x) (Odd y) = (λ e. absurd (never e), λ e. absurd (subst IsContextLabel e tt))
 

@@ -1,5 +1,6 @@
 -- Type names as a set, and the file that lists the customizable ones.
-use Rattle.std.specs.Prelude.{◌≡◌, ℕ, Bool, true, List, [], ◌∷◌, Result, Ok, Err, map, if◌then◌else◌}
+use Rattle.std.specs.Prelude.{◌≡◌, ℕ, Bool, true, List, [], ◌∷◌, Result, Ok, Err, map}
+use Rattle.std.specs.Prelude.{if◌then◌else◌}
 use Rattle.std.specs.List.{list_all}
 use Rattle.std.specs.Coded.{Coded, coded_ℕ, coded_list}
 use Rattle.std.specs.Cmp.Lexicographic.{slice_cmp}
@@ -19,19 +20,19 @@ NameSet = FinSet (slice_cmp nat_cmp)
 abbrev pub name_set_code : Coded NameSet
 name_set_code = code (coded_list coded_ℕ)
 
-abbrev pub entry_of : List ℕ → List ℕ × Unit {0}
-entry_of name = (name, tt)
+abbrev pub name_entry : List ℕ → List ℕ × Unit {0}
+name_entry name = (name, tt)
 
 -- the set of the names of a list
 abbrev pub set_of : List (List ℕ) → NameSet
-set_of names = from_entries (map entry_of names)
+set_of names = from_entries (map name_entry names)
 
-abbrev pub has_name : NameSet → List ℕ → Bool
-has_name names name = contains_key names name
+abbrev pub set_has_name : NameSet → List ℕ → Bool
+set_has_name names name = contains_key names name
 
 -- the names of a set in byte order, each once
-abbrev pub in_order : NameSet → List (List ℕ)
-in_order names = keys names
+abbrev pub names_in_order : NameSet → List (List ℕ)
+names_in_order names = keys names
 
 -- type names in byte order, each once
 pub record IsTypeRow (names : List (List ℕ)) : Type 0 where

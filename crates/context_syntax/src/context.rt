@@ -3,7 +3,10 @@ ghost use Rattle.std.specs.Prelude.{◌≡◌, ◌++◌, ◌↔◌, true, IfOk, 
 ghost use Rattle.std.specs.List.{list_all};
 ghost use Rattle.std.specs.Option.{option_copied};
 ghost use Rattle.label_base.specs.Answers.{Finds};
-ghost use Rattle.context_syntax.specs.Context.{ContextValue, IsContext, Spells, context_of, context_text, is_range, is_range_byte, is_word, is_word_byte, same_but_user, same_context, same_option, with_kind_of};
+ghost use Rattle.context_syntax.specs.Context.{ContextValue, IsContext, SpellsContext, context_of};
+ghost use Rattle.context_syntax.specs.Context.{context_text, is_range, is_range_byte, is_word};
+ghost use Rattle.context_syntax.specs.Context.{is_word_byte, same_but_user, same_context};
+ghost use Rattle.context_syntax.specs.Context.{same_option, with_kind_of};
 ghost use Rattle.context_syntax.specs.declared.context.ContextFault.TheVariants as faults;
 ghost use Rattle.context_syntax.specs.Equal.{contexts_equiv};
 
@@ -15,8 +18,9 @@ use std::marker::Model;
 // Parts the user, the role, the type and the range.
 pub(crate) const COLON: u8 = b':';
 
-/// A security context, as restorecon(8) and file_contexts(5) write it: `user:role:type`, or `user:role:type:range`.
-/// Each part is in the grammar of its place, so there is one spelling for each value.
+/// A security context, as restorecon(8) and file_contexts(5) write it: `user:role:type`, or
+/// `user:role:type:range`. Each part is in the grammar of its place, so there is one spelling for
+/// each value.
 #[derive(Debug)]
 pub struct Context {
     /// One or more of the ASCII letters and digits, `_`, `.` and `-`.
@@ -25,7 +29,8 @@ pub struct Context {
     pub role: Bytes,
     /// The type, in the grammar of the user.
     pub kind: Bytes,
-    /// The level or range, if there is one: one or more printing bytes other than blanks, `"` and `\`.
+    /// The level or range, if there is one: one or more printing bytes other than blanks, `"` and
+    /// `\`.
     pub range: Option<Bytes>,
 }
 
@@ -172,11 +177,13 @@ impl Context {
         ensures meant { Finds (λ c. c) is_want_of_memory result (context_of bytes.now) }
 
         // What is read and what the bytes spell is the same.
-        ensures spelled { IfOk result (λ context. Spells bytes.now context) }
+        ensures spelled { IfOk result (λ context. SpellsContext bytes.now context) }
         ensures no_context { result ≡ Err ContextFault.NoContext → (c : ContextValue)
-            → ¬ (Spells bytes.now c) }
-        ensures complete { (c : ContextValue) → Spells bytes.now c → context_of bytes.now ≡ Some c }
-        ensures sound { (c : ContextValue) → context_of bytes.now ≡ Some c → Spells bytes.now c }
+            → ¬ (SpellsContext bytes.now c) }
+        ensures complete { (c : ContextValue) → SpellsContext bytes.now c → context_of bytes.now
+            ≡ Some c }
+        ensures sound { (c : ContextValue) → context_of bytes.now ≡ Some c
+            → SpellsContext bytes.now c }
     {
         let (user, rest) = cut_at(COLON, bytes);
         let Some(rest) = rest else {
@@ -204,7 +211,7 @@ impl Context {
         ensures err { OnErr result (to.new ≡ to.old) }
 
         // What is written is read back as this context, and as no other.
-        ensures spells { Spells (context_text self.now) self.now }
+        ensures spells { SpellsContext (context_text self.now) self.now }
         ensures read_back { context_of (context_text self.now) ≡ Some self.now }
     {
         let _ = &self.user;

@@ -6,7 +6,8 @@ use crate::context::{COLON, Context};
 use label_base::{Bytes, OutOfMemory};
 use std::alloc::Global;
 
-/// A borrowed context: the user, role and range of one, with the type of another or of the same one.
+/// A borrowed context: the user, role and range of one, with the type of another or of the same
+/// one.
 #[derive(Clone, Copy, Debug)]
 pub struct ContextRef<'a> {
     /// Whose user, role and range it has.

@@ -11,7 +11,8 @@ use std::alloc::Global;
 // find(1) prints it for an entry without a label.
 const NO_LABEL: &[u8] = b"?";
 
-/// The label of an inode, as find(1) prints it by `%Z` or the attribute `security.selinux` holds it.
+/// The label of an inode, as find(1) prints it by `%Z` or the attribute `security.selinux` holds
+/// it.
 #[derive(Debug, Drop)]
 pub enum Label {
     /// There is none.

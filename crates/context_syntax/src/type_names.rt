@@ -4,7 +4,7 @@ ghost use Rattle.std.specs.List.{list_all};
 ghost use Rattle.std.specs.List.Sorted.{IsStrictlySortedBy};
 ghost use Rattle.std.specs.Ordering.{nat_cmp};
 ghost use Rattle.context_syntax.specs.Context.{is_word};
-ghost use Rattle.context_syntax.specs.TypeNames.{IsTypeRow, has_name, in_order, set_of};
+ghost use Rattle.context_syntax.specs.TypeNames.{IsTypeRow, set_has_name, names_in_order, set_of};
 
 use label_base::{Bytes, OutOfMemory, Row};
 use std::alloc::Global;
@@ -70,7 +70,7 @@ impl TypeNames {
 
     /// Whether the name is in the set. It is looked up by a binary search.
     pub fn has(&self, kind: &[u8]) -> bool
-        ensures { result ≡ has_name self.now kind.now }
+        ensures { result ≡ set_has_name self.now kind.now }
     {
         self.names
             .as_slice()
@@ -80,7 +80,7 @@ impl TypeNames {
 
     /// The names in byte order, each once.
     pub fn sorted(&self) -> &Row<Bytes>
-        ensures names { result.now ≡ in_order self.now }
+        ensures names { result.now ≡ names_in_order self.now }
         ensures ordered { IsStrictlySortedBy (slice_cmp nat_cmp) result.now }
         ensures words { list_all is_word result.now ≡ true }
     {

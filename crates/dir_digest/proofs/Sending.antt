@@ -9,4 +9,5 @@ use Rattle.spec_match.proofs.Sending.{rule_set_sync}
 use Rattle.dir_digest.specs.contracts.listings.Listings as Listings
 
 pub listings_sync : (κ : NamedLft) → IsSync (Listings.the_row κ)
-listings_sync κ = search (sendable, crosses, bytes_sync, row_sync, types_sync, rule_set_sync, subs_sync) depth 60
+listings_sync κ =
+    search (sendable, crosses, bytes_sync, row_sync, types_sync, rule_set_sync, subs_sync) depth 60

@@ -1,7 +1,8 @@
 -- What the constants of this crate are, in letters and figures.
 use Rattle.std.specs.Prelude.{◌≡◌, codes, replicate}
 use Rattle.dir_digest.specs.Digest.{void_digest}
-use Rattle.dir_digest.specs.declared.fields.TheConstants.{FORCE_FIELD, MARK_ONE, MARK_TWO, TYPE_FIELD}
+use Rattle.dir_digest.specs.declared.fields.TheConstants.{FORCE_FIELD, MARK_ONE, MARK_TWO}
+use Rattle.dir_digest.specs.declared.fields.TheConstants.{TYPE_FIELD}
 
 pub record ConstantsAreStated : Type 0 where
   -- the digest of a directory whose labels have changed: twenty zero bytes

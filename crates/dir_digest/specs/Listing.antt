@@ -16,8 +16,9 @@ pub record Line : Type 0 where
   pub kind : Option EntryKind
   pub decision : Decision
 
--- format: that of the records. path: the substituted path of the directory. force: labels are given whole, so that customizable
--- types count for nothing and aren't listed. first, second: the lines of the substitution files.
+-- format: that of the records. path: the substituted path of the directory. force: labels are given
+-- whole, so that customizable types count for nothing and aren't listed. first, second: the lines
+-- of the substitution files.
 pub record Listing : Type 0 where
   pub format : Format
   pub path : Path
@@ -27,8 +28,8 @@ pub record Listing : Type 0 where
   pub second : List SubValue
   pub lines : List Line
 
-abbrev pub line_of : SpecValue → Line
-line_of spec = record { text = spec.text; kind = spec.kind; decision = spec.decision }
+abbrev pub listing_line : SpecValue → Line
+listing_line spec = record { text = spec.text; kind = spec.kind; decision = spec.decision }
 
 -- the specifications that can decide an entry at or below the directory: where every path below it
 -- is substituted as it is, those whose language holds the substituted path or a text below it; else
@@ -50,5 +51,5 @@ listing_of format force types first second specs path =
       types = if force then [] else types;
       first = first;
       second = second;
-      lines = map line_of (relevant first second specs path);
+      lines = map listing_line (relevant first second specs path);
     }

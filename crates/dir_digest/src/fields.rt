@@ -1,9 +1,12 @@
 ghost use Rattle.std.specs.Prelude.{◌≡◌, ◌++◌, ◌∷◌, [], OnOk, decimal};
 ghost use Rattle.context_syntax.specs.Context.{IsContext, context_text};
-ghost use Rattle.context_syntax.specs.TypeNames.{in_order};
-ghost use Rattle.dir_digest.specs.ListingBytes.{AreCounted, IsDecision, IsSub, counted, decision_field, field_bytes, kind_field, listing_mark, mode_fields, name_field, shared_fields, sub_fields};
+ghost use Rattle.context_syntax.specs.TypeNames.{names_in_order};
+ghost use Rattle.dir_digest.specs.ListingBytes.{AreCountable, IsContextDecision, IsNamesSub};
+ghost use Rattle.dir_digest.specs.ListingBytes.{counted, decision_field, field_bytes, kind_field};
+ghost use Rattle.dir_digest.specs.ListingBytes.{listing_mark, mode_fields, name_field};
+ghost use Rattle.dir_digest.specs.ListingBytes.{shared_fields, sub_fields};
 ghost use Rattle.dir_digest.specs.Spelled.{spec_bytes};
-ghost use Rattle.dir_digest.specs.Terms.{IsRead, is_whole};
+ghost use Rattle.dir_digest.specs.Terms.{IsReadSpec, is_whole_mode};
 
 use crate::mode::Mode;
 use context_syntax::{Context, ContextRef, TypeNames};
@@ -64,7 +67,7 @@ fn add_names(alloc: Global, names: &[Bytes], to: &mut Bytes) -> Result<(), OutOf
 
 fn add_mode(alloc: Global, mode: Mode, types: &TypeNames, to: &mut Bytes) -> Result<(), OutOfMemory>
     ensures { OnOk result (to.new
-        ≡ to.old ++ field_bytes (mode_fields (is_whole mode) (in_order types.now))) }
+        ≡ to.old ++ field_bytes (mode_fields (is_whole_mode mode) (names_in_order types.now))) }
 {
     match mode {
         Mode::Whole => add_field(FORCE_FIELD, to),
@@ -76,7 +79,7 @@ fn add_mode(alloc: Global, mode: Mode, types: &TypeNames, to: &mut Bytes) -> Res
 }
 
 fn add_sub(sub: &Sub, to: &mut Bytes) -> Result<(), OutOfMemory>
-    ensures named { OnOk result (IsSub sub.now) }
+    ensures named { OnOk result (IsNamesSub sub.now) }
     ensures added { OnOk result (to.new ≡ to.old ++ field_bytes (sub_fields sub.now)) }
 {
     add_field(sub.source.path().as_text(), to)?;
@@ -84,7 +87,7 @@ fn add_sub(sub: &Sub, to: &mut Bytes) -> Result<(), OutOfMemory>
 }
 
 fn add_subs(alloc: Global, subs: &[Sub], to: &mut Bytes) -> Result<(), OutOfMemory>
-    ensures named { OnOk result (AreCounted IsSub subs.now) }
+    ensures named { OnOk result (AreCountable IsNamesSub subs.now) }
     ensures added { OnOk result (to.new ≡ to.old ++ field_bytes (counted sub_fields subs.now)) }
 {
     add_count(alloc, subs.len(), to)?;
@@ -102,10 +105,10 @@ pub(crate) fn add_shared(
     subs: &Subs,
     to: &mut Bytes,
 ) -> Result<(), OutOfMemory>
-    ensures first { OnOk result (AreCounted IsSub subs.now.first) }
-    ensures second { OnOk result (AreCounted IsSub subs.now.second) }
+    ensures first { OnOk result (AreCountable IsNamesSub subs.now.first) }
+    ensures second { OnOk result (AreCountable IsNamesSub subs.now.second) }
     ensures added { OnOk result (to.new ≡ to.old ++ field_bytes
-        (shared_fields (is_whole mode) (in_order types.now) subs.now.first subs.now.second)) }
+        (shared_fields (is_whole_mode mode) (names_in_order types.now) subs.now.first subs.now.second)) }
 {
     add_mode(alloc, mode, types, to)?;
     add_subs(alloc, subs.first.lines().as_slice(), to)?;
@@ -131,7 +134,7 @@ fn add_context(context: &Context, to: &mut Bytes) -> Result<(), OutOfMemory>
 }
 
 fn add_decision(decision: &Decision, to: &mut Bytes) -> Result<(), OutOfMemory>
-    ensures given { OnOk result (IsDecision decision.now) }
+    ensures given { OnOk result (IsContextDecision decision.now) }
     ensures added { OnOk result (to.new ≡ to.old ++ (decision_field decision.now ++ 0 ∷ [])) }
 {
     match decision {
@@ -142,7 +145,7 @@ fn add_decision(decision: &Decision, to: &mut Bytes) -> Result<(), OutOfMemory>
 
 /// Adds the fields of a specification.
 pub(crate) fn add_spec(spec: &Spec, to: &mut Bytes) -> Result<(), OutOfMemory>
-    ensures read { OnOk result (IsRead spec.now) }
+    ensures read { OnOk result (IsReadSpec spec.now) }
     ensures added { OnOk result (to.new ≡ to.old ++ spec_bytes spec.now) }
 {
     add_field(spec.text.as_slice(), to)?;

@@ -21,9 +21,9 @@ pub fn accepted_files_give_listings()
         → IsListing (listing_on t dir) }
 {}
 
-/// A law: where the listings of a directory by accepted files have the same bytes, labels change alike, and for each
-/// entry at or below the directory the same is decided: a context, `<<none>>` or nothing. So a digest tells all that
-/// matters.
+/// A law: where the listings of a directory by accepted files have the same bytes, labels change
+/// alike, and for each entry at or below the directory the same is decided: a context, `<<none>>`
+/// or nothing. So a digest tells all that matters.
 pub fn equal_listings_decide_alike()
     ensures { (t u : Terms) → AreRead t → AreRead u → (dir : Path) → are_names dir ≡ true
         → listing_bytes (listing_on t dir) ≡ listing_bytes (listing_on u dir) → AreAlike t u dir }

@@ -1,5 +1,5 @@
-//! The listing of a directory, which tells all that decides the labels at and below it but the tree itself, and its
-//! digest, by which a later run knows that nothing of that has changed.
+//! The listing of a directory, which tells all that decides the labels at and below it but the tree
+//! itself, and its digest, by which a later run knows that nothing of that has changed.
 #![tactic(auto)]
 
 mod fields;

@@ -1,14 +1,17 @@
-ghost use Rattle.std.specs.Prelude.{◌≡◌, ◌++◌, ◌<◌, IfOk, IfSome, OnOk, Some, decimal, get_or, length, [], map, option_map, slice_get};
+ghost use Rattle.std.specs.Prelude.{◌≡◌, ◌++◌, ◌<◌, IfOk, IfSome, OnOk, Some, decimal, get_or};
+ghost use Rattle.std.specs.Prelude.{length, [], map, option_map, slice_get};
 ghost use Rattle.std.specs.List.{flat_map};
 ghost use Rattle.file_paths.specs.PathRef.{path_of};
-ghost use Rattle.context_syntax.specs.TypeNames.{in_order};
+ghost use Rattle.context_syntax.specs.TypeNames.{names_in_order};
 ghost use Rattle.path_subs.specs.Subs.{substituted};
 ghost use Rattle.spec_match.specs.Scratches.{IsScratchOf};
 ghost use Rattle.dir_digest.specs.Digest.{digest_at};
 ghost use Rattle.dir_digest.specs.Listing.{listing_of, relevant};
-ghost use Rattle.dir_digest.specs.ListingBytes.{AreCounted, IsSub, field_bytes, listing_bytes, shared_fields};
-ghost use Rattle.dir_digest.specs.Spelled.{AreSpelled, ended, itself, spec_bytes, specs_bytes, texts_at};
-ghost use Rattle.dir_digest.specs.Terms.{AreRead, IsRead, is_whole, terms_of};
+ghost use Rattle.dir_digest.specs.ListingBytes.{AreCountable, IsNamesSub, field_bytes};
+ghost use Rattle.dir_digest.specs.ListingBytes.{listing_bytes, shared_fields};
+ghost use Rattle.dir_digest.specs.Spelled.{AreSpecsSpelled, nul_ended, text_itself, spec_bytes};
+ghost use Rattle.dir_digest.specs.Spelled.{specs_bytes, texts_at};
+ghost use Rattle.dir_digest.specs.Terms.{AreRead, IsReadSpec, is_whole_mode, terms_of};
 
 use crate::fields::{add_count, add_field, add_shared, add_spec, listing_mark};
 use crate::mode::Mode;
@@ -22,8 +25,8 @@ use sha1::Sha1;
 use spec_match::{RuleSet, Scratch};
 use std::alloc::Global;
 
-/// What makes the listings of directories. All that they have in common is spelled once, so that a listing costs no
-/// more than the specifications that are relevant for its own directory.
+/// What makes the listings of directories. All that they have in common is spelled once, so that a
+/// listing costs no more than the specifications that are relevant for its own directory.
 pub struct Listings<'a> {
     format: Format,
     mode: Mode,
@@ -34,7 +37,8 @@ pub struct Listings<'a> {
     shared: Bytes,
     // The fields of each specification.
     specs: Row<Bytes>,
-    ghost spelled: { AreSpelled (terms_of format mode types.now subs.now rules.now) shared specs },
+    ghost spelled: { AreSpecsSpelled (terms_of format mode types.now subs.now rules.now) shared
+        specs },
 }
 
 // By hand: one call for an owner, where a derived drop is a step for each field.
@@ -58,10 +62,10 @@ fn shared_of(
     types: &TypeNames,
     subs: &Subs,
 ) -> Result<Bytes, OutOfMemory>
-    ensures first { IfOk result (λ _. AreCounted IsSub subs.now.first) }
-    ensures second { IfOk result (λ _. AreCounted IsSub subs.now.second) }
+    ensures first { IfOk result (λ _. AreCountable IsNamesSub subs.now.first) }
+    ensures second { IfOk result (λ _. AreCountable IsNamesSub subs.now.second) }
     ensures value { IfOk result (λ shared. shared ≡ field_bytes
-        (shared_fields (is_whole mode) (in_order types.now) subs.now.first subs.now.second)) }
+        (shared_fields (is_whole_mode mode) (names_in_order types.now) subs.now.first subs.now.second)) }
 {
     let mut shared = Bytes::new(alloc);
     add_shared(alloc, mode, types, subs, &mut shared)?;
@@ -70,7 +74,7 @@ fn shared_of(
 
 fn spec_of(alloc: Global, rules: &RuleSet, i: u32) -> Result<Bytes, OutOfMemory>
     requires { i < length rules.now }
-    ensures read { IfOk result (λ _. IfSome (slice_get rules.now i) IsRead) }
+    ensures read { IfOk result (λ _. IfSome (slice_get rules.now i) IsReadSpec) }
     ensures value { IfOk result (λ bytes. Some bytes
         ≡ option_map spec_bytes (slice_get rules.now i)) }
 {
@@ -80,7 +84,7 @@ fn spec_of(alloc: Global, rules: &RuleSet, i: u32) -> Result<Bytes, OutOfMemory>
 }
 
 fn specs_of(alloc: Global, rules: &RuleSet) -> Result<Row<Bytes>, OutOfMemory>
-    ensures read { IfOk result (λ _. AreCounted IsRead rules.now) }
+    ensures read { IfOk result (λ _. AreCountable IsReadSpec rules.now) }
     ensures value { IfOk result (λ specs. specs ≡ map spec_bytes rules.now) }
 {
     let mut specs = Row::with_capacity(alloc, rules.len() as usize)?;
@@ -102,7 +106,7 @@ fn text_at(texts: &[Bytes], i: u32) -> &[u8]
 // Adds the fields of all specifications, and how many there are.
 fn add_all(alloc: Global, texts: &[Bytes], to: &mut Bytes) -> Result<(), OutOfMemory>
     ensures { OnOk result (to.new
-        ≡ to.old ++ (ended (decimal (length texts.now)) ++ flat_map itself texts.now)) }
+        ≡ to.old ++ (nul_ended (decimal (length texts.now)) ++ flat_map text_itself texts.now)) }
 {
     add_count(alloc, texts.len(), to)?;
     'texts: for text in texts {
@@ -119,7 +123,7 @@ fn add_found(
     to: &mut Bytes,
 ) -> Result<(), OutOfMemory>
     ensures { OnOk result (to.new
-        ≡ to.old ++ (ended (decimal (length found.now)) ++ texts_at texts.now found.now)) }
+        ≡ to.old ++ (nul_ended (decimal (length found.now)) ++ texts_at texts.now found.now)) }
 {
     add_count(alloc, found.len(), to)?;
     'found: for i in found {
@@ -132,8 +136,9 @@ impl<'a> Listings<'a> {
     ghost use Rattle.dir_digest.specs.Listings.{terms_in};
     ghost use Rattle.dir_digest.specs.Terms.{digest_on, listing_on};
 
-    /// Spells what all listings have in common. Whatever the types, substitutions and specifications are, their types
-    /// keep what accepted files are, so that the laws on listings hold of these.
+    /// Spells what all listings have in common. Whatever the types, substitutions and
+    /// specifications are, their types keep what accepted files are, so that the laws on listings
+    /// hold of these.
     pub fn new(
         alloc: Global,
         format: Format,
@@ -160,7 +165,8 @@ impl<'a> Listings<'a> {
         })
     }
 
-    // Adds the fields of the specifications that are relevant for a directory, of which this is the substituted path.
+    // Adds the fields of the specifications that are relevant for a directory, of which this is the
+    // substituted path.
     fn add_relevant(
         &self,
         alloc: Global,
@@ -208,15 +214,17 @@ impl<'a> Listings<'a> {
         self.add_relevant(alloc, dir, path, scratch, to)
     }
 
-    /// Writes the listing of a directory in place of what a buffer had. After want of memory the buffer has a front
-    /// of it.
+    /// Writes the listing of a directory in place of what a buffer had. After want of memory the
+    /// buffer has a front of it.
     ///
-    /// The listing is fields, each with a NUL behind it: a mark of the records' format; the directory's substituted path; the
-    /// mode, `F` or `T`; behind `T` the number of the customizable types and each of them, in byte order; the number
-    /// of lines of file_contexts.subs, and the source and the target of each; the same of file_contexts.subs_dist;
-    /// and the number of the relevant specifications, and of each its text, its type field and what it decides.
-    /// Relevant are those whose language holds the substituted path or a text below it, where every path below the
-    /// directory is substituted as the directory is; else all are.
+    /// The listing is fields, each with a NUL behind it: a mark of the records' format; the
+    /// directory's substituted path; the mode, `F` or `T`; behind `T` the number of the
+    /// customizable types and each of them, in byte order; the number of lines of
+    /// file_contexts.subs, and the source and the target of each; the same of
+    /// file_contexts.subs_dist; and the number of the relevant specifications, and of each its
+    /// text, its type field and what it decides. Relevant are those whose language holds the
+    /// substituted path or a text below it, where every path below the directory is substituted as
+    /// the directory is; else all are.
     pub fn write(
         &self,
         alloc: Global,
@@ -239,7 +247,8 @@ impl<'a> Listings<'a> {
     }
 
     #[tactic(auto, unfolding(crate::specs::Digest::digest_at))]
-    /// The digest of a directory: the SHA-1 (FIPS 180-4) of its listing, which is written into a buffer.
+    /// The digest of a directory: the SHA-1 (FIPS 180-4) of its listing, which is written into a
+    /// buffer.
     pub fn digest(
         &self,
         alloc: Global,
@@ -259,7 +268,8 @@ impl<'a> Listings<'a> {
     }
 }
 
-/// The listing of one directory, where no others are asked for. [`Listings::write`] says what it is.
+/// The listing of one directory, where no others are asked for. [`Listings::write`] says what it
+/// is.
 pub fn listing(
     alloc: Global,
     dir: &PathRef<'_>,
@@ -270,7 +280,7 @@ pub fn listing(
     rules: &RuleSet,
 ) -> Result<Bytes, OutOfMemory>
     ensures { IfOk result (λ bytes. bytes ≡ listing_bytes
-        (listing_of format (is_whole mode) (in_order types.now) subs.now.first subs.now.second rules.now
+        (listing_of format (is_whole_mode mode) (names_in_order types.now) subs.now.first subs.now.second rules.now
         (path_of dir.now))) }
 {
     let mut scratch = Scratch::new(alloc, rules)?;
@@ -280,7 +290,8 @@ pub fn listing(
     Ok(bytes)
 }
 
-/// The digest of one directory, where no others are asked for: the SHA-1 (FIPS 180-4) of its listing.
+/// The digest of one directory, where no others are asked for: the SHA-1 (FIPS 180-4) of its
+/// listing.
 #[tactic(auto, unfolding(crate::specs::Digest::digest_at))]
 pub fn digest(
     alloc: Global,
@@ -291,7 +302,8 @@ pub fn digest(
     subs: &Subs,
     rules: &RuleSet,
 ) -> Result<Digest, OutOfMemory>
-    ensures { IfOk result (λ digest. digest ≡ digest_at format (is_whole mode) (in_order types.now)
+    ensures { IfOk result
+        (λ digest. digest ≡ digest_at format (is_whole_mode mode) (names_in_order types.now)
         subs.now.first subs.now.second rules.now (path_of dir.now)) }
 {
     let bytes = listing(alloc, dir, format, mode, types, subs, rules)?;

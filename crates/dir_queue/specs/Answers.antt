@@ -9,11 +9,11 @@ use Rattle.dir_queue.specs.declared.queue.QueuePass.{QueuePass}
 use Rattle.dir_queue.specs.declared.queue.DirQueue.{DirQueue}
 use Rattle.dir_queue.specs.Passes.{with_taken, AllIsTaken}
 
-abbrev pub shape_of : DirQueue → Shape
-shape_of queue = queue.plan.shape.value
+abbrev pub queue_shape : DirQueue → Shape
+queue_shape queue = queue.plan.shape.value
 
-abbrev pub passes_of : DirQueue → ℕ
-passes_of queue = queue.plan.passes
+abbrev pub passes_of_queue : DirQueue → ℕ
+passes_of_queue queue = queue.plan.passes
 
 abbrev pub queue_view : QueuePass → QueueView
 queue_view pass = view pass.pass
@@ -21,13 +21,13 @@ queue_view pass = view pass.pass
 -- the pass was made by this queue
 pub record IsQueuePassOf (queue : DirQueue) (pass : QueuePass) : Type 0 where
   pub seated : IsPassOf queue.queue pass.pass
-  pub parents : (queue_view pass).parents ≡ (shape_of queue).parents
-  pub passes : (queue_view pass).passes ≡ passes_of queue
+  pub parents : (queue_view pass).parents ≡ (queue_shape queue).parents
+  pub passes : (queue_view pass).passes ≡ passes_of_queue queue
 
 -- what a pass took: a job of the shape that it had not taken, or nothing
-abbrev pub Takes : Shape → QueueView → QueueView → Option ℕ → Type 0
-Takes shape before after None = after ≡ before
-Takes shape before after (Some job) =
+abbrev pub TakesJob : Shape → QueueView → QueueView → Option ℕ → Type 0
+TakesJob shape before after None = after ≡ before
+TakesJob shape before after (Some job) =
     (after ≡ with_taken before job) × (job ≤ length shape.parents) × (times job before.taken ≡ 0)
 
 -- None exactly where job 0 and every given job are taken

@@ -1,5 +1,6 @@
 -- What a pass shows, and how steps change it.
-use Rattle.std.specs.Prelude.{◌≡◌, ℕ, ◌+◌, ◌-◌, ◌<◌, ◌≤◌, true, false, List, [], ◌∷◌, ◌++◌, length, slice_index}
+use Rattle.std.specs.Prelude.{◌≡◌, ℕ, ◌+◌, ◌-◌, ◌<◌, ◌≤◌, true, false, List, [], ◌∷◌, ◌++◌, length}
+use Rattle.std.specs.Prelude.{slice_index}
 use Rattle.walk_steps.specs.Lists.{hit, times}
 use Rattle.dir_queue.specs.declared.rule.QueueView.{QueueView}
 
@@ -15,8 +16,8 @@ not_set_up = record {
 }
 
 -- nothing taken or given, standing for n of the passes
-abbrev pub fresh : List ℕ → ℕ → ℕ → QueueView
-fresh parents passes n =
+abbrev pub fresh_queue : List ℕ → ℕ → ℕ → QueueView
+fresh_queue parents passes n =
     record {
       is_new = false;
       parents = parents;
@@ -28,7 +29,7 @@ fresh parents passes n =
 
 -- a pass that was joined into another
 abbrev pub spent : QueueView
-spent = fresh [] 0 0
+spent = fresh_queue [] 0 0
 
 -- the two lists of a view, and what it stands for
 abbrev pub with_lists : QueueView → List ℕ → List ℕ → ℕ → QueueView
@@ -42,23 +43,23 @@ with_lists view taken given n =
       stands_for = n;
     }
 
-abbrev pub with_given : QueueView → ℕ → QueueView
-with_given view job = with_lists view view.taken (view.given ++ job ∷ []) view.stands_for
+abbrev pub with_job_given : QueueView → ℕ → QueueView
+with_job_given view job = with_lists view view.taken (view.given ++ job ∷ []) view.stands_for
 
 abbrev pub with_taken : QueueView → ℕ → QueueView
 with_taken view job = with_lists view (view.taken ++ job ∷ []) view.given view.stands_for
 
 -- the lists of both, standing for the passes of both
-abbrev pub joined : QueueView → QueueView → QueueView
-joined into from =
+abbrev pub queues_joined : QueueView → QueueView → QueueView
+queues_joined into from =
     with_lists into (into.taken ++ from.taken) (into.given ++ from.given)
     (into.stands_for + from.stands_for)
 
-abbrev pub for_one_less : QueueView → QueueView
-for_one_less view = with_lists view view.taken view.given (view.stands_for - 1)
+abbrev pub queue_for_one_less : QueueView → QueueView
+queue_for_one_less view = with_lists view view.taken view.given (view.stands_for - 1)
 
 abbrev pub for_one : QueueView → QueueView
-for_one view = fresh view.parents view.passes 1
+for_one view = fresh_queue view.parents view.passes 1
 
 -- the parent of a job from 1 on
 abbrev pub parent_in : List ℕ → ℕ → ℕ

@@ -1,5 +1,6 @@
-//! The queue of directories that workers share. Each job is given once, by a pass that took its parent, and taken once,
-//! whatever the threads do when; and a pass that stands for all passes knows what is left.
+//! The queue of directories that workers share. Each job is given once, by a pass that took its
+//! parent, and taken once, whatever the threads do when; and a pass that stands for all passes
+//! knows what is left.
 #![tactic(auto)]
 
 mod queue;

@@ -1,6 +1,8 @@
 ghost use Rattle.std.specs.Prelude.{◌≡◌, ◌+◌, ◌-◌, ◌<◌, false, length, All, IfOk, IfNone};
 ghost use Rattle.crossbeam_queue.specs.Passes.{view, IsPassOf, ruled_capacity};
-ghost use Rattle.dir_queue.specs.Passes.{not_set_up, fresh, with_given, joined, for_one_less, MayOffer, ParentsAreTaken, HoldsEachOnce};
+ghost use Rattle.dir_queue.specs.Passes.{not_set_up, fresh_queue, with_job_given, queues_joined};
+ghost use Rattle.dir_queue.specs.Passes.{queue_for_one_less, MayOffer, ParentsAreTaken};
+ghost use Rattle.dir_queue.specs.Passes.{HoldsEachOnce};
 ghost use Rattle.walk_steps.specs.Sound.{Sound};
 
 use crate::rule::{
@@ -31,9 +33,18 @@ pub struct DirQueue {
 }
 
 impl DirQueue {
-    ghost use Rattle.dir_queue.specs.Answers.{IsQueuePassOf, queue_view, shape_of, passes_of, Takes, NoneIfAllTaken, one_worker};
+    ghost use Rattle.dir_queue.specs.Answers.{
+      IsQueuePassOf,
+      queue_view,
+      shape_of,
+      passes_of,
+      Takes,
+      NoneIfAllTaken,
+      one_worker,
+    };
 
-    /// A queue for the jobs of the shape, in which job 0 waits, and so many passes, at least one. Each stands for one.
+    /// A queue for the jobs of the shape, in which job 0 waits, and so many passes, at least one.
+    /// Each stands for one.
     pub fn new<R: Wait>(
         rt: &R,
         alloc: Global,
@@ -46,7 +57,7 @@ impl DirQueue {
             (λ made. (passes_of made.0 ≡ passes) × (length made.1 ≡ passes)) }
         ensures each { IfOk result
             (λ made. All (λ p. IsQueuePassOf made.0 p
-            × (queue_view p ≡ fresh shape.now.parents passes 1)) made.1) }
+            × (queue_view p ≡ fresh_queue shape.now.parents passes 1)) made.1) }
     {
         let (queue, pass) = DirQueue::open(alloc, shape, passes)?;
         let pass = queue.set_up(rt, pass);
@@ -86,7 +97,7 @@ impl DirQueue {
             × (0 < passes_of self.now) }
         ensures pass { IsQueuePassOf self.now result }
         ensures view { queue_view result
-            ≡ fresh (shape_of self.now).parents (passes_of self.now) (passes_of self.now) }
+            ≡ fresh_queue (shape_of self.now).parents (passes_of self.now) (passes_of self.now) }
     {
         let job = self.job(0);
         if self
@@ -102,9 +113,9 @@ impl DirQueue {
     fn another(&self, pass: &mut QueuePass) -> QueuePass
         requires { IsQueuePassOf self.now pass.old × (1 < (queue_view pass.old).stands_for) }
         ensures old { IsQueuePassOf self.now pass.new
-            × (queue_view pass.new ≡ for_one_less (queue_view pass.old)) }
+            × (queue_view pass.new ≡ queue_for_one_less (queue_view pass.old)) }
         ensures new { IsQueuePassOf self.now result
-            × (queue_view result ≡ fresh (shape_of self.now).parents (passes_of self.now) 1) }
+            × (queue_view result ≡ fresh_queue (shape_of self.now).parents (passes_of self.now) 1) }
     {
         let pass = self.queue.another::<CutOne>(&mut pass.pass);
         QueuePass { pass }
@@ -118,11 +129,12 @@ impl DirQueue {
     ) -> Result<Row<QueuePass>, OutOfMemory>
         requires some { 0 < passes }
         requires pass { IsQueuePassOf self.now pass
-            × (queue_view pass ≡ fresh (shape_of self.now).parents (passes_of self.now) passes) }
+            × (queue_view pass ≡ fresh_queue (shape_of self.now).parents (passes_of self.now)
+            passes) }
         ensures len { IfOk result (λ all. length all ≡ passes) }
         ensures each { IfOk result
             (λ all. All (λ p. IsQueuePassOf self.now p
-            × (queue_view p ≡ fresh (shape_of self.now).parents (passes_of self.now) 1)) all) }
+            × (queue_view p ≡ fresh_queue (shape_of self.now).parents (passes_of self.now) 1)) all) }
     {
         let mut all = Row::new(alloc);
         'passes: for _ in 1..passes {
@@ -137,7 +149,7 @@ impl DirQueue {
         requires pass { IsQueuePassOf self.now pass.old }
         requires may { MayOffer (queue_view pass.old) job }
         ensures pass { IsQueuePassOf self.now pass.new }
-        ensures given { queue_view pass.new ≡ with_given (queue_view pass.old) job }
+        ensures given { queue_view pass.new ≡ with_job_given (queue_view pass.old) job }
     {
         let job = self.job(job);
         if self
@@ -149,7 +161,8 @@ impl DirQueue {
         }
     }
 
-    /// Takes the job that waits longest. None comes only where the queue was empty at a step of this call.
+    /// Takes the job that waits longest. None comes only where the queue was empty at a step of
+    /// this call.
     pub fn take<R: Wait>(&self, rt: &R, pass: &mut QueuePass) -> Option<u32>
         requires { IsQueuePassOf self.now pass.old }
         ensures pass { IsQueuePassOf self.now pass.new }
@@ -172,7 +185,7 @@ impl DirQueue {
     pub fn join<R: Wait>(&self, _rt: &R, into: &mut QueuePass, from: QueuePass)
         requires { IsQueuePassOf self.now into.old × IsQueuePassOf self.now from }
         ensures pass { IsQueuePassOf self.now into.new }
-        ensures view { queue_view into.new ≡ joined (queue_view into.old) (queue_view from) }
+        ensures view { queue_view into.new ≡ queues_joined (queue_view into.old) (queue_view from) }
         ensures each { (queue_view into.new).stands_for ≡ passes_of self.now
             → HoldsEachOnce (queue_view into.new) }
     {
@@ -181,8 +194,8 @@ impl DirQueue {
         self.queue.learn_as::<Taking>(&mut into.pass);
     }
 
-    /// Takes a job by a pass into which all others were joined. None comes exactly where job 0 and every job that
-    /// was given are taken.
+    /// Takes a job by a pass into which all others were joined. None comes exactly where job 0 and
+    /// every job that was given are taken.
     pub fn drain<R: Wait>(&self, rt: &R, pass: &mut QueuePass) -> Option<u32>
         requires pass { IsQueuePassOf self.now pass.old }
         requires whole { (queue_view pass.old).stands_for ≡ passes_of self.now }

@@ -3,7 +3,8 @@ use std::collections::LinkedList;
 use std::snapshot::Snapshot;
 use walk_steps::Shape;
 
-/// What a queue was made for. The first job brings it to the rule, which has no other way to know it.
+/// What a queue was made for. The first job brings it to the rule, which has no other way to know
+/// it.
 #[derive(Drop)]
 pub struct Plan {
     pub shape: Snapshot<Shape>,
@@ -17,8 +18,9 @@ pub struct Job {
     pub plan: Snapshot<Plan>,
 }
 
-/// What a pass shows: the jobs that it took and those that it gave, and how many passes it stands for. It knows the
-/// parents of all jobs and the number of all passes, once the queue is set up. No value of it is made.
+/// What a pass shows: the jobs that it took and those that it gave, and how many passes it stands
+/// for. It knows the parents of all jobs and the number of all passes, once the queue is set up. No
+/// value of it is made.
 pub struct QueueView {
     pub is_new: bool,
     pub parents: LinkedList<u32>,

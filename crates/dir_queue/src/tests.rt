@@ -1,7 +1,7 @@
 ghost use Rattle.std.specs.Prelude.{◌≡◌, ◌≢◌, ℕ, ◌+◌, ◌<◌};
 ghost use Rattle.walk_steps.specs.Lists.{times};
 ghost use Rattle.dir_queue.specs.Passes.{parent_in};
-ghost use Rattle.dir_queue.specs.Answers.{IsQueuePassOf, queue_view, shape_of, passes_of};
+ghost use Rattle.dir_queue.specs.Answers.{IsQueuePassOf, queue_view, queue_shape, passes_of_queue};
 
 use crate::{DirQueue, QueuePass};
 use label_base::{OutOfMemory, Row};
@@ -35,7 +35,7 @@ fn offer_child<R: Wait>(
     job: u32,
     child: u32,
 )
-    requires pass { IsQueuePassOf queue.now pass.old × (shape_of queue.now ≡ shape.now) }
+    requires pass { IsQueuePassOf queue.now pass.old × (queue_shape queue.now ≡ shape.now) }
     requires taken { 0 < times job (queue_view pass.old).taken }
     requires new { parent_in shape.now.parents child ≡ job
         → times child (queue_view pass.old).given ≡ 0 }
@@ -69,7 +69,7 @@ fn take_or_stay<R: Wait>(rt: &R, queue: &DirQueue, pass: &mut QueuePass, job: u3
 // Takes a job and offers its children.
 #[tactic(auto, using(crate::proofs::OneMore::just_taken, crate::proofs::OneMore::ungiven_child))]
 fn work_once<R: Wait>(rt: &R, queue: &DirQueue, shape: &Shape, pass: &mut QueuePass) -> Option<u32>
-    requires { IsQueuePassOf queue.now pass.old × (shape_of queue.now ≡ shape.now) }
+    requires { IsQueuePassOf queue.now pass.old × (queue_shape queue.now ≡ shape.now) }
     ensures pass { IsQueuePassOf queue.now pass.new }
     ensures stands { (queue_view pass.new).stands_for ≡ (queue_view pass.old).stands_for }
 {
@@ -92,7 +92,7 @@ struct Worker {
 
 // Takes and offers for a number of turns.
 fn work<R: Wait>(rt: &R, queue: &DirQueue, shape: &Shape, worker: Worker) -> Worker
-    requires { IsQueuePassOf queue.now worker.pass × (shape_of queue.now ≡ shape.now) }
+    requires { IsQueuePassOf queue.now worker.pass × (queue_shape queue.now ≡ shape.now) }
     ensures pass { IsQueuePassOf queue.now result.pass }
     ensures stands { (queue_view result.pass).stands_for ≡ (queue_view worker.pass).stands_for }
 {
@@ -129,8 +129,8 @@ fn one_after_another<R: Wait>(
     shape: &Shape,
     pass: &mut QueuePass,
 ) -> [Option<u32>; 4]
-    requires pass { IsQueuePassOf queue.now pass.old × (shape_of queue.now ≡ shape.now) }
-    requires whole { (queue_view pass.old).stands_for ≡ passes_of queue.now }
+    requires pass { IsQueuePassOf queue.now pass.old × (queue_shape queue.now ≡ shape.now) }
+    requires whole { (queue_view pass.old).stands_for ≡ passes_of_queue queue.now }
 {
     let first = queue.take(rt, pass);
     let Some(job) = first else {
@@ -178,7 +178,7 @@ fn two_workers<R: Threads + Wait + Sync>(
     a: Worker,
     b: Worker,
 ) -> (Worker, Worker)
-    requires shape { shape_of queue.now ≡ shape.now }
+    requires shape { queue_shape queue.now ≡ shape.now }
     requires a { IsQueuePassOf queue.now a.pass × ((queue_view a.pass).stands_for ≡ 1) }
     requires b { IsQueuePassOf queue.now b.pass × ((queue_view b.pass).stands_for ≡ 1) }
     ensures a { IsQueuePassOf queue.now result.0.pass
@@ -189,13 +189,13 @@ fn two_workers<R: Threads + Wait + Sync>(
     join(
         rt,
         || -> Worker
-            requires { IsQueuePassOf queue.now a.pass × (shape_of queue.now ≡ shape.now)
+            requires { IsQueuePassOf queue.now a.pass × (queue_shape queue.now ≡ shape.now)
                 × ((queue_view a.pass).stands_for ≡ 1) }
             ensures { IsQueuePassOf queue.entry.now result.pass
                 × ((queue_view result.pass).stands_for ≡ 1) }
         { work(rt, queue, shape, a) },
         || -> Worker
-            requires { IsQueuePassOf queue.now b.pass × (shape_of queue.now ≡ shape.now)
+            requires { IsQueuePassOf queue.now b.pass × (queue_shape queue.now ≡ shape.now)
                 × ((queue_view b.pass).stands_for ≡ 1) }
             ensures { IsQueuePassOf queue.entry.now result.pass
                 × ((queue_view result.pass).stands_for ≡ 1) }

@@ -1,11 +1,15 @@
 -- The text that is kept of a path is at most one byte longer than the bytes that spell it.
-use Rattle.std.proofs.Common.{◌≡◌, refl, ℕ, ◌==◌, ◌+◌, ◌≤◌, suc, length, arith, Bool, true, false, cond, List, [], ◌∷◌, length-append}
+use Rattle.std.proofs.Common.{◌≡◌, refl, ℕ, ◌==◌, ◌+◌, ◌≤◌, suc, length, arith, Bool, true, false}
+use Rattle.std.proofs.Common.{cond, List, [], ◌∷◌, length-append}
 use Rattle.std.proofs.lemmas.Bool.Decides.{nat_tests}
-use Rattle.std.specs.Prelude.{filter, nat_lt, slice_index, not, Result, Ok, Err, if◌then◌else◌, IfOk}
-use Rattle.file_paths.specs.declared.path_fault.PathWhy.TheVariants.{Empty, PathTooLong, HasNul, NotAbsolute, DotPart}
+use Rattle.std.specs.Prelude.{filter, nat_lt, slice_index, not, Result, Ok, Err, if◌then◌else◌}
+use Rattle.std.specs.Prelude.{IfOk}
+use Rattle.file_paths.specs.declared.path_fault.PathWhy.TheVariants.{Empty, PathTooLong, HasNul}
+use Rattle.file_paths.specs.declared.path_fault.PathWhy.TheVariants.{NotAbsolute, DotPart}
 use Rattle.std.specs.List.{slice_split, onto_first, list_any}
 use Rattle.label_base.specs.Text.{is_nonempty}
-use Rattle.file_paths.specs.Path.{Path, is_slash, path_names, path_read, with_slashes, are_names, is_dot_part}
+use Rattle.file_paths.specs.Path.{Path, is_slash, path_names, path_read, with_slashes, are_names}
+use Rattle.file_paths.specs.Path.{is_dot_part}
 use Rattle.file_paths.specs.PathRef.{IsTextOf, normal_text}
 use Rattle.file_paths.proofs.PathLemmas.{names_back, normal_of_names, names_ok}
 
@@ -14,7 +18,8 @@ abbrev weight : List (List ℕ) → ℕ
 weight [] = 0
 weight (p ∷ ps) = suc (length p) + weight ps
 
-one_more : (b : ℕ) (v : Bool) (pieces : List (List ℕ)) (n : ℕ) → weight pieces ≤ suc n → weight (cond v ([] ∷ pieces) (onto_first b pieces)) ≤ suc (suc n)
+one_more : (b : ℕ) (v : Bool) (pieces : List (List ℕ)) (n : ℕ) → weight pieces ≤ suc n
+    → weight (cond v ([] ∷ pieces) (onto_first b pieces)) ≤ suc (suc n)
 one_more b true pieces n h = omega (arith, h)
 one_more b false [] n h = omega arith
 one_more b false (p ∷ ps) n h = omega (arith, h)
@@ -32,7 +37,10 @@ kept ((b ∷ bs) ∷ ps) =
 pub short_text : (bytes : List ℕ) → length (normal_text bytes) ≤ suc (length bytes)
 short_text bytes = omega (arith, kept (slice_split is_slash bytes), weighed bytes)
 
-untold : (a b c d e : Bool) (n p : Path) → (if a then Err Empty else if b then Err PathTooLong else if c then Err HasNul else if d then Err NotAbsolute else if e then Err DotPart else Ok n) ≡ Ok p → (b ≡ false) × (c ≡ false)
+untold : (a b c d e : Bool) (n p : Path)
+    → (if a then Err Empty else if b then Err PathTooLong else if c then Err
+    HasNul else if d then Err NotAbsolute else if e then Err DotPart else Ok n) ≡ Ok p → (b ≡ false)
+    × (c ≡ false)
 untold true b c d e n p h = cc
 untold false true c d e n p h = cc
 untold false false true d e n p h = cc
@@ -42,9 +50,12 @@ few : (n : ℕ) → nat_lt 4095 n ≡ false → n ≤ 4095
 few n h = grind (arith, nat_tests)
 
 -- what is kept of a path that was read
-pub text_of : (bytes : List ℕ) (names : Path) → path_read bytes ≡ Ok names → IsTextOf bytes (normal_text bytes)
+pub text_of : (bytes : List ℕ) (names : Path) → path_read bytes ≡ Ok names
+    → IsTextOf bytes (normal_text bytes)
 text_of bytes names h =
-    let told = untold (length bytes == 0) (nat_lt 4095 (length bytes)) (list_any (λ b. b == 0) bytes) (not (slice_index bytes 0 == 47)) (list_any is_dot_part (path_names bytes)) (path_names bytes) names h in
+    let told = untold (length bytes == 0) (nat_lt 4095 (length bytes))
+    (list_any (λ b. b == 0) bytes) (not (slice_index bytes 0 == 47))
+    (list_any is_dot_part (path_names bytes)) (path_names bytes) names h in
     let ok : are_names (path_names bytes) ≡ true = names_ok bytes told.1 in
     record {
       normal = normal_of_names (path_names bytes) ok;

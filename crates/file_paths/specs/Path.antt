@@ -1,9 +1,11 @@
 -- Paths: lists of nonempty names without a slash and NUL.
-use Rattle.std.specs.Prelude.{ℕ, Bool, false, ◌&&◌, ◌||◌, ◌==◌, List, [], ◌∷◌, length, not, if◌then◌else◌, nat_lt, filter, slice_index, Result, Ok, Err}
+use Rattle.std.specs.Prelude.{ℕ, Bool, false, ◌&&◌, ◌||◌, ◌==◌, List, [], ◌∷◌, length, not}
+use Rattle.std.specs.Prelude.{if◌then◌else◌, nat_lt, filter, slice_index, Result, Ok, Err}
 use Rattle.std.specs.List.{flat_map, list_any, list_all, starts_with, slice_split}
 use Rattle.file_paths.specs.declared.path.TheConstants.{DOT, MOST_PATH_BYTES, SLASH}
 use Rattle.file_paths.specs.declared.path_fault.PathWhy.{PathWhy}
-use Rattle.file_paths.specs.declared.path_fault.PathWhy.TheVariants.{Empty, PathTooLong, HasNul, NotAbsolute, DotPart}
+use Rattle.file_paths.specs.declared.path_fault.PathWhy.TheVariants.{Empty, PathTooLong, HasNul}
+use Rattle.file_paths.specs.declared.path_fault.PathWhy.TheVariants.{NotAbsolute, DotPart}
 use Rattle.label_base.specs.Answers.{with_reason}
 use Rattle.label_base.specs.Text.{is_nonempty, same_bytes}
 use Rattle.std.specs.Ordering.{nat_cmp}

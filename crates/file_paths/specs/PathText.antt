@@ -1,5 +1,6 @@
 -- The text in which a path is kept, and what of a path can be seen there.
-use Rattle.std.specs.Prelude.{◌≡◌, ℕ, ◌+◌, Bool, true, false, ◌&&◌, ◌||◌, ◌==◌, nat_eq, List, [], ◌∷◌, length, drop, not, if◌then◌else◌}
+use Rattle.std.specs.Prelude.{◌≡◌, ℕ, ◌+◌, Bool, true, false, ◌&&◌, ◌||◌, ◌==◌, nat_eq, List, []}
+use Rattle.std.specs.Prelude.{◌∷◌, length, drop, not, if◌then◌else◌}
 use Rattle.std.specs.List.{starts_with}
 use Rattle.std.specs.Ordering.{nat_cmp}
 use Rattle.std.specs.Cmp.Lexicographic.{slice_cmp}
@@ -17,9 +18,9 @@ begins_plainly [] = false
 begins_plainly (b ∷ bs) = not (b == SLASH) && not (b == DOT)
 
 -- behind each slash a name begins, and not with a dot
-abbrev pub is_plain : List ℕ → Bool
-is_plain [] = true
-is_plain (b ∷ bs) = (not (b == SLASH) || begins_plainly bs) && is_plain bs
+abbrev pub is_plain_path : List ℕ → Bool
+is_plain_path [] = true
+is_plain_path (b ∷ bs) = (not (b == SLASH) || begins_plainly bs) && is_plain_path bs
 
 -- no name goes on at the front of what is left of a text
 abbrev pub ends_name : List ℕ → Bool

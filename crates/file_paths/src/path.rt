@@ -1,16 +1,22 @@
 ghost use Rattle.std.specs.Cmp.{partial_equiv_from_equiv, partial_order_from_own_ties};
 ghost use Rattle.std.specs.Cmp.Rules.{comparing};
-ghost use Rattle.std.specs.Cmp.Lexicographic.{pointwise, lists_total, lists_ties, texts_ties, lists_equiv, slice_cmp, nat_list_cmp_total, nat_list_eq_equiv};
+ghost use Rattle.std.specs.Cmp.Lexicographic.{pointwise, lists_total, lists_ties, texts_ties};
+ghost use Rattle.std.specs.Cmp.Lexicographic.{lists_equiv, slice_cmp, nat_list_cmp_total};
+ghost use Rattle.std.specs.Cmp.Lexicographic.{nat_list_eq_equiv};
 ghost use Rattle.std.specs.Ordering.{as_partial_cmp, nat_cmp};
 ghost use Rattle.std.specs.Str.{bytes_eq};
 ghost use Rattle.std.proofs.Common.{rules};
 ghost use Rattle.file_paths.specs.Path.{path_cmp};
-ghost use Rattle.std.specs.Prelude.{◌≡◌, ◌++◌, ◌∷◌, ◌<◌, ◌≤◌, [], true, IfOk, IfSome, IfNone, OnOk, OnErr, length, take, drop, Ok, Some, slice_get, false, ◌==◌, if◌then◌else◌};
+ghost use Rattle.std.specs.Prelude.{◌≡◌, ◌++◌, ◌∷◌, ◌<◌, ◌≤◌, [], true, IfOk, IfSome, IfNone, OnOk};
+ghost use Rattle.std.specs.Prelude.{OnErr, length, take, drop, Ok, Some, slice_get, false, ◌==◌};
+ghost use Rattle.std.specs.Prelude.{if◌then◌else◌};
 ghost use Rattle.std.specs.List.{list_any, slice_split, count_by};
 ghost use Rattle.label_base.specs.Text.{is_nonempty};
-ghost use Rattle.file_paths.specs.Path.{are_names, path_names, path_or, path_read, path_text, is_dot_part, is_name, at_or_below, with_slashes, is_slash};
-ghost use Rattle.file_paths.specs.PathText.{text_at_or_below, ends_name, byte_rank, text_cmp, IsNormal, begins_plainly, is_plain};
-ghost use Rattle.label_base.specs.Answers.{Answers, cause_of};
+ghost use Rattle.file_paths.specs.Path.{are_names, path_names, path_or, path_read, path_text};
+ghost use Rattle.file_paths.specs.Path.{is_dot_part, is_name, at_or_below, with_slashes, is_slash};
+ghost use Rattle.file_paths.specs.PathText.{text_at_or_below, ends_name, byte_rank, text_cmp};
+ghost use Rattle.file_paths.specs.PathText.{IsNormal, begins_plainly, is_plain_path};
+ghost use Rattle.label_base.specs.Answers.{Answers, fault_cause};
 ghost use Rattle.file_paths.specs.PathRef.{path_of};
 
 use crate::path_fault::{PathFault, PathWhy};
@@ -30,10 +36,11 @@ pub const DOT: u8 = b'.';
 /// The most bytes that spell a path: `PATH_MAX` of limits.h(0p), less its NUL.
 pub const MOST_PATH_BYTES: usize = 4095;
 
-/// An absolute path, seen as its names: what stands between the slashes, as path_resolution(7) says.
+/// An absolute path, seen as its names: what stands between the slashes, as path_resolution(7)
+/// says.
 ///
-/// It is kept as one text, with a slash before each name and none for the path `/`. Its order is that of
-/// lists of names, so that a directory comes just before all that is below it.
+/// It is kept as one text, with a slash before each name and none for the path `/`. Its order is
+/// that of lists of names, so that a directory comes just before all that is below it.
 #[derive(Debug, Drop)]
 pub struct NormPath {
     text: Vec<u8>,
@@ -74,7 +81,7 @@ fn has_dots(bytes: &[u8]) -> bool
 
 // Whether a name that begins with no dot stands behind each slash: such a text needs no cutting.
 pub(crate) fn is_plain(bytes: &[u8]) -> bool
-    ensures { result ≡ is_plain bytes.now }
+    ensures { result ≡ is_plain_path bytes.now }
 {
     for i in 0..bytes.len() {
         if bytes[i] == SLASH && !begins_plainly(bytes, i + 1) {
@@ -246,10 +253,10 @@ impl NormPath {
 
     /// Reads an absolute path. Runs of slashes count as one, and slashes at the end as none.
     ///
-    /// The first fault in the order of [`PathWhy`] is told: no bytes, more than 4,095 of them, a NUL,
-    /// another first byte than a slash, a component `.` or `..`.
+    /// The first fault in the order of [`PathWhy`] is told: no bytes, more than 4,095 of them, a
+    /// NUL, another first byte than a slash, a component `.` or `..`.
     pub fn read(alloc: Global, bytes: &[u8]) -> Result<NormPath, PathFault>
-        ensures { Answers (λ path. path) cause_of result (path_read bytes.now) }
+        ensures { Answers (λ path. path) fault_cause result (path_read bytes.now) }
     {
         if bytes.is_empty() {
             return Err(Fault::Why(PathWhy::Empty));
@@ -278,7 +285,7 @@ impl NormPath {
 
     /// The same, where it doesn't matter what is wrong with the bytes: this reason stands for all.
     pub fn read_or<W: Copy>(alloc: Global, bytes: &[u8], why: W) -> Result<NormPath, Fault<W>>
-        ensures { Answers (λ path. path) cause_of result (path_or why bytes.now) }
+        ensures { Answers (λ path. path) fault_cause result (path_or why bytes.now) }
     {
         match NormPath::read(alloc, bytes) {
             Ok(path) => Ok(path),
@@ -332,7 +339,8 @@ impl NormPath {
 
     /// The text of the path: `/` for no names, else a slash before each name.
     ///
-    /// [`NormPath::read`] reads it back as this path, unless it is too long or a name is `.` or `..`.
+    /// [`NormPath::read`] reads it back as this path, unless it is too long or a name is `.` or
+    /// `..`.
     pub fn as_text(&self) -> &[u8]
         ensures value { result.now ≡ path_text self.now }
         ensures read_back { length result.now ≤ MOST_PATH_BYTES

@@ -1,12 +1,14 @@
 ghost use Rattle.std.specs.Cmp.{partial_equiv_from_equiv, partial_order_from_own_ties};
 ghost use Rattle.std.specs.Cmp.Rules.{comparing};
-ghost use Rattle.std.specs.Cmp.Lexicographic.{pointwise, lists_total, lists_ties, texts_ties, lists_equiv, slice_cmp, nat_list_cmp_total, nat_list_eq_equiv};
+ghost use Rattle.std.specs.Cmp.Lexicographic.{pointwise, lists_total, lists_ties, texts_ties};
+ghost use Rattle.std.specs.Cmp.Lexicographic.{lists_equiv, slice_cmp, nat_list_cmp_total};
+ghost use Rattle.std.specs.Cmp.Lexicographic.{nat_list_eq_equiv};
 ghost use Rattle.std.specs.Ordering.{as_partial_cmp, nat_cmp};
 ghost use Rattle.std.specs.Str.{bytes_eq};
 ghost use Rattle.std.proofs.Common.{rules};
 ghost use Rattle.std.specs.Prelude.{◌≡◌, ◌<◌, drop};
 ghost use Rattle.file_paths.specs.Path.{path_cmp, path_names};
-ghost use Rattle.file_paths.specs.PathFront.{digit, front};
+ghost use Rattle.file_paths.specs.PathFront.{digit, front_length};
 ghost use Rattle.file_paths.specs.PathText.{IsNormal};
 
 use crate::path::{cmp_texts, rank};
@@ -18,8 +20,8 @@ const DIGITS: usize = 7;
 
 /// A path to be sorted among many, seen as the path.
 ///
-/// The first 21 bytes of its text stand in words that are compared first, so that most comparisons need not look at the text,
-/// which lies elsewhere in memory.
+/// The first 21 bytes of its text stand in words that are compared first, so that most comparisons
+/// need not look at the text, which lies elsewhere in memory.
 #[derive(Debug, Drop)]
 pub struct PathKey<'a> {
     first: u64,
@@ -53,7 +55,7 @@ fn digit(text: &[u8], place: usize) -> u64
 
 // The digits of the first bytes.
 fn front(text: &[u8]) -> u64
-    ensures { result ≡ front text.now 7 }
+    ensures { result ≡ front_length text.now 7 }
 {
     let mut word = 0;
     for place in 0..DIGITS {

@@ -28,7 +28,15 @@ impl<'a> PathRef<'a> {
     ghost use Rattle.std.specs.List.{list_any};
     ghost use Rattle.std.specs.Cmp.Lexicographic.{pointwise};
     ghost use Rattle.label_base.specs.Text.{same_bytes};
-    ghost use Rattle.file_paths.specs.Path.{at_or_below, is_dot_part, is_name, path_cmp, path_names, path_read, path_text};
+    ghost use Rattle.file_paths.specs.Path.{
+      at_or_below,
+      is_dot_part,
+      is_name,
+      path_cmp,
+      path_names,
+      path_read,
+      path_text,
+    };
     ghost use Rattle.file_paths.specs.PathRef.{path_of};
 
     /// The path that is kept as this text.

@@ -1,5 +1,5 @@
 ghost use Rattle.std.specs.Prelude.{◌≡◌, ◌++◌, ◌≤◌, true, IfOk, Ok, OnOk, OnErr, length};
-ghost use Rattle.label_base.specs.Answers.{Answers, cause_of};
+ghost use Rattle.label_base.specs.Answers.{Answers, fault_cause};
 ghost use Rattle.file_paths.specs.Path.{path_names, path_read, with_slashes};
 ghost use Rattle.file_paths.specs.PathText.{IsNormal};
 ghost use Rattle.file_paths.specs.PathRef.{IsTextOf, normal_text};
@@ -31,7 +31,8 @@ fn is_kept_text(bytes: &[u8]) -> bool
 }
 
 fn add_text(texts: &mut Vec<u8>, text: &[u8]) -> Result<(), PathFault>
-    ensures answer { Answers (λ _. path_names text.now) cause_of result (Ok (path_names text.now)) }
+    ensures answer { Answers (λ _. path_names text.now) fault_cause result
+        (Ok (path_names text.now)) }
     ensures ok { OnOk result (texts.new.items ≡ texts.old.items ++ text.now) }
     ensures err { OnErr result (texts.new.items ≡ texts.old.items) }
 {
@@ -43,16 +44,17 @@ fn add_text(texts: &mut Vec<u8>, text: &[u8]) -> Result<(), PathFault>
 
 // What is kept of a path, added.
 fn add_norm_path(texts: &mut Vec<u8>, path: &NormPath) -> Result<(), PathFault>
-    ensures answer { Answers (λ _. path.now) cause_of result (Ok path.now) }
+    ensures answer { Answers (λ _. path.now) fault_cause result (Ok path.now) }
     ensures ok { OnOk result (texts.new.items ≡ texts.old.items ++ with_slashes path.now) }
     ensures err { OnErr result (texts.new.items ≡ texts.old.items) }
 {
     add_text(texts, path.kept_text())
 }
 
-/// Adds a path's text to others, so that many are kept in one place. After a refusal the texts are as they were.
+/// Adds a path's text to others, so that many are kept in one place. After a refusal the texts are
+/// as they were.
 pub fn add_path(alloc: Global, texts: &mut Vec<u8>, bytes: &[u8]) -> Result<(), PathFault>
-    ensures answer { Answers (λ _. path_names bytes.now) cause_of result (path_read bytes.now) }
+    ensures answer { Answers (λ _. path_names bytes.now) fault_cause result (path_read bytes.now) }
     ensures ok { OnOk result (texts.new.items ≡ texts.old.items ++ normal_text bytes.now) }
     ensures err { OnErr result (texts.new.items ≡ texts.old.items) }
     ensures text { IfOk result (λ _. IsTextOf bytes.now (normal_text bytes.now)) }

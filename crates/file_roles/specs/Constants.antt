@@ -1,6 +1,8 @@
 -- What the constants of this crate are, in figures.
 use Rattle.std.specs.Prelude.{◌≡◌}
-use Rattle.file_roles.specs.declared.role.TheConstants.{MOST_LIST_BYTES, MOST_OUTPUT_BYTES, MOST_REPORT_BYTES, MOST_SPEC_BYTES, MOST_STORED_BYTES}
+use Rattle.file_roles.specs.declared.role.TheConstants.{MOST_LIST_BYTES, MOST_OUTPUT_BYTES}
+use Rattle.file_roles.specs.declared.role.TheConstants.{MOST_REPORT_BYTES, MOST_SPEC_BYTES}
+use Rattle.file_roles.specs.declared.role.TheConstants.{MOST_STORED_BYTES}
 
 -- how many bytes a file may have
 pub record ConstantsAreStated : Type 0 where

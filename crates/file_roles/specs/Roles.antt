@@ -1,9 +1,13 @@
 -- The files of a run by their roles.
 use Rattle.std.specs.Prelude.{ℕ, ◌==◌, ◌&&◌, Bool, true, false, List, [], ◌∷◌, if◌then◌else◌}
 use Rattle.file_roles.specs.declared.role.Part.{Part}
-use Rattle.file_roles.specs.declared.role.Part.TheVariants.{Base, Homedirs, Local, Subs, SubsDist, Customizable, Kept, Template, Users, Report, Output}
+use Rattle.file_roles.specs.declared.role.Part.TheVariants.{Base, Homedirs, Local, Subs, SubsDist}
+use Rattle.file_roles.specs.declared.role.Part.TheVariants.{Customizable, Kept, Template, Users}
+use Rattle.file_roles.specs.declared.role.Part.TheVariants.{Report, Output}
 use Rattle.file_roles.specs.declared.role.FileRole.{FileRole}
-use Rattle.file_roles.specs.declared.role.TheConstants.{MOST_LIST_BYTES, MOST_OUTPUT_BYTES, MOST_REPORT_BYTES, MOST_SPEC_BYTES, MOST_STORED_BYTES}
+use Rattle.file_roles.specs.declared.role.TheConstants.{MOST_LIST_BYTES, MOST_OUTPUT_BYTES}
+use Rattle.file_roles.specs.declared.role.TheConstants.{MOST_REPORT_BYTES, MOST_SPEC_BYTES}
+use Rattle.file_roles.specs.declared.role.TheConstants.{MOST_STORED_BYTES}
 use Rattle.file_roles.specs.declared.list.NamedFile.{NamedFile}
 
 abbrev pub part_number : Part → ℕ
@@ -56,11 +60,11 @@ may_be_absent Users = false
 may_be_absent Report = false
 may_be_absent Output = false
 
-abbrev pub named : FileRole → List ℕ → NamedFile
-named role name = record { role = role; name = name }
+abbrev pub file_named : FileRole → List ℕ → NamedFile
+file_named role name = record { role = role; name = name }
 
 -- the name of the first file with a role
-abbrev pub first_name : List NamedFile → FileRole → List ℕ
-first_name [] role = []
-first_name (file ∷ files) role =
-    if same_role file.role role then file.name else first_name files role
+abbrev pub role_name : List NamedFile → FileRole → List ℕ
+role_name [] role = []
+role_name (file ∷ files) role =
+    if same_role file.role role then file.name else role_name files role

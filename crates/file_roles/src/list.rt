@@ -1,5 +1,5 @@
 ghost use Rattle.std.specs.Prelude.{◌≡◌, ◌++◌, ◌∷◌, [], OnOk};
-ghost use Rattle.file_roles.specs.Roles.{first_name, named};
+ghost use Rattle.file_roles.specs.Roles.{role_name, file_named};
 
 use crate::role::FileRole;
 use label_base::{Name, OutOfMemory, Row};
@@ -37,7 +37,7 @@ impl Drop for FileList {
 
 // The name of the first of some files that has this role.
 fn first_name<'a>(files: &'a [NamedFile], role: FileRole) -> &'a str
-    ensures { result.now ≡ first_name files.now role }
+    ensures { result.now ≡ role_name files.now role }
 {
     'files: for file in files {
         if file.role.is(role) {
@@ -59,14 +59,14 @@ impl FileList {
 
     /// Adds a file behind the others.
     pub fn add(&mut self, role: FileRole, name: Name) -> Result<(), OutOfMemory>
-        ensures { OnOk result (self.new ≡ self.old ++ named role name ∷ []) }
+        ensures { OnOk result (self.new ≡ self.old ++ file_named role name ∷ []) }
     {
         self.files.push(NamedFile { role, name })
     }
 
     /// The name of the first file with a role; no bytes where there is none.
     pub fn name_of(&self, role: FileRole) -> &str
-        ensures { result.now ≡ first_name self.now role }
+        ensures { result.now ≡ role_name self.now role }
     {
         first_name(self.files.as_slice(), role)
     }

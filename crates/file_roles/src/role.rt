@@ -1,5 +1,6 @@
 ghost use Rattle.std.specs.Prelude.{◌≡◌};
-ghost use Rattle.file_roles.specs.Roles.{may_be_absent, most_bytes, part_number, role, same_part, same_role};
+ghost use Rattle.file_roles.specs.Roles.{may_be_absent, most_bytes, part_number, role, same_part};
+ghost use Rattle.file_roles.specs.Roles.{same_role};
 
 /// The greatest number of bytes of a file of specifications, or of a template of one.
 pub const MOST_SPEC_BYTES: usize = 67_108_864;
@@ -39,7 +40,8 @@ pub enum Part {
     Output,
 }
 
-/// The role of a file: its part, and the policy to which it belongs, of which a run may have several.
+/// The role of a file: its part, and the policy to which it belongs, of which a run may have
+/// several.
 #[derive(Clone, Copy, Debug, PartialEq, Eq)]
 pub struct FileRole {
     pub part: Part,

@@ -1,6 +1,8 @@
--- The grammar of records, as find(1) writes them by -printf '%y %D %i %Z %p\0', or with a link count by
--- -printf '%y %D %i %n %Z %p\0', and below it how it is computed.
-use Rattle.std.specs.Prelude.{◌≡◌, ◌⊎◌, ℕ, ◌+◌, ◌<◌, ◌≤◌, Bool, true, false, ◌==◌, nat_lt, List, [], ◌∷◌, ◌++◌, length, Contains, count_by, Option, Some, None, IsSome, Result, Ok, Err, if◌then◌else◌}
+-- The grammar of records, as find(1) writes them by -printf '%y %D %i %Z %p\0', or with a link
+-- count by -printf '%y %D %i %n %Z %p\0', and below it how it is computed.
+use Rattle.std.specs.Prelude.{◌≡◌, ◌⊎◌, ℕ, ◌+◌, ◌<◌, ◌≤◌, Bool, true, false, ◌==◌, nat_lt, List, []}
+use Rattle.std.specs.Prelude.{◌∷◌, ◌++◌, length, Contains, count_by, Option, Some, None, IsSome}
+use Rattle.std.specs.Prelude.{Result, Ok, Err, if◌then◌else◌}
 use Rattle.std.specs.List.{slice_split}
 use Rattle.std.specs.Option.{option_map}
 use Rattle.label_base.specs.Cut.{front, behind}
@@ -18,7 +20,8 @@ use Rattle.find_records.specs.declared.record.TheConstants.{SPACE}
 use Rattle.find_records.specs.declared.reading.TheConstants.{NUL}
 use Rattle.find_records.specs.declared.reading.RecordLimits.{RecordLimits}
 use Rattle.find_records.specs.declared.fault.RecordWhy.{RecordWhy}
-use Rattle.find_records.specs.declared.fault.RecordWhy.TheVariants.{MissingField, BadType, BadNumber, BadPath}
+use Rattle.find_records.specs.declared.fault.RecordWhy.TheVariants.{MissingField, BadType}
+use Rattle.find_records.specs.declared.fault.RecordWhy.TheVariants.{BadNumber, BadPath}
 use Rattle.find_records.specs.declared.fault.RecordsFault.{RecordsFault}
 use Rattle.find_records.specs.declared.fault.RecordsFault.TheVariants.{TooMany, Refused, Unended}
 
@@ -68,7 +71,7 @@ links_of None = Some None
 links_of (Some field) = option_map (λ count. Some count) (number_of field)
 
 -- what the fields tell: a kind, decimal numbers of at most 64 bits, a label, an absolute path
-pub record Tells (fields : Fields) (found : Record) : Type 0 where
+pub record TellsRecord (fields : Fields) (found : Record) : Type 0 where
   pub kind : kind_of fields.letter ≡ Some found.kind
   pub device : number_of fields.device ≡ Some found.device
   pub inode : number_of fields.inode ≡ Some found.inode
@@ -77,30 +80,30 @@ pub record Tells (fields : Fields) (found : Record) : Type 0 where
   pub path : path_read fields.path ≡ Ok found.path
 
 -- the bytes spell this record
-pub record Spells (format : Format) (bytes : List ℕ) (found : Record) : Type 0 where
+pub record SpellsRecord (format : Format) (bytes : List ℕ) (found : Record) : Type 0 where
   pub fields : Fields
   pub cut : HasFields format bytes fields
-  pub told : Tells fields found
+  pub told : TellsRecord fields found
 
 -- nothing is wrong with the fields before the path
-pub record AreGood (fields : Fields) : Type 0 where
+pub record AreGoodFields (fields : Fields) : Type 0 where
   pub kind : IsSome (kind_of fields.letter)
   pub device : IsSome (number_of fields.device)
   pub inode : IsSome (number_of fields.inode)
   pub links : IsSome (links_of fields.links)
 
 -- what is wrong with the fields, where nothing before it is
-abbrev pub AreBad : Fields → RecordWhy → Type 0
-AreBad fields MissingField = ⊥
-AreBad fields BadType = kind_of fields.letter ≡ None
-AreBad fields BadNumber =
+abbrev pub AreBadFields : Fields → RecordWhy → Type 0
+AreBadFields fields MissingField = ⊥
+AreBadFields fields BadType = kind_of fields.letter ≡ None
+AreBadFields fields BadNumber =
     IsSome (kind_of fields.letter)
     × ((number_of fields.device ≡ None)
     ⊎ ((number_of fields.inode ≡ None) ⊎ (links_of fields.links ≡ None)))
-AreBad fields (BadPath why) = AreGood fields × (path_read fields.path ≡ Err why)
+AreBadFields fields (BadPath why) = AreGoodFields fields × (path_read fields.path ≡ Err why)
 
-abbrev pub is_space : ℕ → Bool
-is_space b = b == SPACE
+abbrev pub is_field_space : ℕ → Bool
+is_field_space b = b == SPACE
 
 -- how many spaces a record has at least
 abbrev pub spaces_in : Format → ℕ
@@ -108,9 +111,10 @@ spaces_in One = 4
 spaces_in Two = 5
 
 -- the bytes spell no record, and why
-abbrev pub IsBad : Format → List ℕ → RecordWhy → Type 0
-IsBad format bytes MissingField = count_by is_space bytes < spaces_in format
-IsBad format bytes why = (fields : Fields) × HasFields format bytes fields × AreBad fields why
+abbrev pub IsBadRecord : Format → List ℕ → RecordWhy → Type 0
+IsBadRecord format bytes MissingField = count_by is_field_space bytes < spaces_in format
+IsBadRecord format bytes why = (fields : Fields) × HasFields format bytes fields
+    × AreBadFields fields why
 
 -- ---- a run of records
 
@@ -119,12 +123,12 @@ pub data IsRun (format : Format) : List ℕ → List Record → Type 0 where
   none : IsRun format [] []
   more : (bytes rest : List ℕ) (first : Record) (others : List Record)
       → ¬ Contains bytes NUL
-      → Spells format bytes first
+      → SpellsRecord format bytes first
       → IsRun format rest others
       → IsRun format (bytes ++ NUL ∷ rest) (first ∷ others)
 
 -- behind good records these bytes are left, for the record with this number
-pub record StandsAt (format : Format) (bytes : List ℕ) (number : ℕ) (left : List ℕ)
+pub record RecordStandsAt (format : Format) (bytes : List ℕ) (number : ℕ) (left : List ℕ)
     : Type 0 where
   pub front : List ℕ
   pub records : List Record
@@ -135,23 +139,24 @@ pub record StandsAt (format : Format) (bytes : List ℕ) (number : ℕ) (left : 
 -- bytes are left behind as many good records as there may be
 pub record HasTooMany (format : Format) (most : ℕ) (bytes : List ℕ) : Type 0 where
   pub left : List ℕ
-  pub place : StandsAt format bytes (most + 1) left
+  pub place : RecordStandsAt format bytes (most + 1) left
   pub some : 0 < length left
 
 -- behind good records, the one with this number is refused
-pub record IsRefusedAt (format : Format) (most : ℕ) (bytes : List ℕ) (number : ℕ) (why : RecordWhy)
+pub record IsRecordRefusedAt (format : Format) (most : ℕ) (bytes : List ℕ) (number : ℕ)
+    (why : RecordWhy)
     : Type 0 where
   pub bad : List ℕ
   pub rest : List ℕ
-  pub place : StandsAt format bytes number (bad ++ NUL ∷ rest)
+  pub place : RecordStandsAt format bytes number (bad ++ NUL ∷ rest)
   pub within : number ≤ most
   pub ended : ¬ Contains bad NUL
-  pub is_bad : IsBad format bad why
+  pub is_bad : IsBadRecord format bad why
 
 -- behind good records, the last one has this number and no NUL
 pub record IsUnendedAt (format : Format) (most : ℕ) (bytes : List ℕ) (number : ℕ) : Type 0 where
   pub left : List ℕ
-  pub place : StandsAt format bytes number left
+  pub place : RecordStandsAt format bytes number left
   pub within : number ≤ most
   pub some : 0 < length left
   pub unended : ¬ Contains left NUL
@@ -160,7 +165,7 @@ pub record IsUnendedAt (format : Format) (most : ℕ) (bytes : List ℕ) (number
 abbrev pub Means : Format → ℕ → List ℕ → Result (List Record) RecordsFault → Type 0
 Means format most bytes (Ok records) = IsRun format bytes records × (length records ≤ most)
 Means format most bytes (Err TooMany) = HasTooMany format most bytes
-Means format most bytes (Err (Refused number why)) = IsRefusedAt format most bytes number why
+Means format most bytes (Err (Refused number why)) = IsRecordRefusedAt format most bytes number why
 Means format most bytes (Err (Unended number)) = IsUnendedAt format most bytes number
 Means format most bytes (Err fault) = ⊥
 
@@ -171,8 +176,8 @@ abbrev pub path_from : Result Path PathWhy → Result Path RecordWhy
 path_from (Ok path) = Ok path
 path_from (Err why) = Err (BadPath why)
 
-abbrev pub path_of : List ℕ → Result Path RecordWhy
-path_of bytes = path_from (path_read bytes)
+abbrev pub path_field : List ℕ → Result Path RecordWhy
+path_field bytes = path_from (path_read bytes)
 
 -- the record of the fields' values, or the first of them that is bad
 abbrev pub record_from : Option EntryKind → Option ℕ → Option ℕ → Option (Option ℕ) → Label
@@ -197,20 +202,20 @@ abbrev pub with_path : List ℕ → List ℕ → List ℕ → Option (List ℕ) 
     → Result Record RecordWhy
 with_path letter device inode links label path =
     record_from (kind_of letter) (number_of device) (number_of inode) (links_of links)
-    (label_of label) (path_of path)
+    (label_of label) (path_field path)
 
 -- the fields so far, and what stands behind the last one's space, if it has one
-abbrev pub with_label : List ℕ → List ℕ → List ℕ → Option (List ℕ) → List ℕ → Option (List ℕ)
+abbrev pub label_then : List ℕ → List ℕ → List ℕ → Option (List ℕ) → List ℕ → Option (List ℕ)
     → Result Record RecordWhy
-with_label letter device inode links label None = Err MissingField
-with_label letter device inode links label (Some path) =
+label_then letter device inode links label None = Err MissingField
+label_then letter device inode links label (Some path) =
     with_path letter device inode links label path
 
 -- the label and the path stand behind the link count, if there is one
 abbrev pub with_links : List ℕ → List ℕ → List ℕ → Option (List ℕ) → List ℕ
     → Result Record RecordWhy
 with_links letter device inode links rest =
-    with_label letter device inode links (front is_space rest) (behind is_space rest)
+    label_then letter device inode links (front is_field_space rest) (behind is_field_space rest)
 
 abbrev pub with_count : List ℕ → List ℕ → List ℕ → List ℕ → Option (List ℕ)
     → Result Record RecordWhy
@@ -221,26 +226,27 @@ with_count letter device inode count (Some rest) =
 abbrev pub with_rest : Format → List ℕ → List ℕ → List ℕ → List ℕ → Result Record RecordWhy
 with_rest One letter device inode rest = with_links letter device inode None rest
 with_rest Two letter device inode rest =
-    with_count letter device inode (front is_space rest) (behind is_space rest)
+    with_count letter device inode (front is_field_space rest) (behind is_field_space rest)
 
-abbrev pub with_inode : Format → List ℕ → List ℕ → List ℕ → Option (List ℕ)
+abbrev pub inode_then : Format → List ℕ → List ℕ → List ℕ → Option (List ℕ)
     → Result Record RecordWhy
-with_inode format letter device inode None = Err MissingField
-with_inode format letter device inode (Some rest) = with_rest format letter device inode rest
+inode_then format letter device inode None = Err MissingField
+inode_then format letter device inode (Some rest) = with_rest format letter device inode rest
 
 abbrev pub with_device : Format → List ℕ → List ℕ → Option (List ℕ) → Result Record RecordWhy
 with_device format letter device None = Err MissingField
 with_device format letter device (Some rest) =
-    with_inode format letter device (front is_space rest) (behind is_space rest)
+    inode_then format letter device (front is_field_space rest) (behind is_field_space rest)
 
-abbrev pub with_letter : Format → List ℕ → Option (List ℕ) → Result Record RecordWhy
-with_letter format letter None = Err MissingField
-with_letter format letter (Some rest) =
-    with_device format letter (front is_space rest) (behind is_space rest)
+abbrev pub letter_then : Format → List ℕ → Option (List ℕ) → Result Record RecordWhy
+letter_then format letter None = Err MissingField
+letter_then format letter (Some rest) =
+    with_device format letter (front is_field_space rest) (behind is_field_space rest)
 
 -- the record that the bytes before a NUL spell: cut at the first spaces, the path is the rest
 unfoldable pub record_of : Format → List ℕ → Result Record RecordWhy
-record_of format bytes = with_letter format (front is_space bytes) (behind is_space bytes)
+record_of format bytes = letter_then format (front is_field_space bytes)
+    (behind is_field_space bytes)
 
 abbrev pub is_nul : ℕ → Bool
 is_nul b = b == NUL
@@ -252,22 +258,22 @@ with_ends ([] ∷ []) = []
 with_ends ((b ∷ bs) ∷ []) = (b ∷ bs, false) ∷ []
 with_ends (piece ∷ next ∷ pieces) = (piece, true) ∷ with_ends (next ∷ pieces)
 
-abbrev pub pieces_of : List ℕ → List (List ℕ × Bool)
-pieces_of bytes = with_ends (slice_split is_nul bytes)
+abbrev pub path_pieces : List ℕ → List (List ℕ × Bool)
+path_pieces bytes = with_ends (slice_split is_nul bytes)
 
 -- a record outside its grammar is refused by its number
 abbrev pub numbered : ℕ → Result Record RecordWhy → Result Record RecordsFault
 numbered number (Ok found) = Ok found
 numbered number (Err why) = Err (Refused number why)
 
-abbrev pub ended : Format → ℕ → List ℕ → Bool → Result Record RecordsFault
-ended format number bytes false = Err (Unended number)
-ended format number bytes true = numbered number (record_of format bytes)
+abbrev pub record_ended : Format → ℕ → List ℕ → Bool → Result Record RecordsFault
+record_ended format number bytes false = Err (Unended number)
+record_ended format number bytes true = numbered number (record_of format bytes)
 
 -- what the piece with this number gives: too many first, then the end, then the grammar
 unfoldable pub meaning : Format → ℕ → ℕ → List ℕ → Bool → Result Record RecordsFault
 meaning format most number bytes is_ended =
-    if nat_lt most number then Err TooMany else ended format number bytes is_ended
+    if nat_lt most number then Err TooMany else record_ended format number bytes is_ended
 
 -- a first record before others; the first refusal decides
 abbrev pub onto : Result Record RecordsFault → Result (List Record) RecordsFault
@@ -283,7 +289,7 @@ all_from format most number (piece ∷ pieces) =
     onto (meaning format most number piece.0 piece.1) (all_from format most (number + 1) pieces)
 
 unfoldable pub records_from : Format → ℕ → ℕ → List ℕ → Result (List Record) RecordsFault
-records_from format most number bytes = all_from format most number (pieces_of bytes)
+records_from format most number bytes = all_from format most number (path_pieces bytes)
 
 -- the records that the bytes spell, or what is wrong with the first bad one
 abbrev pub records_of : Format → RecordLimits → List ℕ → Result (List Record) RecordsFault

@@ -9,8 +9,9 @@ abbrev pub labels_in : List Spelled → List Label
 labels_in known = map (λ spelled. spelled.label) known
 
 -- each label is what the bytes beside it spell
-abbrev pub AreSpelled : List Spelled → Type 0
-AreSpelled known = AllByRecursion (λ spelled. spelled.label ≡ label_of spelled.text.items) known
+abbrev pub AreLabelsSpelled : List Spelled → Type 0
+AreLabelsSpelled known = AllByRecursion (λ spelled. spelled.label ≡ label_of spelled.text.items)
+    known
 
 -- the later list begins with the earlier one
 abbrev pub Extends : {X : Type 0} → List X → List X → Type 0

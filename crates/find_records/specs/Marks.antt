@@ -1,5 +1,6 @@
 -- What many records have in common: the device, the link count and the label.
-use Rattle.std.specs.Prelude.{◌≡◌, ◌⊎◌, ℕ, ◌<◌, ◌^◌, List, [], ◌∷◌, ◌++◌, length, map, get_or, Option, None}
+use Rattle.std.specs.Prelude.{◌≡◌, ◌⊎◌, ℕ, ◌<◌, ◌^◌, List, [], ◌∷◌, ◌++◌, length, map, get_or}
+use Rattle.std.specs.Prelude.{Option, None}
 use Rattle.std.specs.List.{AllByRecursion}
 use Rattle.context_syntax.specs.declared.label.Label.{Label}
 use Rattle.context_syntax.specs.declared.label.Label.TheVariants.{Absent}
@@ -31,7 +32,7 @@ abbrev pub AreLabelled : ℕ → List MarkRow → Type 0
 AreLabelled count rows = AllByRecursion (λ row. row.label < count) rows
 
 -- the labels of the rows are there, and numbers of 32 bits tell them
-pub record AreMarks (labels : List Label) (rows : List MarkRow) : Type 0 where
+pub record AreMarkRows (labels : List Label) (rows : List MarkRow) : Type 0 where
   pub known : AreLabelled (length labels) rows
   pub few_labels : length labels < 2 ^ 32
   pub few : length rows < 2 ^ 32

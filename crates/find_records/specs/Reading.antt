@@ -1,12 +1,14 @@
 -- What reading the records of a source says of the source.
-use Rattle.std.specs.Prelude.{◌≡◌, ℕ, ◌+◌, ◌≤◌, List, [], ◌∷◌, ◌++◌, length, Option, Some, None, Result, Ok, Err}
+use Rattle.std.specs.Prelude.{◌≡◌, ℕ, ◌+◌, ◌≤◌, List, [], ◌∷◌, ◌++◌, length, Option, Some, None}
+use Rattle.std.specs.Prelude.{Result, Ok, Err}
 use Rattle.std.specs.Io.KnownBytes.{Consumes}
 use Rattle.input_output.specs.Source.{Rose}
 use Rattle.find_records.specs.Record.{Record}
 use Rattle.find_records.specs.declared.format.Format.{Format}
 use Rattle.find_records.specs.declared.reading.RecordLimits.{RecordLimits}
 use Rattle.find_records.specs.declared.fault.RecordsFault.{RecordsFault}
-use Rattle.find_records.specs.declared.fault.RecordsFault.TheVariants.{ReadFault, TooLong, OutOfMemory}
+use Rattle.find_records.specs.declared.fault.RecordsFault.TheVariants.{ReadFault, TooLong}
+use Rattle.find_records.specs.declared.fault.RecordsFault.TheVariants.{OutOfMemory}
 use Rattle.find_records.specs.Grammar.{records_of}
 
 -- all bytes that were left are read, within the limit, and this is what they mean

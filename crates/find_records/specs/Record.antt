@@ -1,5 +1,5 @@
--- What one record says of an entry: the fields that find(1) prints for %y %D %i %n %Z %p. A record of the
--- first format lacks the link count (%n).
+-- What one record says of an entry: the fields that find(1) prints for %y %D %i %n %Z %p. A record
+-- of the first format lacks the link count (%n).
 use Rattle.std.specs.Prelude.{◌≡◌, ℕ, List, Option, None, IsSome}
 use Rattle.std.specs.List.{AllByRecursion}
 use Rattle.file_paths.specs.Path.{Path}
@@ -8,8 +8,8 @@ use Rattle.context_syntax.specs.declared.label.Label.{Label}
 use Rattle.find_records.specs.declared.format.Format.{Format}
 use Rattle.find_records.specs.declared.format.Format.TheVariants.{One, Two}
 
--- the device is the number of the one on which the entry lies, the inode its number there, the link count
--- how many names that inode has
+-- the device is the number of the one on which the entry lies, the inode its number there, the link
+-- count how many names that inode has
 pub record Record : Type 0 where
   pub kind : EntryKind
   pub device : ℕ
@@ -24,5 +24,5 @@ CountsBy One links = links ≡ None
 CountsBy Two links = IsSome links
 
 -- all these records are of the format
-abbrev pub AreOf : Format → List Record → Type 0
-AreOf format records = AllByRecursion (λ r. CountsBy format r.links) records
+abbrev pub AreOfFormat : Format → List Record → Type 0
+AreOfFormat format records = AllByRecursion (λ r. CountsBy format r.links) records

@@ -1,6 +1,7 @@
 -- Rows that stand for records: each has its path's text in one text, and its device, link
 -- count and label among marks.
-use Rattle.std.specs.Prelude.{◌≡◌, ℕ, ◌+◌, ◌<◌, ◌≤◌, ◌^◌, List, [], ◌∷◌, length, map, take, drop, get_or}
+use Rattle.std.specs.Prelude.{◌≡◌, ℕ, ◌+◌, ◌<◌, ◌≤◌, ◌^◌, List, [], ◌∷◌, length, map, take, drop}
+use Rattle.std.specs.Prelude.{get_or}
 use Rattle.std.specs.List.{AllByRecursion}
 use Rattle.file_paths.specs.Path.{path_names}
 use Rattle.file_paths.specs.PathText.{IsNormal}
@@ -10,8 +11,8 @@ use Rattle.find_records.specs.Record.{Record}
 use Rattle.find_records.specs.declared.row.RecordRow.{RecordRow}
 
 -- the text of a row's path
-abbrev pub text_in : List ℕ → RecordRow → List ℕ
-text_in texts row = take row.size (drop row.at texts)
+abbrev pub row_text : List ℕ → RecordRow → List ℕ
+row_text texts row = take row.size (drop row.at texts)
 
 -- the record of a row
 abbrev pub record_in : List ℕ → List Mark → RecordRow → Record
@@ -21,23 +22,23 @@ record_in texts marks row = record {
   inode = row.inode;
   links = (get_or marks row.mark no_mark).links;
   label = (get_or marks row.mark no_mark).label;
-  path = path_names (text_in texts row);
+  path = path_names (row_text texts row);
 }
 
 abbrev pub records_in : List ℕ → List Mark → List RecordRow → List Record
 records_in texts marks rows = map (record_in texts marks) rows
 
 -- the row's text and mark are there
-pub record IsWithin (texts : List ℕ) (marks : List Mark) (row : RecordRow) : Type 0 where
+pub record IsRowWithin (texts : List ℕ) (marks : List Mark) (row : RecordRow) : Type 0 where
   pub fits : row.at + row.size ≤ length texts
-  pub normal : IsNormal (text_in texts row)
+  pub normal : IsNormal (row_text texts row)
   pub known : row.mark < length marks
 
 abbrev pub AreWithin : List ℕ → List Mark → List RecordRow → Type 0
 AreWithin texts marks [] = Unit {0}
-AreWithin texts marks (row ∷ rows) = IsWithin texts marks row × AreWithin texts marks rows
+AreWithin texts marks (row ∷ rows) = IsRowWithin texts marks row × AreWithin texts marks rows
 
-pub record AreRows (texts : List ℕ) (marks : List Mark) (rows : List RecordRow) : Type 0 where
+pub record AreRecordRows (texts : List ℕ) (marks : List Mark) (rows : List RecordRow) : Type 0 where
   pub within : AreWithin texts marks rows
   pub numbered : length rows < 2 ^ 32
 

@@ -1,5 +1,6 @@
 -- What is read so far of a source, and what it means with the bytes that are still to come.
-use Rattle.std.specs.Prelude.{ℕ, ◌+◌, ◌≤◌, List, ◌++◌, length, Contains, Option, Some, None, Result, Err}
+use Rattle.std.specs.Prelude.{ℕ, ◌+◌, ◌≤◌, List, ◌++◌, length, Contains, Option, Some, None, Result}
+use Rattle.std.specs.Prelude.{Err}
 use Rattle.label_base.specs.Lines.{with_front}
 use Rattle.find_records.specs.Record.{Record}
 use Rattle.find_records.specs.declared.fault.RecordsFault.{RecordsFault}

@@ -1,4 +1,5 @@
-ghost use Rattle.std.specs.Prelude.{◌≡◌, ◌<◌, ◌+◌, ◌++◌, ◌^◌, [], get_or, length, slice_get, Some, IfOk, OnErr};
+ghost use Rattle.std.specs.Prelude.{◌≡◌, ◌<◌, ◌+◌, ◌++◌, ◌^◌, [], get_or, length, slice_get, Some};
+ghost use Rattle.std.specs.Prelude.{IfOk, OnErr};
 ghost use Rattle.context_syntax.specs.Label.{label_of, same_label};
 ghost use Rattle.context_syntax.specs.declared.label.Label.TheVariants.{Absent};
 ghost use Rattle.find_records.specs.Labels.{Extends};
@@ -82,8 +83,8 @@ impl AllLabels {
         *self.get(first) == *self.get(second)
     }
 
-    // The number of the label that the bytes spell, which is added if it is new. There is no memory for
-    // more labels than there are numbers.
+    // The number of the label that the bytes spell, which is added if it is new. There is no memory
+    // for more labels than there are numbers.
     #[tactic(auto, using(crate::proofs::LabelledLemmas::extends_behind))]
     pub fn number_of(&mut self, alloc: Global, bytes: &[u8]) -> Result<u32, OutOfMemory>
         requires { length self.old < 2 ^ 32 }

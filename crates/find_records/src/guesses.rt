@@ -12,8 +12,8 @@ pub fn mix(mixed: u64, word: u64) -> u64 {
     (mixed ^ word).wrapping_mul(MIX)
 }
 
-// Guesses of numbers, by what the thing that has a number mixes to. Nothing is claimed of them: what
-// they give is compared.
+// Guesses of numbers, by what the thing that has a number mixes to. Nothing is claimed of them:
+// what they give is compared.
 #[derive(Drop)]
 pub struct Guesses {
     numbers: Vec<u32>,

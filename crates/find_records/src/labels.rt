@@ -1,6 +1,7 @@
-ghost use Rattle.std.specs.Prelude.{◌≡◌, ◌++◌, ◌∷◌, ◌<◌, ◌≤◌, ◌+◌, ◌-◌, ◌^◌, [], true, length, slice_get, Some, IfOk, IfSome, OnOk, OnErr};
+ghost use Rattle.std.specs.Prelude.{◌≡◌, ◌++◌, ◌∷◌, ◌<◌, ◌≤◌, ◌+◌, ◌-◌, ◌^◌, [], true, length};
+ghost use Rattle.std.specs.Prelude.{slice_get, Some, IfOk, IfSome, OnOk, OnErr};
 ghost use Rattle.context_syntax.specs.Label.{label_of};
-ghost use Rattle.find_records.specs.Labels.{AreSpelled, Extends, labels_in};
+ghost use Rattle.find_records.specs.Labels.{AreLabelsSpelled, Extends, labels_in};
 
 use crate::guesses::{Guesses, mix};
 use context_syntax::Label;
@@ -37,12 +38,12 @@ impl Model for Labels {
 
     ghost view = { λ l. labels_in l.known.items };
 
-    ghost invariant = { λ l. AreSpelled l.known.items };
+    ghost invariant = { λ l. AreLabelsSpelled l.known.items };
 }
 
 // Whether the bytes spell the label with a number, as it is kept.
 fn is_spelled(known: &[Spelled], number: u32, bytes: &[u8]) -> bool
-    ensures { result ≡ true → AreSpelled known.now
+    ensures { result ≡ true → AreLabelsSpelled known.now
         → slice_get (labels_in known.now) number ≡ Some (label_of bytes.now) }
 {
     match known.get(number as usize) {
@@ -67,7 +68,7 @@ fn mix_bytes(bytes: &[u8]) -> u64 {
 
 // The number, if the bytes spell the label that it has.
 fn number_told(known: &[Spelled], number: Option<u32>, bytes: &[u8]) -> Option<u32>
-    ensures { IfSome result (λ number. AreSpelled known.now
+    ensures { IfSome result (λ number. AreLabelsSpelled known.now
         → slice_get (labels_in known.now) number ≡ Some (label_of bytes.now)) }
 {
     let number = number?;
@@ -85,7 +86,7 @@ fn number_in(
     last: u32,
     bytes: &[u8],
 ) -> Option<u32>
-    ensures { IfSome result (λ number. AreSpelled known.now
+    ensures { IfSome result (λ number. AreLabelsSpelled known.now
         → slice_get (labels_in known.now) number ≡ Some (label_of bytes.now)) }
 {
     if is_spelled(known, last, bytes) {
@@ -133,7 +134,7 @@ fn add_label(
     ensures number { IfOk result (λ number. number ≡ length known.old.items) }
     ensures added { OnOk result (labels_in known.new.items
         ≡ labels_in known.old.items ++ label_of bytes.now ∷ []) }
-    ensures spelled { AreSpelled known.old.items → AreSpelled known.new.items }
+    ensures spelled { AreLabelsSpelled known.old.items → AreLabelsSpelled known.new.items }
     ensures err { OnErr result (known.new.items ≡ known.old.items) }
 {
     let number = known.len() as u32;
@@ -171,8 +172,8 @@ impl Labels {
         &self.known[number as usize].label
     }
 
-    // The number of the label that the bytes spell, which is added if it is new. There is no memory for
-    // more labels than there are numbers.
+    // The number of the label that the bytes spell, which is added if it is new. There is no memory
+    // for more labels than there are numbers.
     pub fn number_of(&mut self, alloc: Global, bytes: &[u8]) -> Result<u32, OutOfMemory>
         requires { length self.old < 2 ^ 32 }
         ensures number { IfOk result (λ number.

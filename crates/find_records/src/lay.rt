@@ -2,7 +2,7 @@ ghost use Rattle.std.specs.Prelude.{◌≡◌, ◌++◌, ◌∷◌, [], List, tr
 ghost use Rattle.find_records.specs.Marks.{Mark};
 ghost use Rattle.find_records.specs.Places.{ArePlaces, records_at};
 ghost use Rattle.find_records.specs.Record.{Record};
-ghost use Rattle.find_records.specs.Rows.{AreLaid, AreWithin, Fit, moved_to, text_in};
+ghost use Rattle.find_records.specs.Rows.{AreLaid, AreWithin, Fit, moved_to, row_text};
 
 use crate::row::{RecordRow, text_at};
 use label_base::OutOfMemory;
@@ -35,7 +35,7 @@ pub fn is_given(count: usize, places: &[u32]) -> bool
 fn lay_row(laid: &mut Laid, texts: &[u8], row: &RecordRow) -> Result<(), OutOfMemory>
     requires { row.now.at + row.now.size ≤ length texts.now }
     ensures texts { OnOk result (laid.new.texts.items
-        ≡ laid.old.texts.items ++ text_in texts.now row.now) }
+        ≡ laid.old.texts.items ++ row_text texts.now row.now) }
     ensures rows { OnOk result (laid.new.rows.items
         ≡ laid.old.rows.items ++ moved_to (length laid.old.texts.items) row.now ∷ []) }
 {

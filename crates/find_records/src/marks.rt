@@ -1,8 +1,9 @@
-ghost use Rattle.std.specs.Prelude.{◌≡◌, ◌++◌, ◌∷◌, ◌<◌, ◌^◌, [], true, get_or, length, slice_get, Some, IfOk, IfSome, OnOk, OnErr};
+ghost use Rattle.std.specs.Prelude.{◌≡◌, ◌++◌, ◌∷◌, ◌<◌, ◌^◌, [], true, get_or, length, slice_get};
+ghost use Rattle.std.specs.Prelude.{Some, IfOk, IfSome, OnOk, OnErr};
 ghost use Rattle.context_syntax.specs.Label.{label_of, same_label};
 ghost use Rattle.find_records.specs.Labels.{Extends};
 ghost use Rattle.find_records.specs.MarkRef.{mark_lent};
-ghost use Rattle.find_records.specs.Marks.{AreMarks, IsWithRow, mark_of, marks_in, no_mark};
+ghost use Rattle.find_records.specs.Marks.{AreMarkRows, IsWithRow, mark_of, marks_in, no_mark};
 
 use crate::all_labels::AllLabels;
 use crate::guesses::Guesses;
@@ -21,8 +22,8 @@ pub struct MarkRef<'a> {
     pub label: &'a Label,
 }
 
-// The devices, link counts and labels of records, seen as the list of what goes together. They are found
-// by their number, from 0 on. So a record without a link count costs nothing for it.
+// The devices, link counts and labels of records, seen as the list of what goes together. They are
+// found by their number, from 0 on. So a record without a link count costs nothing for it.
 #[derive(Drop)]
 pub struct Marks {
     labels: AllLabels,
@@ -40,7 +41,7 @@ impl Model for Marks {
 
     ghost view = { λ m. marks_in m.labels m.rows.items };
 
-    ghost invariant = { λ m. AreMarks m.labels m.rows.items };
+    ghost invariant = { λ m. AreMarkRows m.labels m.rows.items };
 }
 
 // The row with a number.
@@ -172,8 +173,8 @@ fn mark_number(
     links: Option<u64>,
     bytes: &[u8],
 ) -> Result<u32, OutOfMemory>
-    requires { AreMarks labels.old rows.old.items }
-    ensures marks { AreMarks labels.new rows.new.items }
+    requires { AreMarkRows labels.old rows.old.items }
+    ensures marks { AreMarkRows labels.new rows.new.items }
     ensures number { IfOk result (λ number. slice_get (marks_in labels.new rows.new.items) number
         ≡ Some (mark_of device links (label_of bytes.now))) }
     ensures extends { Extends (marks_in labels.old rows.old.items)
@@ -205,7 +206,7 @@ impl Marks {
 
     // The marks of these rows, whose labels are these.
     pub fn of_rows(alloc: Global, labels: Vec<Label>, rows: Vec<MarkRow>) -> Marks
-        requires { AreMarks labels.items rows.items }
+        requires { AreMarkRows labels.items rows.items }
         ensures { result ≡ marks_in labels.items rows.items }
     {
         Marks {
@@ -241,8 +242,8 @@ impl Marks {
         self.labels.is_same(first.label, second.label)
     }
 
-    // The number of a device, a link count and the label that the bytes spell, which are added if they
-    // are new.
+    // The number of a device, a link count and the label that the bytes spell, which are added if
+    // they are new.
     pub fn number_of(
         &mut self,
         alloc: Global,

@@ -1,9 +1,10 @@
-ghost use Rattle.std.specs.Prelude.{◌≡◌, ◌↔◌, ◌<◌, ◌≤◌, ◌-◌, ◌^◌, ℕ, List, [], Result, Ok, Err, length, vec_len, IfOk, IfErr};
+ghost use Rattle.std.specs.Prelude.{◌≡◌, ◌↔◌, ◌<◌, ◌≤◌, ◌-◌, ◌^◌, ℕ, List, [], Result, Ok, Err};
+ghost use Rattle.std.specs.Prelude.{length, vec_len, IfOk, IfErr};
 ghost use Rattle.label_base.specs.Answers.{Answers};
 ghost use Rattle.find_records.specs.Cause.{records_cause};
 ghost use Rattle.find_records.specs.Grammar.{Means, records_from, records_of};
 ghost use Rattle.find_records.specs.Reading.{RecordsTold, RecordsCounts};
-ghost use Rattle.find_records.specs.Record.{AreOf, Record};
+ghost use Rattle.find_records.specs.Record.{AreOfFormat, Record};
 ghost use Rattle.find_records.specs.SoFar.{IsSound, meant_with};
 
 use crate::fault::RecordsFault;
@@ -59,7 +60,7 @@ fn take_pieces<I: Source>(
         → Answers (λ records. records) records_cause answer (meant_with so_far.new [])
         → RecordsCounts (I.faults source.old) (I.faults source.new) answer) }
     ensures of_format { IfOk result (λ _. (records : List Record)
-        → meant_with so_far.new [] ≡ Ok records → AreOf format records) }
+        → meant_with so_far.new [] ≡ Ok records → AreOfFormat format records) }
     ensures fault { IfErr result (λ fault.
         RecordsTold format (I.left source.old) (I.left source.new) limits (Err fault)) }
     ensures rose { IfErr result (λ fault.
@@ -81,13 +82,13 @@ fn take_pieces<I: Source>(
     Err(RecordsFault::TooLong)
 }
 
-/// Reads a source to its end, and the records of a format that it has, each ended by a NUL, as find(1)
-/// writes them. Each record has a link count exactly where its format has one.
+/// Reads a source to its end, and the records of a format that it has, each ended by a NUL, as
+/// find(1) writes them. Each record has a link count exactly where its format has one.
 ///
-/// The first bad record decides, and what comes behind it is read and thrown away; on one record the
-/// limit of their number comes first, then the NUL that a last one lacks, then its fields. At most a
-/// byte more than the limit is taken, whatever the answer, a failed read included. Beside the records
-/// stand one piece of the source and the front of one record at most.
+/// The first bad record decides, and what comes behind it is read and thrown away; on one record
+/// the limit of their number comes first, then the NUL that a last one lacks, then its fields. At
+/// most a byte more than the limit is taken, whatever the answer, a failed read included. Beside
+/// the records stand one piece of the source and the front of one record at most.
 pub fn read_records<I: Source>(
     alloc: Global,
     source: &mut I,
@@ -98,7 +99,7 @@ pub fn read_records<I: Source>(
     ensures told { RecordsTold format (I.left source.old) (I.left source.new) limits result }
     ensures counts { RecordsCounts (I.faults source.old) (I.faults source.new) result }
     ensures few { IfOk result (λ records. length records ≤ limits.records) }
-    ensures of_format { IfOk result (λ records. AreOf format records) }
+    ensures of_format { IfOk result (λ records. AreOfFormat format records) }
 {
     let mut buf = buffer(alloc)?;
     let mut so_far = SoFar::new(alloc, format, limits.records);
@@ -113,11 +114,13 @@ pub fn read_records<I: Source>(
     so_far.end()
 }
 
-/// A law on all bytes: what [`read_records`] reads of them is what the grammar of find(1) says, each
-/// fault included. They give records exactly where they are such records, each ended by a NUL, and no
-/// more than the limit; a fault names the first record that is bad, behind good ones. It does nothing.
+/// A law on all bytes: what [`read_records`] reads of them is what the grammar of find(1) says,
+/// each fault included. They give records exactly where they are such records, each ended by a NUL,
+/// and no more than the limit; a fault names the first record that is bad, behind good ones. It
+/// does nothing.
 #[tactic(auto, using(crate::proofs::RunGrammar::run_means))]
 pub fn records_follow_grammar(_format: Format, _limits: RecordLimits, _bytes: &[u8])
     ensures { (meant : _)
-        → (records_of _format _limits _bytes.now ≡ meant) ↔ Means _format _limits.records _bytes.now meant }
+        → (records_of _format _limits _bytes.now ≡ meant) ↔ Means _format _limits.records _bytes.now
+        meant }
 {}

@@ -1,8 +1,9 @@
 ghost use Rattle.std.specs.Prelude.{◌≡◌, ◌<◌, ◌-◌, ◌^◌, OnErr, Some, length};
 ghost use Rattle.std.specs.Option.{option_copied};
-ghost use Rattle.label_base.specs.Answers.{Answers, cause_of};
+ghost use Rattle.label_base.specs.Answers.{Answers, fault_cause};
 ghost use Rattle.context_syntax.specs.Label.{label_of};
-ghost use Rattle.find_records.specs.Grammar.{kind_of, links_of, path_of, record_from, record_of, with_links, with_path, with_rest};
+ghost use Rattle.find_records.specs.Grammar.{kind_of, links_of, path_field, record_from, record_of};
+ghost use Rattle.find_records.specs.Grammar.{with_links, with_path, with_rest};
 ghost use Rattle.find_records.specs.Reading.{with_one};
 ghost use Rattle.find_records.specs.declared.format.Format.TheVariants.{Two};
 
@@ -45,9 +46,9 @@ fn read_links(field: Option<&[u8]>) -> Option<Option<u64>>
 
 fn add_told(alloc: Global, records: &mut Records, told: &Told<'_>) -> Result<(), Fault<RecordWhy>>
     requires { length records.old < 2 ^ 32 - 1 }
-    ensures answer { Answers (λ _. records.new) cause_of result (with_one records.old
+    ensures answer { Answers (λ _. records.new) fault_cause result (with_one records.old
         (record_from (Some told.now.kind) (Some told.now.device) (Some told.now.inode)
-        (Some told.now.links) (label_of told.now.label.now) (path_of told.now.path.now))) }
+        (Some told.now.links) (label_of told.now.label.now) (path_field told.now.path.now))) }
     ensures same { OnErr result (records.new ≡ records.old) }
 {
     match records.push(alloc, told) {
@@ -67,7 +68,7 @@ fn add_fields(
     path: &[u8],
 ) -> Result<(), Fault<RecordWhy>>
     requires { length records.old < 2 ^ 32 - 1 }
-    ensures answer { Answers (λ _. records.new) cause_of result (with_one records.old
+    ensures answer { Answers (λ _. records.new) fault_cause result (with_one records.old
         (with_path front.now.letter.now front.now.device.now front.now.inode.now (option_copied links.entry)
         label.now path.now)) }
     ensures same { OnErr result (records.new ≡ records.old) }
@@ -104,7 +105,7 @@ fn add_labelled(
     rest: &[u8],
 ) -> Result<(), Fault<RecordWhy>>
     requires { length records.old < 2 ^ 32 - 1 }
-    ensures answer { Answers (λ _. records.new) cause_of result (with_one records.old
+    ensures answer { Answers (λ _. records.new) fault_cause result (with_one records.old
         (with_links front.now.letter.now front.now.device.now front.now.inode.now (option_copied links.entry)
         rest.now)) }
     ensures same { OnErr result (records.new ≡ records.old) }
@@ -124,7 +125,7 @@ fn add_counted(
     rest: &[u8],
 ) -> Result<(), Fault<RecordWhy>>
     requires { length records.old < 2 ^ 32 - 1 }
-    ensures answer { Answers (λ _. records.new) cause_of result (with_one records.old
+    ensures answer { Answers (λ _. records.new) fault_cause result (with_one records.old
         (with_rest Two front.now.letter.now front.now.device.now front.now.inode.now rest.now)) }
     ensures same { OnErr result (records.new ≡ records.old) }
 {
@@ -144,7 +145,7 @@ fn add_rest(
     rest: &[u8],
 ) -> Result<(), Fault<RecordWhy>>
     requires { length records.old < 2 ^ 32 - 1 }
-    ensures answer { Answers (λ _. records.new) cause_of result (with_one records.old
+    ensures answer { Answers (λ _. records.new) fault_cause result (with_one records.old
         (with_rest format front.now.letter.now front.now.device.now front.now.inode.now rest.now)) }
     ensures same { OnErr result (records.new ≡ records.old) }
 {
@@ -163,7 +164,7 @@ pub fn add_record(
     bytes: &[u8],
 ) -> Result<(), Fault<RecordWhy>>
     requires { length records.old < 2 ^ 32 - 1 }
-    ensures answer { Answers (λ _. records.new) cause_of result
+    ensures answer { Answers (λ _. records.new) fault_cause result
         (with_one records.old (record_of format bytes.now)) }
     ensures same { OnErr result (records.new ≡ records.old) }
 {

@@ -1,6 +1,7 @@
-ghost use Rattle.std.specs.Prelude.{◌≡◌, ◌++◌, ◌∷◌, [], ◌<◌, ◌-◌, ◌+◌, ◌^◌, length, slice_get, None, Some, IfErr, IfOk, OnErr, OnOk, vec_len, vec_capacity};
+ghost use Rattle.std.specs.Prelude.{◌≡◌, ◌++◌, ◌∷◌, [], ◌<◌, ◌-◌, ◌+◌, ◌^◌, length, slice_get};
+ghost use Rattle.std.specs.Prelude.{None, Some, IfErr, IfOk, OnErr, OnOk, vec_len, vec_capacity};
 ghost use Rattle.std.specs.Option.{option_map};
-ghost use Rattle.label_base.specs.Answers.{Answers, cause_of};
+ghost use Rattle.label_base.specs.Answers.{Answers, fault_cause};
 ghost use Rattle.file_paths.specs.Path.{path_names, path_read};
 ghost use Rattle.file_paths.specs.PathRef.{path_of};
 ghost use Rattle.context_syntax.specs.Label.{same_label};
@@ -9,7 +10,7 @@ ghost use Rattle.find_records.specs.Entry.{entry_of, record_told};
 ghost use Rattle.find_records.specs.Labelled.{with_labels};
 ghost use Rattle.find_records.specs.Labels.{Extends};
 ghost use Rattle.find_records.specs.Places.{ArePlaces, records_at};
-ghost use Rattle.find_records.specs.Rows.{IsWithin, record_in};
+ghost use Rattle.find_records.specs.Rows.{IsRowWithin, record_in};
 
 use crate::entry::{Entry, Told};
 use crate::labelled::{copy_labels, mark_rows};
@@ -56,7 +57,7 @@ impl Model for Records {
 fn reserve_row(rows: &mut Vec<RecordRow>) -> Result<(), PathFault>
     ensures same { rows.new.items ≡ rows.old.items }
     ensures room { OnOk result (vec_len rows.new < vec_capacity rows.new) }
-    ensures err { IfErr result (λ fault. cause_of fault ≡ None) }
+    ensures err { IfErr result (λ fault. fault_cause fault ≡ None) }
 {
     match rows.reserve(1) {
         Ok(()) => Ok(()),
@@ -71,11 +72,11 @@ fn row_of(
     marks: &mut Marks,
     told: &Told<'_>,
 ) -> Result<RecordRow, PathFault>
-    ensures answer { Answers (λ _. path_names told.now.path.now) cause_of result
+    ensures answer { Answers (λ _. path_names told.now.path.now) fault_cause result
         (path_read told.now.path.now) }
     ensures value { IfOk result (λ row.
         record_in texts.new.items marks.new row ≡ record_told told.now) }
-    ensures within { IfOk result (λ row. IsWithin texts.new.items marks.new row) }
+    ensures within { IfOk result (λ row. IsRowWithin texts.new.items marks.new row) }
     ensures more_texts { Extends texts.old.items texts.new.items }
     ensures more_marks { Extends marks.old marks.new }
     ensures same { OnErr result (marks.new ≡ marks.old) }
@@ -115,7 +116,7 @@ impl Records {
     /// Adds a record behind the others. After a refusal the records are as they were.
     pub fn push(&mut self, alloc: Global, told: &Told<'_>) -> Result<(), PathFault>
         requires { length self.old < 2 ^ 32 - 1 }
-        ensures answer { Answers (λ _. path_names told.now.path.now) cause_of result
+        ensures answer { Answers (λ _. path_names told.now.path.now) fault_cause result
             (path_read told.now.path.now) }
         ensures ok { OnOk result (self.new ≡ self.old ++ record_told told.now ∷ []) }
         ensures err { OnErr result (self.new ≡ self.old) }
@@ -165,8 +166,8 @@ impl Records {
         self.entry(i).path
     }
 
-    /// The records as they are, but for their labels: each has a copy of the one among these, counted
-    /// from 0, whose number stands at its place.
+    /// The records as they are, but for their labels: each has a copy of the one among these,
+    /// counted from 0, whose number stands at its place.
     pub fn with_labels(
         &self,
         alloc: Global,
@@ -189,8 +190,8 @@ impl Records {
         })
     }
 
-    /// The records at these places, counted from 0, in the order of the places: their texts are laid
-    /// anew, one behind the other, unless each stands where it stood.
+    /// The records at these places, counted from 0, in the order of the places: their texts are
+    /// laid anew, one behind the other, unless each stands where it stood.
     pub fn in_order(self, alloc: Global, places: &[u32]) -> Result<Records, OutOfMemory>
         requires few { length places.now < 2 ^ 32 }
         requires known { ArePlaces (length self) places.now }

@@ -1,5 +1,5 @@
 ghost use Rattle.std.specs.Prelude.{◌≡◌, ◌+◌, ◌≤◌, length};
-ghost use Rattle.find_records.specs.Rows.{text_in};
+ghost use Rattle.find_records.specs.Rows.{row_text};
 
 use label_base::EntryKind;
 
@@ -16,7 +16,7 @@ pub struct RecordRow {
 /// The text of a row's path.
 pub fn text_at<'a>(texts: &'a [u8], row: &RecordRow) -> &'a [u8]
     requires { row.now.at + row.now.size ≤ length texts.now }
-    ensures { result.now ≡ text_in texts.now row.now }
+    ensures { result.now ≡ row_text texts.now row.now }
 {
     &texts[row.at..][..row.size as usize]
 }

@@ -1,4 +1,5 @@
-ghost use Rattle.std.specs.Prelude.{◌≡◌, ◌∷◌, ◌++◌, ◌<◌, ◌≤◌, ◌+◌, [], Contains, List, ℕ, None, Ok, Err, true, false, length, nat_lt, IfOk};
+ghost use Rattle.std.specs.Prelude.{◌≡◌, ◌∷◌, ◌++◌, ◌<◌, ◌≤◌, ◌+◌, [], Contains, List, ℕ, None, Ok};
+ghost use Rattle.std.specs.Prelude.{Err, true, false, length, nat_lt, IfOk};
 ghost use Rattle.label_base.specs.Answers.{Answers};
 ghost use Rattle.find_records.specs.Cause.{records_cause};
 ghost use Rattle.find_records.specs.Grammar.{meaning, records_from};
@@ -73,7 +74,8 @@ fn add_numbered(
 #[tactic(auto, unfolding(crate::specs::Grammar::meaning))]
 fn unended(records: &Records, most: u32) -> RecordsFault
     requires { length records.now ≤ most }
-    ensures { (format : _) → (bytes : List ℕ) → meaning format most (length records.now + 1) bytes false ≡ Err result }
+    ensures { (format : _) → (bytes : List ℕ) → meaning format most (length records.now + 1) bytes
+        false ≡ Err result }
 {
     if is_full(records, most) {
         return RecordsFault::TooMany;

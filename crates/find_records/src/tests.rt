@@ -97,7 +97,8 @@ fn labels_are_kept_once(rt: HostRuntime) -> Result<(), Fail> {
     Ok(())
 }
 
-// Whether the records at two places have these paths, once they are laid in the order of the places.
+// Whether the records at two places have these paths, once they are laid in the order of the
+// places.
 fn stand_in_order(alloc: Global, bytes: &[u8], places: [u32; 2], wanted: [&[u8]; 2]) -> bool {
     let Ok(records) = read(alloc, bytes) else {
         return false;

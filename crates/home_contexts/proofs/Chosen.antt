@@ -1,14 +1,16 @@
 -- The users for whom a line is given, by flags.
-use Rattle.std.proofs.Common.{◌≡◌, ◌∙◌, sym, refl, ap, ℕ, zero, suc, ◌+◌, ◌<◌, ◌≤◌, ◌||◌, Bool, true, false, cond, List, [], ◌∷◌, ◌++◌, length, drop, get_or, arith}
+use Rattle.std.proofs.Common.{◌≡◌, ◌∙◌, sym, refl, ap, ℕ, zero, suc, ◌+◌, ◌<◌, ◌≤◌, ◌||◌, Bool}
+use Rattle.std.proofs.Common.{true, false, cond, List, [], ◌∷◌, ◌++◌, length, drop, get_or, arith}
 use Rattle.std.specs.List.{list_any}
 use Rattle.std.specs.declared.vec.Vec.{Vec}
 use Rattle.std.proofs.lemmas.List.{drop_all, drop_more, map-append}
 use Rattle.label_base.specs.Lines.{is_comment}
 use Rattle.label_base.specs.Text.{same_bytes}
-use Rattle.home_contexts.specs.Homes.{filled_fields, first_by_root, given_by_fields, given_to, hold, root_text, users_for}
+use Rattle.home_contexts.specs.Homes.{filled_fields, first_by_root, given_by_fields, given_to, hold}
+use Rattle.home_contexts.specs.Homes.{root_text, users_for}
 use Rattle.home_contexts.specs.Making.{chosen, first_flags, for_user, key_texts}
 use Rattle.home_contexts.specs.User.{UserValue}
-use Rattle.home_contexts.specs.Words.{is_other, is_root}
+use Rattle.home_contexts.specs.Words.{is_other, is_root_word}
 
 pub chosen_all : (flags : List Bool) (users : List UserValue) → length flags ≡ length users → chosen
     true flags users ≡ users
@@ -103,19 +105,21 @@ pub other_given : (users : List UserValue) (flags : List Bool) (number : ℕ) (a
     true flags users) number (field ∷ fields)
 other_given users flags number all field fields cut said same other =
     ap (given_by_fields users number) cut ∙ first_given users number field fields said
-    ∙ ap (λ t. given_to (cond t users (cond (hold is_root (field ∷ fields)) (first_by_root [] users)
+    ∙ ap (λ t. given_to
+    (cond t users (cond (hold is_root_word (field ∷ fields)) (first_by_root [] users)
     [])) number (field ∷ fields)) other
     ∙ ap (λ us. given_to us number (field ∷ fields)) (sym (chosen_all flags users same))
 
 pub root_given : (users : List UserValue) (flags : List Bool) (number : ℕ) (all : List (List ℕ))
     (field : List ℕ) (fields : List (List ℕ)) → all ≡ field ∷ fields → is_comment field ≡ false →
     flags ≡ first_flags [] users
-    → hold is_other (field ∷ fields) ≡ false → hold is_root (field ∷ fields) ≡ true →
+    → hold is_other (field ∷ fields) ≡ false → hold is_root_word (field ∷ fields) ≡ true →
     given_by_fields users number all ≡ given_to (chosen false flags users) number (field ∷
     fields)
 root_given users flags number all field fields cut said firsts other root =
     ap (given_by_fields users number) cut ∙ first_given users number field fields said
-    ∙ ap (λ t. given_to (cond t users (cond (hold is_root (field ∷ fields)) (first_by_root [] users)
+    ∙ ap (λ t. given_to
+    (cond t users (cond (hold is_root_word (field ∷ fields)) (first_by_root [] users)
     [])) number (field ∷ fields)) other
     ∙ ap (λ t. given_to (cond t (first_by_root [] users) []) number (field ∷ fields)) root
     ∙ ap (λ us. given_to us number (field ∷ fields)) (sym (chosen_firsts [] users) ∙ ap (λ fs.
@@ -123,11 +127,12 @@ root_given users flags number all field fields cut said firsts other root =
 
 pub none_given : (users : List UserValue) (number : ℕ) (all : List (List ℕ)) (field : List ℕ)
     (fields : List (List ℕ)) → all ≡ field ∷ fields → is_comment field ≡ false
-    → hold is_other (field ∷ fields) ≡ false → hold is_root (field ∷ fields) ≡ false →
+    → hold is_other (field ∷ fields) ≡ false → hold is_root_word (field ∷ fields) ≡ false →
     given_by_fields users number all ≡ []
 none_given users number all field fields cut said other root =
     ap (given_by_fields users number) cut ∙ first_given users number field fields said
-    ∙ ap (λ t. given_to (cond t users (cond (hold is_root (field ∷ fields)) (first_by_root [] users)
+    ∙ ap (λ t. given_to
+    (cond t users (cond (hold is_root_word (field ∷ fields)) (first_by_root [] users)
     [])) number (field ∷ fields)) other
     ∙ ap (λ t. given_to (cond t (first_by_root [] users) []) number (field ∷ fields)) root
 

@@ -1,20 +1,23 @@
 -- What stands for a path in a pattern is a pattern for that path alone.
-use Rattle.std.proofs.Common.{◌≡◌, ◌∙◌, sym, refl, ap, subst, ℕ, ◌+◌, ◌≤◌, ◌==◌, ◌||◌, Bool, true, false, cond, List, [], ◌∷◌, ◌++◌, length, append_assoc, append-nil, length-append, arith}
+use Rattle.std.proofs.Common.{◌≡◌, ◌∙◌, sym, refl, ap, subst, ℕ, ◌+◌, ◌≤◌, ◌==◌, ◌||◌, Bool, true}
+use Rattle.std.proofs.Common.{false, cond, List, [], ◌∷◌, ◌++◌, length, append_assoc, append-nil}
+use Rattle.std.proofs.Common.{length-append, arith}
 use Rattle.std.specs.Prelude.{◌↔◌, not, Option, Some, None, Ok}
 use Rattle.std.specs.List.{list_all}
 use Rattle.std.specs.Cmp.{first_so, second_so}
 use Rattle.std.proofs.lemmas.Bool.{and_from, or_parts, ne_eqb, eqb-true}
 use Rattle.file_paths.specs.Path.{Path, are_names, is_name, is_name_byte, path_text, with_slashes}
 use Rattle.file_paths.proofs.PathLemmas.{name_bytes}
-use Rattle.pattern_syntax.specs.Classes.{is_alnum, is_word}
-use Rattle.pattern_syntax.specs.Escapes.{class_of_letter, control_of_letter, escape_at, plain_escape}
+use Rattle.pattern_syntax.specs.Classes.{is_alnum, is_word_class}
+use Rattle.pattern_syntax.specs.Escapes.{class_of_letter, control_of_letter, escape_at}
+use Rattle.pattern_syntax.specs.Escapes.{plain_escape}
 use Rattle.pattern_syntax.specs.Language.{In}
 use Rattle.pattern_syntax.specs.Reading.{Reading, pattern_of, positions, reads_as, with_last}
 use Rattle.pattern_syntax.specs.Tokens.{Bytes, repeat_or_byte, token_at, tokens_from}
 use Rattle.pattern_syntax.specs.Tree.{Tree, Both, Nothing, Set}
 use Rattle.pattern_syntax.proofs.PartsLemmas.{same_byte}
 use Rattle.pattern_syntax.proofs.ReadingLemmas.{ends_whole, reads_more}
-use Rattle.home_contexts.specs.Escaped.{Matches, escaped, escaped_byte, stands_bare}
+use Rattle.home_contexts.specs.Escaped.{Matches, pattern_escaped, pattern_escaped_byte, stands_bare}
 
 -- ---- tokens
 
@@ -29,8 +32,8 @@ marked_apart b k marked bare =
 
 no_letter : (b : ℕ) → stands_bare b ≡ false → is_alnum b ≡ false
 no_letter b marked =
-    let words = or_parts (is_word b || (b == 45)) (b == 47) marked in
-    let both = or_parts (is_word b) (b == 45) words.0 in
+    let words = or_parts (is_word_class b || (b == 45)) (b == 47) marked in
+    let both = or_parts (is_word_class b) (b == 45) words.0 in
     (or_parts (is_alnum b) (b == 95) both.0).0
 
 bare_token : (begins : Bool) (b : ℕ) (bs : List ℕ) → stands_bare b ≡ true → token_at begins (b ∷ bs)
@@ -102,7 +105,8 @@ marked_read end place sequence piece b rest h z =
 
 byte_read : (end place : ℕ) (sequence : Tree) (piece : Option Tree) (b : ℕ) (rest : List ℕ) → (b ==
     0) ≡ false
-    → (next : ℕ) × (reads_as end (sequence_read sequence piece) (tokens_from place 0 (escaped_byte b
+    → (next : ℕ)
+    × (reads_as end (sequence_read sequence piece) (tokens_from place 0 (pattern_escaped_byte b
     ++ rest)) ≡ reads_as end (sequence_read (with_last sequence piece) (Some (Set (b ∷ []))))
     (tokens_from next 0 rest))
 byte_read end place sequence piece b rest z =
@@ -158,7 +162,8 @@ not_zero b h = by_case (b == 0) h
 text_read : (end place : ℕ) (sequence : Tree) (piece : Option Tree) (front text : List ℕ) → list_all
     is_other text ≡ true → IsAlone (with_last sequence piece) front → length front + length text ≤
     2000
-    → (tree : Tree) × (reads_as end (sequence_read sequence piece) (tokens_from place 0 (escaped
+    → (tree : Tree)
+    × (reads_as end (sequence_read sequence piece) (tokens_from place 0 (pattern_escaped
     text)) ≡ Ok tree) × IsAlone tree (front ++ text)
 unfolding tokens_from
 text_read end place sequence piece front [] others h short = (
@@ -171,18 +176,20 @@ text_read end place sequence piece front [] others h short = (
 )
 text_read end place sequence piece front (b ∷ bs) others h short =
     let z = not_zero b (first_so (is_other b) (list_all is_other bs) others) in
-    let step = byte_read end place sequence piece b (escaped bs) z in
+    let step = byte_read end place sequence piece b (pattern_escaped bs) z in
     let joined = length-append front (b ∷ []) in
     let rest = text_read end step.0 (with_last sequence piece) (Some (Set (b ∷ []))) (front ++ b ∷
     []) bs (second_so (is_other b) (list_all is_other bs) others) (pushed (with_last sequence
     piece) front b h) (omega (arith, short, joined)) in
     (rest.0, step.1 ∙ rest.1, subst (IsAlone rest.0) (append_assoc front (b ∷ []) bs) rest.2)
 
-text_alone : (text : List ℕ) → list_all is_other text ≡ true → length text ≤ 2000 → Matches (escaped
+text_alone : (text : List ℕ) → list_all is_other text ≡ true → length text ≤ 2000
+    → Matches (pattern_escaped
     text) text
 unfolding pattern_of
 text_alone text others short =
-    let found = text_read (length (escaped text)) 0 Nothing None [] text others nothing_alone (omega
+    let found = text_read (length (pattern_escaped text)) 0 Nothing None [] text others
+    nothing_alone (omega
     arith) in
     record { tree = found.0; read = found.1; alone = found.2.alone }
 
@@ -209,6 +216,6 @@ path_others [] h = refl
 path_others (name ∷ names) h = slashed_others (name ∷ names) h
 
 pub path_alone : (path own : Path) → own ≡ path → are_names own ≡ true → length (path_text path) ≤
-    2000 → Matches (escaped (path_text path)) (path_text path)
+    2000 → Matches (pattern_escaped (path_text path)) (path_text path)
 path_alone path own same names short = text_alone (path_text path) (path_others path (subst (λ p.
     are_names p ≡ true) same names)) short

@@ -1,11 +1,14 @@
 -- A given line is read as its fields.
-use Rattle.std.proofs.Common.{◌≡◌, ◌∙◌, sym, refl, ap, subst, ℕ, ◌<◌, ◌==◌, Bool, true, false, cond, List, [], ◌∷◌, ◌++◌, length, append_assoc, append-nil, inl, inr, arith}
+use Rattle.std.proofs.Common.{◌≡◌, ◌∙◌, sym, refl, ap, subst, ℕ, ◌<◌, ◌==◌, Bool, true, false, cond}
+use Rattle.std.proofs.Common.{List, [], ◌∷◌, ◌++◌, length, append_assoc, append-nil, inl, inr}
+use Rattle.std.proofs.Common.{arith}
 use Rattle.std.specs.Prelude.{Contains, Option, Some, None, Result, Ok, Err, not}
 use Rattle.std.specs.List.{enumerate_from, list_all, list_any}
 use Rattle.std.specs.Cmp.{first_so, second_so}
 use Rattle.std.proofs.lemmas.Bool.{false≢true, or_from, or_parts}
 use Rattle.std.proofs.lemmas.List.Folds.{list_any-append}
-use Rattle.label_base.specs.Lines.{accepted, fields_of, fields_said, is_blank, is_comment, limited, line_said, lines_of, read_from, some_value}
+use Rattle.label_base.specs.Lines.{accepted, fields_of, fields_said, is_blank, is_comment, limited}
+use Rattle.label_base.specs.Lines.{line_said, lines_of, read_from, some_value}
 use Rattle.label_base.specs.LineGrammar.{AreFields, IsField, none, last, more}
 use Rattle.file_roles.specs.declared.role.Part.TheVariants.{Homedirs}
 use Rattle.label_base.specs.declared.lines.LinesWhy.{LinesWhy}
@@ -13,7 +16,7 @@ use Rattle.label_base.specs.declared.lines.RefusedLine.{RefusedLine}
 use Rattle.label_base.specs.declared.lines.LinesWhy.TheVariants.{Refused, TooMany}
 use Rattle.label_base.proofs.FirstCut.{cut}
 use Rattle.label_base.proofs.LineCuts.{fields_are, lines_are}
-use Rattle.spec_reader.specs.SpecLines.{spec_in, specs_of}
+use Rattle.spec_reader.specs.SpecLines.{spec_of_fields, specs_of}
 use Rattle.spec_reader.specs.SpecValue.{SpecValue}
 use Rattle.spec_reader.specs.declared.spec_fault.SpecWhy.{SpecWhy}
 use Rattle.home_contexts.specs.Homes.{line_text, refusal_of, tabbed}
@@ -155,17 +158,19 @@ line_alone fields h =
     (body fields) [] [] (body_lacks fields h) none)
 
 read_alone : (fields : List (List ℕ)) → are_parts fields ≡ true → specs_of Homedirs 1 (line_text
-    fields) ≡ alone (spec_in Homedirs 1 fields)
+    fields) ≡ alone (spec_of_fields Homedirs 1 fields)
 read_alone fields h =
-    let said : ℕ → List ℕ → Result (Option SpecValue) SpecWhy = line_said (spec_in Homedirs) in
-    ap (λ lines. limited 1 (accepted (line_said (spec_in Homedirs)) (enumerate_from 1 lines))
-    (read_from (line_said (spec_in Homedirs)) 1 lines)) (line_alone fields h)
-    ∙ said_alone (line_said (spec_in Homedirs)) (body fields) (spec_in Homedirs 1 fields) (body_says
-    (spec_in Homedirs) 1 fields h)
+    let said : ℕ → List ℕ → Result (Option SpecValue) SpecWhy =
+    line_said (spec_of_fields Homedirs) in
+    ap (λ lines. limited 1 (accepted (line_said (spec_of_fields Homedirs)) (enumerate_from 1 lines))
+    (read_from (line_said (spec_of_fields Homedirs)) 1 lines)) (line_alone fields h)
+    ∙ said_alone (line_said (spec_of_fields Homedirs)) (body fields)
+    (spec_of_fields Homedirs 1 fields) (body_says
+    (spec_of_fields Homedirs) 1 fields h)
 
 meant_alone : (line : List ℕ) (fields : List (List ℕ)) (meant : Result (List SpecValue) (LinesWhy
     SpecWhy)) → are_parts fields ≡ true → line ≡ line_text fields → specs_of Homedirs 1 line ≡
-    meant → meant ≡ alone (spec_in Homedirs 1 fields)
+    meant → meant ≡ alone (spec_of_fields Homedirs 1 fields)
 meant_alone line fields meant h same read = sym read ∙ ap (specs_of Homedirs 1) same ∙ read_alone
     fields h
 
@@ -196,23 +201,25 @@ refused_alone (Err why) refused h =
 
 pub line_accepted : (line : List ℕ) (fields : List (List ℕ)) (specs : List SpecValue) → are_parts
     fields ≡ true → line ≡ line_text fields → specs_of Homedirs 1 line ≡ Ok specs → (spec :
-    SpecValue) × (spec_in Homedirs 1 fields ≡ Ok spec)
-line_accepted line fields specs h same read = ok_alone (spec_in Homedirs 1 fields) specs
+    SpecValue) × (spec_of_fields Homedirs 1 fields ≡ Ok spec)
+line_accepted line fields specs h same read = ok_alone (spec_of_fields Homedirs 1 fields) specs
     (meant_alone line fields (Ok specs) h same read)
 
 pub line_refused : (number : ℕ) (line : List ℕ) (fields : List (List ℕ)) (refused : RefusedLine
     SpecWhy) → are_parts fields ≡ true → line ≡ line_text fields → specs_of Homedirs 1 line ≡ Err
     (Refused refused)
-    → refusal_of number (spec_in Homedirs 1 fields) ≡ Some (record {
+    → refusal_of number (spec_of_fields Homedirs 1 fields) ≡ Some (record {
       number = number;
       why =
           refused.why;
     })
-line_refused number line fields refused h same read = ap (refusal_of number) (refused_alone (spec_in
+line_refused number line fields refused h same read =
+    ap (refusal_of number) (refused_alone (spec_of_fields
     Homedirs 1 fields) refused (meant_alone line fields (Err (Refused refused)) h same read))
 
 pub line_many : (line : List ℕ) (fields : List (List ℕ)) → are_parts fields ≡ true → line ≡
-    line_text fields → specs_of Homedirs 1 line ≡ Err TooMany → (spec : SpecValue) × (spec_in
+    line_text fields → specs_of Homedirs 1 line ≡ Err TooMany → (spec : SpecValue) × (spec_of_fields
     Homedirs 1 fields ≡ Ok spec)
-line_many line fields h same read = many_alone (spec_in Homedirs 1 fields) (meant_alone line fields
+line_many line fields h same read = many_alone (spec_of_fields Homedirs 1 fields)
+    (meant_alone line fields
     (Err TooMany) h same read)

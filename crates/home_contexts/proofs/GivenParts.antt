@@ -1,5 +1,7 @@
 -- A line with a user's values in place is cut into the fields that it was made of.
-use Rattle.std.proofs.Common.{◌≡◌, ◌∙◌, sym, refl, ap, subst, ℕ, zero, suc, ◌-◌, ◌<◌, ◌≤◌, ◌==◌, Bool, true, false, cond, List, [], ◌∷◌, ◌++◌, length, map, take, get_or, length-append, arith}
+use Rattle.std.proofs.Common.{◌≡◌, ◌∙◌, sym, refl, ap, subst, ℕ, zero, suc, ◌-◌, ◌<◌, ◌≤◌, ◌==◌}
+use Rattle.std.proofs.Common.{Bool, true, false, cond, List, [], ◌∷◌, ◌++◌, length, map, take}
+use Rattle.std.proofs.Common.{get_or, length-append, arith}
 use Rattle.std.specs.Prelude.{Option, Some, None, not, nat_le}
 use Rattle.std.specs.List.{flat_map, list_all, list_any}
 use Rattle.std.specs.Cmp.{first_so, second_so}
@@ -10,11 +12,12 @@ use Rattle.std.proofs.lemmas.Option.{slice_get-get_or}
 use Rattle.label_base.specs.Lines.{is_comment}
 use Rattle.context_syntax.specs.Context.{is_word_byte}
 use Rattle.file_paths.specs.Path.{Path, path_text}
-use Rattle.home_contexts.specs.Escaped.{escaped, stands_bare}
+use Rattle.home_contexts.specs.Escaped.{pattern_escaped, stands_bare}
 use Rattle.home_contexts.specs.Homes.{filled_fields}
 use Rattle.home_contexts.specs.Making.{are_parts, is_part}
 use Rattle.home_contexts.specs.User.{IsUser, UserValue, ends_field, is_home}
-use Rattle.home_contexts.specs.Words.{filled, piece_text, pieces_from, root_of, value_of, with_piece, word_at, word_text, written}
+use Rattle.home_contexts.specs.Words.{filled, template_text, pieces_from, root_of, word_value}
+use Rattle.home_contexts.specs.Words.{piece_then, template_word_at, word_text, written_word}
 use Rattle.home_contexts.specs.declared.word.Piece.{Piece}
 use Rattle.home_contexts.specs.declared.word.Word.{Word}
 use Rattle.home_contexts.specs.declared.word.Word.TheVariants.{HomeDir, HomeRoot, Role, User}
@@ -61,7 +64,7 @@ root_ends home h =
     (or_parts (list_any ends_field (path_text (root_of home))) (list_any ends_field (47 ∷ last))
     (sym (list_any-append ends_field (path_text (root_of home)) (47 ∷ last)) ∙ whole)).0
 
-value_ends : (user : UserValue) → IsUser user → (word : Word) → list_any ends_field (value_of user
+value_ends : (user : UserValue) → IsUser user → (word : Word) → list_any ends_field (word_value user
     word) ≡ false
 value_ends user h HomeRoot = root_ends user.home h.home
 value_ends user h HomeDir = home_ends user.home h.home
@@ -70,7 +73,7 @@ value_ends user h Role = bytes_end user.role (second_so (not (length user.role =
 value_ends user h User = bytes_end user.name (second_so (not (length user.name == 0)) (list_all
     is_word_byte user.name) h.name)
 
-value_some : (user : UserValue) → IsUser user → (word : Word) → 0 < length (value_of user word)
+value_some : (user : UserValue) → IsUser user → (word : Word) → 0 < length (word_value user word)
 value_some user h HomeRoot = text_some (root_of user.home)
 value_some user h HomeDir = text_some user.home
 value_some user h Role = some_bytes user.role (first_so (not (length user.role == 0)) (list_all
@@ -78,41 +81,45 @@ value_some user h Role = some_bytes user.role (first_so (not (length user.role =
 value_some user h User = some_bytes user.name (first_so (not (length user.name == 0)) (list_all
     is_word_byte user.name) h.name)
 
-escaped_ends : (text : List ℕ) → list_any ends_field text ≡ false → list_any ends_field (escaped
+escaped_ends : (text : List ℕ) → list_any ends_field text ≡ false
+    → list_any ends_field (pattern_escaped
     text) ≡ false
 escaped_ends [] h = refl
 escaped_ends (b ∷ bs) h =
     let both = or_parts (ends_field b) (list_any ends_field bs) h in
-    let rest = or_from (ends_field b) (list_any ends_field (escaped bs)) both.0 (escaped_ends bs
+    let rest = or_from (ends_field b) (list_any ends_field (pattern_escaped bs)) both.0
+    (escaped_ends bs
     both.1) in
-    elim (stands_bare b) as (λ v. list_any ends_field (cond v (b ∷ []) (92 ∷ b ∷ []) ++ escaped bs)
+    elim (stands_bare b) as
+    (λ v. list_any ends_field (cond v (b ∷ []) (92 ∷ b ∷ []) ++ pattern_escaped bs)
     ≡ false) [ true ↦ rest | false ↦ rest ]
 
 written_ends : (in_pattern : Bool) (text : List ℕ) → list_any ends_field text ≡ false → list_any
-    ends_field (written in_pattern text) ≡ false
+    ends_field (written_word in_pattern text) ≡ false
 written_ends true text h = escaped_ends text h
 written_ends false text h = h
 
-escaped_some : (text : List ℕ) → 0 < length text → 0 < length (escaped text)
+escaped_some : (text : List ℕ) → 0 < length text → 0 < length (pattern_escaped text)
 escaped_some [] h = h
 escaped_some (b ∷ bs) h =
-    elim (stands_bare b) as (λ v. 0 < length (cond v (b ∷ []) (92 ∷ b ∷ []) ++ escaped bs)) [
+    elim (stands_bare b) as (λ v. 0 < length (cond v (b ∷ []) (92 ∷ b ∷ []) ++ pattern_escaped bs)) [
       | true ↦
           omega arith
       | false ↦ omega arith
     ]
 
-written_some : (in_pattern : Bool) (text : List ℕ) → 0 < length text → 0 < length (written
+written_some : (in_pattern : Bool) (text : List ℕ) → 0 < length text → 0 < length (written_word
     in_pattern text)
 written_some true text h = escaped_some text h
 written_some false text h = h
 
 -- what is escaped begins no comment
-escaped_begins : (text rest : List ℕ) → 0 < length text → is_comment (escaped text ++ rest) ≡ false
+escaped_begins : (text rest : List ℕ) → 0 < length text → is_comment (pattern_escaped text ++ rest)
+    ≡ false
 escaped_begins [] rest h = absurd (omega arith)
 escaped_begins (b ∷ bs) rest h =
     elim (stands_bare b) as (λ v. stands_bare b ≡ v → is_comment ((cond v (b ∷ []) (92 ∷ b ∷ []) ++
-    escaped bs) ++ rest) ≡ false) [
+    pattern_escaped bs) ++ rest) ≡ false) [
       | true ↦ λ t. ne_eqb b 35 (λ e. let bare : stands_bare 35 ≡ true = subst (λ n. stands_bare n ≡
           true) e t in absurd (false≢true bare))
       | false ↦ λ f. refl
@@ -121,20 +128,20 @@ escaped_begins (b ∷ bs) rest h =
 -- ---- fields
 
 abbrev text_from : Bool → UserValue → List Piece → List ℕ
-text_from in_pattern user pieces = flat_map (piece_text in_pattern user) pieces
+text_from in_pattern user pieces = flat_map (template_text in_pattern user) pieces
 
 piece_ends : (user : UserValue) → IsUser user → (in_pattern : Bool) (b : ℕ) (found : Option Word)
     (rest : ℕ → List Piece) → ends_field b ≡ false
     → ((skip : ℕ) → list_any ends_field (text_from in_pattern user (rest skip)) ≡ false) → list_any
-    ends_field (text_from in_pattern user (with_piece b found rest)) ≡ false
+    ends_field (text_from in_pattern user (piece_then b found rest)) ≡ false
 piece_ends user h in_pattern b None rest here later = or_from (ends_field b) (list_any ends_field
     (text_from in_pattern user (rest 0))) here (later 0)
 piece_ends user h in_pattern b (Some word) rest here later =
-    let text = written in_pattern (value_of user word) in
+    let text = written_word in_pattern (word_value user word) in
     let skip = length (word_text word) - 1 in
     list_any-append ends_field text (text_from in_pattern user (rest skip))
     ∙ or_from (list_any ends_field text) (list_any ends_field (text_from in_pattern user (rest
-    skip))) (written_ends in_pattern (value_of user word) (value_ends user h word)) (later
+    skip))) (written_ends in_pattern (word_value user word) (value_ends user h word)) (later
     skip)
 
 pieces_end : (user : UserValue) → IsUser user → (in_pattern : Bool) (skip : ℕ) (text : List ℕ) →
@@ -146,15 +153,17 @@ pieces_end user h in_pattern (suc skip) (b ∷ bs) none = pieces_end user h in_p
     (or_parts (ends_field b) (list_any ends_field bs) none).1
 pieces_end user h in_pattern zero (b ∷ bs) none =
     let both = or_parts (ends_field b) (list_any ends_field bs) none in
-    piece_ends user h in_pattern b (word_at (b ∷ bs)) (λ skip. pieces_from skip bs) both.0 (λ skip.
+    piece_ends user h in_pattern b (template_word_at (b ∷ bs)) (λ skip. pieces_from skip bs) both.0
+    (λ skip.
     pieces_end user h in_pattern skip bs both.1)
 
 piece_some : (user : UserValue) → IsUser user → (in_pattern : Bool) (b : ℕ) (found : Option Word)
-    (rest : ℕ → List Piece) → 0 < length (text_from in_pattern user (with_piece b found rest))
+    (rest : ℕ → List Piece) → 0 < length (text_from in_pattern user (piece_then b found rest))
 piece_some user h in_pattern b None rest = omega arith
 piece_some user h in_pattern b (Some word) rest =
-    let some = written_some in_pattern (value_of user word) (value_some user h word) in
-    let sum = length-append (written in_pattern (value_of user word)) (text_from in_pattern user
+    let some = written_some in_pattern (word_value user word) (value_some user h word) in
+    let sum = length-append (written_word in_pattern (word_value user word))
+    (text_from in_pattern user
     (rest (length (word_text word) - 1))) in
     omega (arith, some, sum)
 
@@ -162,7 +171,8 @@ field_some : (user : UserValue) → IsUser user → (in_pattern : Bool) (field :
     field → 0 < length (filled in_pattern user field)
 unfolding pieces_from
 field_some user h in_pattern [] some = absurd (omega arith)
-field_some user h in_pattern (b ∷ bs) some = piece_some user h in_pattern b (word_at (b ∷ bs)) (λ
+field_some user h in_pattern (b ∷ bs) some =
+    piece_some user h in_pattern b (template_word_at (b ∷ bs)) (λ
     skip. pieces_from skip bs)
 
 not_empty : (bytes : List ℕ) → 0 < length bytes → not (length bytes == 0) ≡ true
@@ -188,17 +198,18 @@ filled_parts user h (suc n) (field ∷ fields) parts =
     fields))) (filled_part user h false field both.0) (filled_parts user h n fields both.1)
 
 piece_begins : (user : UserValue) → IsUser user → (b : ℕ) (found : Option Word) (rest : ℕ → List
-    Piece) → (b == 35) ≡ false → is_comment (text_from true user (with_piece b found rest)) ≡
+    Piece) → (b == 35) ≡ false → is_comment (text_from true user (piece_then b found rest)) ≡
     false
 piece_begins user h b None rest other = other
-piece_begins user h b (Some word) rest other = escaped_begins (value_of user word) (text_from true
+piece_begins user h b (Some word) rest other = escaped_begins (word_value user word) (text_from true
     user (rest (length (word_text word) - 1))) (value_some user h word)
 
 pattern_begins : (user : UserValue) → IsUser user → (field : List ℕ) → is_comment field ≡ false →
     is_comment (filled true user field) ≡ false
 unfolding pieces_from
 pattern_begins user h [] other = refl
-pattern_begins user h (b ∷ bs) other = piece_begins user h b (word_at (b ∷ bs)) (λ skip. pieces_from
+pattern_begins user h (b ∷ bs) other = piece_begins user h b (template_word_at (b ∷ bs))
+    (λ skip. pieces_from
     skip bs) other
 
 pub given_parts : (user : UserValue) → IsUser user → (fields : List (List ℕ)) → are_parts fields ≡

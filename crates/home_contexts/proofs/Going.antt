@@ -1,5 +1,6 @@
 -- A text that is made line by line.
-use Rattle.std.proofs.Common.{◌≡◌, ◌∙◌, sym, refl, ap, subst, ℕ, ◌+◌, ◌≤◌, false, List, [], ◌∷◌, ◌++◌, length, min, append_assoc, append-nil, length-append, arith}
+use Rattle.std.proofs.Common.{◌≡◌, ◌∙◌, sym, refl, ap, subst, ℕ, ◌+◌, ◌≤◌, false, List, [], ◌∷◌}
+use Rattle.std.proofs.Common.{◌++◌, length, min, append_assoc, append-nil, length-append, arith}
 use Rattle.std.specs.Prelude.{Option, Some, None}
 use Rattle.std.specs.List.{filter_map, list_all, list_any}
 use Rattle.std.proofs.lemmas.Bool.{and_from, or_parts}
@@ -9,10 +10,11 @@ use Rattle.std.proofs.lemmas.List.Folds.{list_all-append, list_any-append}
 use Rattle.label_base.specs.Lines.{first_of}
 use Rattle.label_base.specs.declared.lines.RefusedLine.{RefusedLine}
 use Rattle.spec_reader.specs.declared.spec_fault.SpecWhy.{SpecWhy}
-use Rattle.home_contexts.specs.Homes.{Given, first_refusal, given_text, is_long, refusal, text_of}
-use Rattle.home_contexts.specs.Making.{Adds, IsMade, Stops, is_given}
+use Rattle.home_contexts.specs.Homes.{Given, first_refusal, home_text, is_long, refusal, homes_text}
+use Rattle.home_contexts.specs.Making.{AddsGiven, IsMade, StopsAtRefused, is_home_given}
 use Rattle.home_contexts.specs.declared.homes_fault.HomesWhy.{HomesWhy}
-use Rattle.home_contexts.specs.declared.homes_fault.HomesWhy.TheVariants.{Refused, TooLong, TooManySpecs}
+use Rattle.home_contexts.specs.declared.homes_fault.HomesWhy.TheVariants.{Refused, TooLong}
+use Rattle.home_contexts.specs.declared.homes_fault.HomesWhy.TheVariants.{TooManySpecs}
 use Rattle.home_contexts.specs.declared.made.Made.{Made}
 
 -- ---- the first refusal
@@ -46,7 +48,8 @@ front_refused : (front back : List Given) (refused : RefusedLine SpecWhy) → fi
 front_refused front back refused f = first-append front back ∙ ap (λ o. or_later o (first_refusal
     back)) f
 
-stops_front : (cause : Option HomesWhy) (front back : List Given) → Stops cause front → Stops cause
+stops_front : (cause : Option HomesWhy) (front back : List Given) → StopsAtRefused cause front
+    → StopsAtRefused cause
     (front ++ back)
 stops_front None front back h = tt
 stops_front (Some (Refused refused)) front back h = front_refused front back refused h
@@ -54,7 +57,7 @@ stops_front (Some TooManySpecs) front back h = h
 stops_front (Some TooLong) front back h = h
 
 stops_back : (cause : Option HomesWhy) (front back : List Given) → first_refusal front ≡ None →
-    Stops cause back → Stops cause (front ++ back)
+    StopsAtRefused cause back → StopsAtRefused cause (front ++ back)
 stops_back None front back f h = tt
 stops_back (Some (Refused refused)) front back f h = later_refused front back refused f h
 stops_back (Some TooManySpecs) front back f h = h
@@ -65,7 +68,7 @@ stops_back (Some TooLong) front back f h = h
 pub record IsGoing (start now : Made) (all rest : List Given) : Type 0 where
   pub done : List Given
   pub whole : all ≡ done ++ rest
-  pub adds : Adds start now done
+  pub adds : AddsGiven start now done
 
 pub going_first : (start : Made) (all : List Given) → IsGoing start start all all
 going_first start all = record {
@@ -79,18 +82,19 @@ going_first start all = record {
   };
 }
 
-pub adds_none : (start : Made) (next : List Given) → next ≡ [] → Adds start start next
+pub adds_none : (start : Made) (next : List Given) → next ≡ [] → AddsGiven start start next
 unfolding going_first
-adds_none start next none = subst (Adds start start) (sym none) (going_first start []).adds
+adds_none start next none = subst (AddsGiven start start) (sym none) (going_first start []).adds
 
 pub going_more : (start now new : Made) (all rest next later : List Given) → IsGoing start now all
-    rest → rest ≡ next ++ later → Adds now new next → IsGoing start new all later
+    rest → rest ≡ next ++ later → AddsGiven now new next → IsGoing start new all later
 going_more start now new all rest next later going split gave = record {
   done = going.done ++ next;
   whole = going.whole ∙ ap (λ r. going.done ++ r) split ∙ sym (append_assoc going.done next later);
   adds = record {
-    parts = list_all-append is_given going.done next ∙ and_from (list_all is_given going.done)
-        (list_all is_given next) going.adds.parts gave.parts;
+    parts = list_all-append is_home_given going.done next
+        ∙ and_from (list_all is_home_given going.done)
+        (list_all is_home_given next) going.adds.parts gave.parts;
     fine = both_fine going.done next going.adds.fine gave.fine;
     made = λ given h. subst (IsMade new) (append_assoc given going.done next) (gave.made (given ++
         going.done) (going.adds.made given h));
@@ -98,17 +102,19 @@ going_more start now new all rest next later going split gave = record {
 }
 
 pub going_stops : (cause : Option HomesWhy) (start now : Made) (all rest next later : List Given) →
-    IsGoing start now all rest → rest ≡ next ++ later → Stops cause next → Stops cause all
+    IsGoing start now all rest → rest ≡ next ++ later → StopsAtRefused cause next
+    → StopsAtRefused cause all
 going_stops cause start now all rest next later going split h =
-    subst (Stops cause) (sym (going.whole ∙ ap (λ r. going.done ++ r) split)) (stops_back cause
+    subst (StopsAtRefused cause) (sym (going.whole ∙ ap (λ r. going.done ++ r) split))
+    (stops_back cause
     going.done (next ++ later) going.adds.fine (stops_front cause next later h))
 
 pub going_last : (start now : Made) (all rest : List Given) → IsGoing start now all rest → rest ≡ []
-    → Adds start now all
+    → AddsGiven start now all
 going_last start now all rest going end =
     let same : all ≡ going.done = going.whole ∙ ap (λ r. going.done ++ r) end ∙ append-nil
     going.done in
-    subst (Adds start now) (sym same) going.adds
+    subst (AddsGiven start now) (sym same) going.adds
 
 -- ---- lines that are short
 
@@ -124,23 +130,25 @@ next_short start now all rest next later going split short =
 
 -- ---- what is kept
 
-pub text_more : (given : List Given) (next : Given) → text_of (given ++ next ∷ []) ≡ text_of given
-    ++ given_text next
-text_more given next = flat_map-append given_text given (next ∷ []) ∙ ap (λ t. text_of given ++ t)
-    (append-nil (given_text next))
+pub text_more : (given : List Given) (next : Given) → homes_text (given ++ next ∷ [])
+    ≡ homes_text given
+    ++ home_text next
+text_more given next = flat_map-append home_text given (next ∷ []) ∙ ap (λ t. homes_text given ++ t)
+    (append-nil (home_text next))
 
 pub made_more : (old new : Made) (line : List ℕ) (given : List Given) (next : Given)
     → new.lines ≡ min 65537 (old.lines + 1) → new.bytes ≡ min 67108865 (old.bytes + length line) →
     (new.lines ≤ 65536 → new.bytes ≤ 67108864 → new.text ≡ old.text ++ line)
-    → line ≡ given_text next → IsMade old given → IsMade new (given ++ next ∷ [])
+    → line ≡ home_text next → IsMade old given → IsMade new (given ++ next ∷ [])
 made_more old new line given next lines bytes text same made = record {
   counted = omega (arith, lines, made.counted, length-append given (next ∷ []));
   measured =
-      let sum = length-append (text_of given) (given_text next) in
+      let sum = length-append (homes_text given) (home_text next) in
       omega (arith, bytes, made.measured, ap length (text_more given next), sum, ap length same);
   kept = λ few short.
       let before : old.lines ≤ 65536 = omega (arith, lines, few) in
       let shorter : old.bytes ≤ 67108864 = omega (arith, bytes, short) in
-      text few short ∙ ap (λ t. t ++ line) (made.kept before shorter) ∙ ap (λ l. text_of given ++ l)
+      text few short ∙ ap (λ t. t ++ line) (made.kept before shorter)
+      ∙ ap (λ l. homes_text given ++ l)
       same ∙ sym (text_more given next);
 }

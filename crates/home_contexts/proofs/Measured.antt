@@ -1,17 +1,20 @@
 -- Lines that are too long, found without being made.
-use Rattle.std.proofs.Common.{◌≡◌, ◌∙◌, sym, ap, ℕ, ◌+◌, ◌<◌, ◌||◌, Bool, true, false, List, [], ◌∷◌, length, drop, get_or}
+use Rattle.std.proofs.Common.{◌≡◌, ◌∙◌, sym, ap, ℕ, ◌+◌, ◌<◌, ◌||◌, Bool, true, false, List, []}
+use Rattle.std.proofs.Common.{◌∷◌, length, drop, get_or}
 use Rattle.std.specs.List.{flat_map, list_any}
 use Rattle.std.proofs.lemmas.List.Folds.{list_any-append}
 use Rattle.label_base.specs.Lines.{fields_of, lines_of}
 use Rattle.home_contexts.specs.Homes.{given_by_fields, given_from, given_to, is_long}
 use Rattle.home_contexts.specs.Making.{chosen, for_user}
 use Rattle.home_contexts.specs.User.{UserValue}
-use Rattle.home_contexts.specs.Words.{filled, piece_text, pieces_of}
+use Rattle.home_contexts.specs.Words.{filled, template_text, template_pieces}
 use Rattle.home_contexts.proofs.Chosen.{given_more}
 
-pub filled_none : (in_pattern : Bool) (user : UserValue) (field : List ℕ) → pieces_of field ≡ [] →
+pub filled_none : (in_pattern : Bool) (user : UserValue) (field : List ℕ) → template_pieces field
+    ≡ [] →
     length (filled in_pattern user field) ≡ 0
-filled_none in_pattern user field none = ap (λ pieces. length (flat_map (piece_text in_pattern user)
+filled_none in_pattern user field none =
+    ap (λ pieces. length (flat_map (template_text in_pattern user)
     pieces)) none
 
 long_at : (all : Bool) (flags : List Bool) (users : List UserValue) (i : ℕ) (flag : Bool) (user :

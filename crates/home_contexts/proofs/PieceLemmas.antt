@@ -1,11 +1,14 @@
 -- The first piece of a field and the pieces behind it.
-use Rattle.std.proofs.Common.{◌≡◌, ◌∙◌, sym, refl, ap, subst, ℕ, zero, suc, ◌-◌, ◌<◌, ◌≤◌, Bool, true, false, cond, nat_eq, List, [], ◌∷◌, length, take, drop, get_or, arith}
+use Rattle.std.proofs.Common.{◌≡◌, ◌∙◌, sym, refl, ap, subst, ℕ, zero, suc, ◌-◌, ◌<◌, ◌≤◌, Bool}
+use Rattle.std.proofs.Common.{true, false, cond, nat_eq, List, [], ◌∷◌, length, take, drop, get_or}
+use Rattle.std.proofs.Common.{arith}
 use Rattle.std.specs.Prelude.{Option, Some, None}
 use Rattle.std.specs.Cmp.{second_so}
 use Rattle.std.specs.Cmp.Lexicographic.{pointwise}
 use Rattle.std.proofs.lemmas.Bool.{false≢true}
 use Rattle.std.proofs.lemmas.List.{length-drop, length-take, take_all}
-use Rattle.home_contexts.specs.Words.{begins_with, pieces_from, pieces_of, with_piece, word_at, word_text}
+use Rattle.home_contexts.specs.Words.{begins_with, pieces_from, template_pieces, piece_then}
+use Rattle.home_contexts.specs.Words.{template_word_at, word_text}
 use Rattle.home_contexts.specs.declared.word.Piece.{Piece}
 use Rattle.home_contexts.specs.declared.word.Piece.TheVariants.{Byte, Stands}
 use Rattle.home_contexts.specs.declared.word.Word.{Word}
@@ -49,19 +52,21 @@ role_at text = cond (begins_with Role text) (Some Role) (user_at text)
 abbrev home_at : List ℕ → Option Word
 home_at text = cond (begins_with HomeDir text) (Some HomeDir) (role_at text)
 
-word_fits : (text : List ℕ) → Fits text (word_at text)
-unfolding word_at
+word_fits : (text : List ℕ) → Fits text (template_word_at text)
+unfolding template_word_at
 word_fits text =
     chosen HomeRoot text (home_at text) (begins_with HomeRoot text) refl
     (chosen HomeDir text (role_at text) (begins_with HomeDir text) refl
     (chosen Role text (user_at text) (begins_with Role text) refl
     (chosen User text None (begins_with User text) refl tt)))
 
-found_fits : (text : List ℕ) (found : Option Word) (word : Word) → found ≡ word_at text → found ≡
+found_fits : (text : List ℕ) (found : Option Word) (word : Word) → found ≡ template_word_at text
+    → found ≡
     Some word → length (word_text word) ≤ length text
 found_fits text found word e is = subst (Fits text) (sym e ∙ is) (word_fits text)
 
-pub own_fits : (text : List ℕ) (found : Option Word) (word : Word) (own : List ℕ) → found ≡ word_at
+pub own_fits : (text : List ℕ) (found : Option Word) (word : Word) (own : List ℕ)
+    → found ≡ template_word_at
     text → found ≡ Some word → own ≡ word_text word → length own ≤ length text
 own_fits text found word own e is same = let fits = found_fits text found word e is in omega (
   arith,
@@ -75,7 +80,7 @@ word_longer HomeDir = omega arith
 word_longer Role = omega arith
 word_longer User = omega arith
 
-pub no_pieces : (text : List ℕ) → length text < 1 → pieces_of text ≡ []
+pub no_pieces : (text : List ℕ) → length text < 1 → template_pieces text ≡ []
 unfolding pieces_from
 no_pieces [] h = refl
 no_pieces (b ∷ bs) h = absurd (omega arith)
@@ -83,15 +88,18 @@ no_pieces (b ∷ bs) h = absurd (omega arith)
 rest_of : (n : ℕ) (text : List ℕ) → take (length text - n) (drop n text) ≡ drop n text
 rest_of n text = take_all (length text - n) (drop n text) (omega (arith, length-drop n text))
 
-pub byte_first : (text : List ℕ) (found : Option Word) → found ≡ word_at text → found ≡ None → 1 ≤
-    length text → pieces_of text ≡ Byte (get_or text 0 0) ∷ pieces_of (drop 1 text)
+pub byte_first : (text : List ℕ) (found : Option Word) → found ≡ template_word_at text
+    → found ≡ None → 1 ≤
+    length text → template_pieces text ≡ Byte (get_or text 0 0) ∷ template_pieces (drop 1 text)
 unfolding pieces_from
 byte_first [] found e is h = absurd (omega arith)
-byte_first (b ∷ bs) found e is h = ap (λ (found : Option Word). with_piece b found (λ skip.
+byte_first (b ∷ bs) found e is h = ap (λ (found : Option Word). piece_then b found (λ skip.
     pieces_from skip bs)) (sym e ∙ is)
 
-pub byte_next : (text : List ℕ) (found : Option Word) → found ≡ word_at text → found ≡ None → 1 ≤
-    length text → pieces_of text ≡ Byte (get_or text 0 0) ∷ pieces_of (take (length text - 1)
+pub byte_next : (text : List ℕ) (found : Option Word) → found ≡ template_word_at text → found ≡ None
+    → 1 ≤
+    length text → template_pieces text ≡ Byte (get_or text 0 0) ∷ template_pieces
+    (take (length text - 1)
     (drop 1 text))
 byte_next text found e is h = rw (rest_of 1 text) (byte_first text found e is h)
 
@@ -99,21 +107,23 @@ behind_first : (n : ℕ) (b : ℕ) (bs : List ℕ) → 0 < n → drop (n - 1) bs
 behind_first zero b bs h = absurd (omega arith)
 behind_first (suc n) b bs h = let e : suc n - 1 ≡ n = omega arith in ap (λ k. drop k bs) e
 
-word_first : (text : List ℕ) (found : Option Word) (word : Word) → found ≡ word_at text → found ≡
-    Some word → 1 ≤ length text → pieces_of text ≡ Stands word ∷ pieces_of (drop (length
+word_first : (text : List ℕ) (found : Option Word) (word : Word) → found ≡ template_word_at text
+    → found ≡
+    Some word → 1 ≤ length text → template_pieces text ≡ Stands word ∷ template_pieces (drop (length
     (word_text word)) text)
 unfolding pieces_from
 word_first [] found word e is h = absurd (omega arith)
 word_first (b ∷ bs) found word e is h =
-    ap (λ (found : Option Word). with_piece b found (λ skip. pieces_from skip bs)) (sym e ∙ is)
+    ap (λ (found : Option Word). piece_then b found (λ skip. pieces_from skip bs)) (sym e ∙ is)
     ∙ ap (λ (rest : List Piece). Stands word ∷ rest) (skipped (length (word_text word) - 1) bs ∙ ap
     (pieces_from 0) (behind_first (length (word_text word)) b bs (word_longer word)))
 
 pub word_next : (text : List ℕ) (found : Option Word) (word : Word) (own rest : List ℕ) → found ≡
-    word_at text → found ≡ Some word → own ≡ word_text word → 1 ≤ length text
-    → rest ≡ drop (length own) text → pieces_of text ≡ Stands word ∷ pieces_of rest
+    template_word_at text → found ≡ Some word → own ≡ word_text word → 1 ≤ length text
+    → rest ≡ drop (length own) text → template_pieces text ≡ Stands word ∷ template_pieces rest
 word_next text found word own rest e is same h behind =
-    word_first text found word e is h ∙ ap (λ r. Stands word ∷ pieces_of r) (ap (λ o. drop (length
+    word_first text found word e is h ∙ ap (λ r. Stands word ∷ template_pieces r)
+    (ap (λ o. drop (length
     o) text) (sym same) ∙ sym behind)
 
 pub word_shorter : (text own rest : List ℕ) (word : Word) → own ≡ word_text word → 1 ≤ length text →

@@ -1,5 +1,6 @@
 -- The text is read back as one specification for each of its lines.
-use Rattle.std.proofs.Common.{◌≡◌, ◌∙◌, sym, refl, ap, subst, ℕ, suc, ◌+◌, ◌≤◌, true, false, cond, List, [], ◌∷◌, ◌++◌, length, map, append_assoc, arith}
+use Rattle.std.proofs.Common.{◌≡◌, ◌∙◌, sym, refl, ap, subst, ℕ, suc, ◌+◌, ◌≤◌, true, false, cond}
+use Rattle.std.proofs.Common.{List, [], ◌∷◌, ◌++◌, length, map, append_assoc, arith}
 use Rattle.std.specs.Prelude.{Option, Some, None, Result, Ok, Err, is_ok, not}
 use Rattle.std.specs.List.{cons_option, filter_map, list_all}
 use Rattle.std.proofs.lemmas.Bool.{and_parts, eqb-false, false≢true}
@@ -16,15 +17,17 @@ use Rattle.context_syntax.specs.Context.{ContextValue, context_of}
 use Rattle.pattern_syntax.specs.Reading.{pattern_of}
 use Rattle.pattern_syntax.specs.Tree.{Tree}
 use Rattle.pattern_syntax.specs.declared.pattern_fault.PatternWhy.{PatternWhy}
-use Rattle.spec_reader.specs.SpecLines.{spec_in, with_context, with_decision, with_pattern, with_tree, with_type}
+use Rattle.spec_reader.specs.SpecLines.{spec_of_fields, with_context, with_decision, with_pattern}
+use Rattle.spec_reader.specs.SpecLines.{with_tree, with_type}
 use Rattle.spec_reader.specs.SpecValue.{SpecValue}
 use Rattle.label_base.specs.Kind.{field_kind}
 use Rattle.spec_reader.specs.declared.line.TheConstants.{NO_CONTEXT}
 use Rattle.spec_reader.specs.declared.spec.Decision.{Decision}
 use Rattle.spec_reader.specs.declared.spec.Decision.TheVariants.{Give, Leave}
 use Rattle.spec_reader.specs.declared.spec_fault.SpecWhy.{SpecWhy}
-use Rattle.home_contexts.specs.Homes.{Given, IsReadBack, first_refusal, refusal, refusal_of, text_of}
-use Rattle.home_contexts.specs.Making.{are_parts, is_given, is_part}
+use Rattle.home_contexts.specs.Homes.{Given, IsReadBack, first_refusal, refusal, refusal_of}
+use Rattle.home_contexts.specs.Homes.{homes_text}
+use Rattle.home_contexts.specs.Making.{are_parts, is_home_given, is_part}
 use Rattle.home_contexts.proofs.GivenLines.{body, body_cut, body_lacks, line_body, not_true}
 
 -- ---- whether a line is a specification doesn't depend on its number
@@ -64,8 +67,9 @@ type_either : (part : Part) (n m : ℕ) (text : List ℕ) (kind : Option EntryKi
 type_either part n m text None field = refl
 type_either part n m text (Some kind) field = decision_either part n m text (Some kind) field
 
-spec_either : (part : Part) (n m : ℕ) (fields : List (List ℕ)) → is_ok (spec_in part n fields) ≡
-    is_ok (spec_in part m fields)
+spec_either : (part : Part) (n m : ℕ) (fields : List (List ℕ))
+    → is_ok (spec_of_fields part n fields) ≡
+    is_ok (spec_of_fields part m fields)
 spec_either part n m [] = refl
 spec_either part n m (text ∷ []) = refl
 spec_either part n m (text ∷ context ∷ []) = decision_either part n m text None context
@@ -97,15 +101,17 @@ fine_first (Some refused) g gs e h =
     SpecWhy)). first_of (cons_option o (filter_map refusal gs))) e in let n : Some refused ≡
     None = sym f ∙ h in cc)
 
-text_lines : (given : List Given) → list_all is_given given ≡ true → AreLines (text_of given) (map
+text_lines : (given : List Given) → list_all is_home_given given ≡ true
+    → AreLines (homes_text given) (map
     (λ g. body g.fields) given)
 text_lines [] h = none
 text_lines (g ∷ gs) h =
-    let both = and_parts (is_given g) (list_all is_given gs) h in
-    let cut : text_of (g ∷ gs) ≡ body g.fields ++ 10 ∷ text_of gs = ap (λ line. line ++ text_of gs)
-    (line_body g.fields) ∙ append_assoc (body g.fields) (10 ∷ []) (text_of gs) in
+    let both = and_parts (is_home_given g) (list_all is_home_given gs) h in
+    let cut : homes_text (g ∷ gs) ≡ body g.fields ++ 10 ∷ homes_text gs =
+    ap (λ line. line ++ homes_text gs)
+    (line_body g.fields) ∙ append_assoc (body g.fields) (10 ∷ []) (homes_text gs) in
     subst (λ text. AreLines text (map (λ g. body g.fields) (g ∷ gs))) (sym cut) (more (body
-    g.fields) (text_of gs) (map (λ g. body g.fields) gs) (body_lacks g.fields both.0)
+    g.fields) (homes_text gs) (map (λ g. body g.fields) gs) (body_lacks g.fields both.0)
     (text_lines gs both.1))
 
 bodies_counted : (given : List Given) → length (map (λ g. body g.fields) given) ≡ length given
@@ -113,7 +119,7 @@ bodies_counted [] = refl
 bodies_counted (g ∷ gs) = ap suc (bodies_counted gs)
 
 abbrev Means : ℕ → List (List ℕ) → Result SpecValue SpecWhy → Type 0
-Means number fields meant = spec_in Homedirs number fields ≡ meant
+Means number fields meant = spec_of_fields Homedirs number fields ≡ meant
 
 says_something : (fields : List (List ℕ)) → are_parts fields ≡ true → ¬ SayNothing fields
 says_something [] h = absurd (false≢true h)
@@ -127,14 +133,16 @@ record AllSaid (number : ℕ) (given : List Given) : Type 0 where
   said : AreSaid Means number (map (λ g. body g.fields) given) specs
   counted : length specs ≡ length given
 
-all_said : (number : ℕ) (given : List Given) → list_all is_given given ≡ true → first_refusal given
+all_said : (number : ℕ) (given : List Given) → list_all is_home_given given ≡ true
+    → first_refusal given
     ≡ None → AllSaid number given
 all_said number [] h fine = record { specs = []; said = none number; counted = refl }
 all_said number (g ∷ gs) h fine =
-    let both = and_parts (is_given g) (list_all is_given gs) h in
+    let both = and_parts (is_home_given g) (list_all is_home_given gs) h in
     let here = fine_first (refusal g) g gs refl fine in
-    let spec = ok_value (spec_in Homedirs number g.fields) (spec_either Homedirs number 1 g.fields ∙
-    not_refused g.number (spec_in Homedirs 1 g.fields) here.0) in
+    let spec = ok_value (spec_of_fields Homedirs number g.fields)
+    (spec_either Homedirs number 1 g.fields ∙
+    not_refused g.number (spec_of_fields Homedirs 1 g.fields) here.0) in
     let rest = all_said (number + 1) gs both.1 here.1 in
     record {
       specs = spec.0 ∷ rest.specs;
@@ -150,18 +158,22 @@ all_said number (g ∷ gs) h fine =
       counted = ap suc rest.counted;
     }
 
-pub reads_back : (given : List Given) (text : List ℕ) → text ≡ text_of given → list_all is_given
+pub reads_back : (given : List Given) (text : List ℕ) → text ≡ homes_text given
+    → list_all is_home_given
     given ≡ true → first_refusal given ≡ None → length given ≤ 65536 → IsReadBack text
 reads_back given text same h fine few =
     let found = all_said 1 given h fine in
-    let lines = (lines_are (text_of given) (map (λ g. body g.fields) given)).1 (text_lines given h)
+    let lines = (lines_are (homes_text given) (map (λ g. body g.fields) given)).1
+    (text_lines given h)
     in
-    let count : length (lines_of (text_of given)) ≡ length given = ap length lines ∙ bodies_counted
+    let count : length (lines_of (homes_text given)) ≡ length given = ap length lines
+    ∙ bodies_counted
     given in
     subst IsReadBack (sym same) (record {
       specs = found.specs;
-      read = (lines_mean_within Means (spec_in Homedirs) (λ number fields meant. (λ e. e, λ e. e))
-          65536 (text_of given) (Ok found.specs)).1 (
+      read = (lines_mean_within Means (spec_of_fields Homedirs)
+          (λ number fields meant. (λ e. e, λ e. e))
+          65536 (homes_text given) (Ok found.specs)).1 (
             (map (λ g. body g.fields) given, text_lines given h, found.said),
             omega (
               arith,

@@ -1,16 +1,19 @@
 -- The fields of a line of the template, and what the lines of the whole template give.
-use Rattle.std.proofs.Common.{◌≡◌, ◌∙◌, sym, refl, ap, subst, ℕ, suc, ◌+◌, ◌≤◌, ◌==◌, Bool, true, false, cond, List, [], ◌∷◌, ◌++◌, length, arith}
+use Rattle.std.proofs.Common.{◌≡◌, ◌∙◌, sym, refl, ap, subst, ℕ, suc, ◌+◌, ◌≤◌, ◌==◌, Bool, true}
+use Rattle.std.proofs.Common.{false, cond, List, [], ◌∷◌, ◌++◌, length, arith}
 use Rattle.std.specs.Prelude.{Contains, IfOk, None, Result, Ok, Err, nat_lt, not}
 use Rattle.std.specs.List.{list_all, list_any}
 use Rattle.std.proofs.lemmas.Bool.{and_from, ltb-false, ne_eqb, or_from, or_parts}
 use Rattle.std.proofs.lemmas.List.Folds.{list_any-append}
-use Rattle.label_base.specs.Answers.{Answers, cause_of}
+use Rattle.label_base.specs.Answers.{Answers, fault_cause}
 use Rattle.label_base.specs.Lines.{fields_of, is_blank, is_comment, lines_of}
 use Rattle.label_base.specs.LineGrammar.{AreFields, AreLines, IsField, last, more, none}
 use Rattle.label_base.specs.declared.fault.Fault.{Fault}
 use Rattle.label_base.proofs.LineCuts.{fields_sound, lines_sound}
-use Rattle.home_contexts.specs.Homes.{Given, IsReadBack, first_refusal, given_by_fields, given_from, is_long, text_of, text_or_fault, unless_refused, within_limits}
-use Rattle.home_contexts.specs.Making.{are_parts, is_feed, is_given, is_part}
+use Rattle.home_contexts.specs.Homes.{Given, IsReadBack, first_refusal, given_by_fields, given_from}
+use Rattle.home_contexts.specs.Homes.{is_long, homes_text, text_or_fault, unless_refused}
+use Rattle.home_contexts.specs.Homes.{within_limits}
+use Rattle.home_contexts.specs.Making.{are_parts, is_feed, is_home_given, is_part}
 use Rattle.home_contexts.specs.User.{UserValue, ends_field}
 use Rattle.home_contexts.specs.declared.homes_fault.HomesWhy.{HomesWhy}
 use Rattle.home_contexts.specs.declared.homes_fault.HomesWhy.TheVariants.{TooLong, TooManySpecs}
@@ -92,30 +95,34 @@ fine_text given short fine = ap (λ t. cond t (Err TooLong) (unless_refused (fir
 
 pub answers_text : (given : List Given) (result : Result (List ℕ) (Fault HomesWhy)) → list_any
     is_long given ≡ false → first_refusal given ≡ None
-    → Answers (λ (text : List ℕ). text) cause_of result (within_limits given) → Answers (λ (text :
-    List ℕ). text) cause_of result (text_or_fault given)
-answers_text given result short fine h = subst (Answers (λ (text : List ℕ). text) cause_of result)
+    → Answers (λ (text : List ℕ). text) fault_cause result (within_limits given)
+    → Answers (λ (text :
+    List ℕ). text) fault_cause result (text_or_fault given)
+answers_text given result short fine h =
+    subst (Answers (λ (text : List ℕ). text) fault_cause result)
     (sym (fine_text given short fine)) h
 
-within_ok : (given : List Given) (text : List ℕ) → within_limits given ≡ Ok text → (text ≡ text_of
+within_ok : (given : List Given) (text : List ℕ) → within_limits given ≡ Ok text
+    → (text ≡ homes_text
     given) × (length given ≤ 65536)
-within_ok given text h = by_lines (nat_lt 65536 (length given)) (nat_lt 67108864 (length (text_of
+within_ok given text h = by_lines (nat_lt 65536 (length given)) (nat_lt 67108864 (length (homes_text
     given))) refl h
   where
     by_lines : (many long : Bool) → nat_lt 65536 (length given) ≡ many → cond many (Err
-        TooManySpecs) (cond long (Err TooLong) (Ok (text_of given))) ≡ Ok text → (text ≡ text_of
+        TooManySpecs) (cond long (Err TooLong) (Ok (homes_text given))) ≡ Ok text
+        → (text ≡ homes_text
         given) × (length given ≤ 65536)
     by_lines true long e h = absurd (let f : Err TooManySpecs ≡ Ok text = h in cc)
     by_lines false true e h = absurd (let f : Err TooLong ≡ Ok text = h in cc)
     by_lines false false e h = (
-      let f : Ok (text_of given) ≡ Ok text = h in cc,
+      let f : Ok (homes_text given) ≡ Ok text = h in cc,
       ltb-false 65536
           (length given) e,
     )
 
 pub answers_back : (given : List Given) (result : Result (List ℕ) (Fault HomesWhy)) → list_all
-    is_given given ≡ true → first_refusal given ≡ None
-    → Answers (λ (text : List ℕ). text) cause_of result (within_limits given) → IfOk result
+    is_home_given given ≡ true → first_refusal given ≡ None
+    → Answers (λ (text : List ℕ). text) fault_cause result (within_limits given) → IfOk result
     IsReadBack
 answers_back given (Ok text) parts fine h = let found = within_ok given text h in reads_back given
     text found.0 parts fine found.1

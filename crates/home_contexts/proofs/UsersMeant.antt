@@ -8,7 +8,7 @@ use Rattle.file_paths.specs.declared.path_fault.PathWhy.{PathWhy}
 use Rattle.label_base.specs.declared.lines.RefusedLine.{RefusedLine}
 use Rattle.label_base.proofs.LinesMeant.{lines_mean}
 use Rattle.home_contexts.specs.User.{IsUser, UserValue, is_home, is_user}
-use Rattle.home_contexts.specs.UserGrammar.{AreOf, FieldsMean, UsersMean}
+use Rattle.home_contexts.specs.UserGrammar.{AreUserFields, UserFieldsMean, UsersMean}
 use Rattle.home_contexts.specs.UserLines.{no_user, user_in, users_of, with_home}
 use Rattle.home_contexts.specs.declared.users_fault.NoUser.{NoUser}
 
@@ -27,7 +27,7 @@ of_parts user h = and_from (is_word user.name) (is_word user.role && is_home use
 -- ---- fields
 
 same_user : (name role home : List ℕ) (rest : List (List ℕ)) (path : Path) (user : UserValue) →
-    path_read home ≡ Ok path → AreOf (name ∷ role ∷ home ∷ rest) user → user ≡ record {
+    path_read home ≡ Ok path → AreUserFields (name ∷ role ∷ home ∷ rest) user → user ≡ record {
       name =
           name;
       role = role;
@@ -54,14 +54,15 @@ same_user name role home rest path user e h =
     first ∙ second ∙ ap (λ p. record { name = name; role = role; home = p }) c
 
 no_path : (name role home : List ℕ) (rest : List (List ℕ)) (why : PathWhy) (user : UserValue) →
-    path_read home ≡ Err why → ¬ AreOf (name ∷ role ∷ home ∷ rest) user
+    path_read home ≡ Err why → ¬ AreUserFields (name ∷ role ∷ home ∷ rest) user
 no_path name role home rest why user e h = let cut = h.cut in let read = h.path in cc
 
 home_sound : (name role home : List ℕ) (rest : List (List ℕ)) (read : Result Path PathWhy) →
-    path_read home ≡ read → FieldsMean 0 (name ∷ role ∷ home ∷ rest) (with_home name role read)
+    path_read home ≡ read → UserFieldsMean 0 (name ∷ role ∷ home ∷ rest) (with_home name role read)
 home_sound name role home rest (Ok path) e =
     let user : UserValue = record { name = name; role = role; home = path } in
-    elim (is_user user) as (λ v. is_user user ≡ v → FieldsMean 0 (name ∷ role ∷ home ∷ rest) (cond v
+    elim (is_user user) as (λ v. is_user user ≡ v → UserFieldsMean 0 (name ∷ role ∷ home ∷ rest)
+    (cond v
     (Ok user) (Err no_user))) [
       | true ↦ λ t. record {
         home = home;
@@ -78,20 +79,21 @@ home_sound name role home rest (Ok path) e =
     ] refl
 home_sound name role home rest (Err why) e = λ user. no_path name role home rest why user e
 
-fields_sound : (number : ℕ) (fields : List (List ℕ)) → FieldsMean number fields (user_in fields)
+fields_sound : (number : ℕ) (fields : List (List ℕ)) → UserFieldsMean number fields (user_in fields)
 fields_sound number [] = λ user h. let cut = h.cut in cc
 fields_sound number (name ∷ []) = λ user h. let cut = h.cut in cc
 fields_sound number (name ∷ role ∷ []) = λ user h. let cut = h.cut in cc
 fields_sound number (name ∷ role ∷ home ∷ rest) = home_sound name role home rest (path_read home)
     refl
 
-err_complete : (fields : List (List ℕ)) (why : NoUser) (read : Result UserValue NoUser) → FieldsMean
-    0 fields read → ((user : UserValue) → ¬ AreOf fields user) → read ≡ Err why
+err_complete : (fields : List (List ℕ)) (why : NoUser) (read : Result UserValue NoUser)
+    → UserFieldsMean
+    0 fields read → ((user : UserValue) → ¬ AreUserFields fields user) → read ≡ Err why
 err_complete fields why (Ok user) h nothing = absurd (nothing user h)
 err_complete fields why (Err other) h nothing = refl
 
 fields_complete : (number : ℕ) (fields : List (List ℕ)) (meant : Result UserValue NoUser) →
-    FieldsMean number fields meant → user_in fields ≡ meant
+    UserFieldsMean number fields meant → user_in fields ≡ meant
 fields_complete number fields (Ok user) h =
     ap user_in h.cut
     ∙ ap (with_home user.name user.role) h.path
@@ -100,13 +102,13 @@ fields_complete number fields (Err why) h = err_complete fields why (user_in fie
     fields) h
 
 fields_mean : (number : ℕ) (fields : List (List ℕ)) (meant : Result UserValue NoUser) → (user_in
-    fields ≡ meant) ↔ FieldsMean number fields meant
+    fields ≡ meant) ↔ UserFieldsMean number fields meant
 fields_mean number fields meant = (
-  λ read. subst (FieldsMean number fields) read (fields_sound
+  λ read. subst (UserFieldsMean number fields) read (fields_sound
       number fields),
   fields_complete number fields meant,
 )
 
 pub users_mean : (text : List ℕ) (meant : Result (List UserValue) (RefusedLine NoUser)) → (users_of
     text ≡ meant) ↔ UsersMean text meant
-users_mean text meant = lines_mean FieldsMean (λ number. user_in) fields_mean text meant
+users_mean text meant = lines_mean UserFieldsMean (λ number. user_in) fields_mean text meant

@@ -1,5 +1,6 @@
 -- What stands in a word's place.
-use Rattle.std.proofs.Common.{◌≡◌, ◌∙◌, sym, refl, ap, ℕ, suc, ◌+◌, ◌-◌, ◌≤◌, Bool, true, false, cond, List, [], ◌∷◌, ◌++◌, length, min, take, length-append, arith}
+use Rattle.std.proofs.Common.{◌≡◌, ◌∙◌, sym, refl, ap, ℕ, suc, ◌+◌, ◌-◌, ◌≤◌, Bool, true, false}
+use Rattle.std.proofs.Common.{cond, List, [], ◌∷◌, ◌++◌, length, min, take, length-append, arith}
 use Rattle.std.specs.Prelude.{not, Some, slice_get}
 use Rattle.std.specs.List.{count_by}
 use Rattle.std.proofs.lemmas.List.{length-take-le, take_all, take_more}
@@ -8,8 +9,8 @@ use Rattle.std.proofs.lemmas.Option.{get_or_from_slice_get}
 use Rattle.std.proofs.Math.Seq.{take-append_seam}
 use Rattle.file_paths.specs.Path.{Path, path_text, with_slashes}
 use Rattle.file_paths.proofs.PathLemmas.{text_pushed}
-use Rattle.home_contexts.specs.Escaped.{escaped, is_marked, stands_bare}
-use Rattle.home_contexts.specs.Words.{root_of, written}
+use Rattle.home_contexts.specs.Escaped.{pattern_escaped, is_special, stands_bare}
+use Rattle.home_contexts.specs.Words.{root_of, written_word}
 
 -- ---- the root of a home
 
@@ -61,20 +62,23 @@ byte_length : (b : ℕ) (v : Bool) (rest : List ℕ) (n marked : ℕ) → length
 byte_length b true rest n marked h = omega (arith, h)
 byte_length b false rest n marked h = omega (arith, h)
 
-pub escaped_length : (text : List ℕ) → length (escaped text) ≡ length text + count_by is_marked text
+pub escaped_length : (text : List ℕ) → length (pattern_escaped text) ≡ length text + count_by
+    is_special text
 escaped_length [] = refl
 escaped_length (b ∷ bs) =
-    byte_length b (stands_bare b) (escaped bs) (length bs) (count_by is_marked bs) (escaped_length
+    byte_length b (stands_bare b) (pattern_escaped bs) (length bs) (count_by is_special bs)
+    (escaped_length
     bs)
-    ∙ ap (λ n. suc (length bs) + n) (sym (sum_by-cons (λ x. cond (is_marked x) 1 0) b bs))
+    ∙ ap (λ n. suc (length bs) + n) (sym (sum_by-cons (λ x. cond (is_special x) 1 0) b bs))
 
 -- a length so far with that of an escaped value
 pub escaped_capped : (so_far : ℕ) (value : List ℕ) (in_pattern : Bool) (with_value marked all : ℕ) →
     in_pattern ≡ true → with_value ≡ min 67108865 (so_far + length value) → marked ≡ count_by
-    is_marked value
-    → all ≡ min 67108865 (with_value + marked) → all ≡ min 67108865 (so_far + length (written
+    is_special value
+    → all ≡ min 67108865 (with_value + marked) → all ≡ min 67108865 (so_far + length (written_word
     in_pattern value))
 escaped_capped so_far value in_pattern with_value marked all escapes first second both =
-    let size : length (written in_pattern value) ≡ length value + count_by is_marked value = ap (λ
-    v. length (written v value)) escapes ∙ escaped_length value in
+    let size : length (written_word in_pattern value) ≡ length value + count_by is_special value =
+    ap (λ
+    v. length (written_word v value)) escapes ∙ escaped_length value in
     omega (arith, first, second, both, size)

@@ -16,12 +16,12 @@ named_by count (Some template) (Some users) (Some output) =
 named_by count (Some template) (Some users) None = Err (usage count NoOutput)
 named_by count template users output = Err (usage count MissingOperand)
 
-abbrev pub asked_in : List Item → ℕ → Result HomesWords Usage
-asked_in items count =
+abbrev pub homes_words_in : List Item → ℕ → Result HomesWords Usage
+homes_words_in items count =
     named_by count (value_of TEMPLATE items) (value_of USERS items) (value_of OUTPUT items)
 
 -- what words ask for, the first of which has this index, or the first that is wrong
 abbrev pub homes_words : ℕ → List (List ℕ) → Result HomesWords Usage
 homes_words first words =
     where_read (items_read genhomedircon first words)
-    (λ items. asked_in items (length words + first))
+    (λ items. homes_words_in items (length words + first))

@@ -13,7 +13,8 @@ use Rattle.home_contexts.specs.Homes.{expansion}
 use Rattle.home_contexts.specs.User.{UserValue}
 use Rattle.home_contexts.specs.UserLines.{users_of}
 use Rattle.home_contexts.specs.declared.homes_fault.HomesWhy.{HomesWhy}
-use Rattle.home_contexts.specs.declared.homes_fault.HomesWhy.TheVariants.{Refused, TooLong, TooManySpecs}
+use Rattle.home_contexts.specs.declared.homes_fault.HomesWhy.TheVariants.{Refused, TooLong}
+use Rattle.home_contexts.specs.declared.homes_fault.HomesWhy.TheVariants.{TooManySpecs}
 use Rattle.home_contexts.specs.declared.users_fault.NoUser.{NoUser}
 
 abbrev pub users_from : Result (List UserValue) (RefusedLine NoUser)

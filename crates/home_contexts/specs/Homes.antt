@@ -1,5 +1,6 @@
 -- The lines that a template gives for users, and the text that they make.
-use Rattle.std.specs.Prelude.{◌≡◌, ℕ, ◌+◌, Bool, true, false, nat_lt, List, [], ◌∷◌, ◌++◌, length, map, take, Option, Some, None, Result, Ok, Err, if◌then◌else◌}
+use Rattle.std.specs.Prelude.{◌≡◌, ℕ, ◌+◌, Bool, true, false, nat_lt, List, [], ◌∷◌, ◌++◌, length}
+use Rattle.std.specs.Prelude.{map, take, Option, Some, None, Result, Ok, Err, if◌then◌else◌}
 use Rattle.std.specs.List.{filter_map, flat_map, list_any}
 use Rattle.label_base.specs.Lines.{fields_of, first_of, is_comment, lines_of}
 use Rattle.label_base.specs.Text.{same_bytes}
@@ -7,13 +8,14 @@ use Rattle.label_base.specs.declared.cut.TheConstants.{LINE_FEED, TAB}
 use Rattle.file_roles.specs.declared.role.Part.TheVariants.{Homedirs}
 use Rattle.label_base.specs.declared.lines.RefusedLine.{RefusedLine}
 use Rattle.file_paths.specs.Path.{path_text}
-use Rattle.spec_reader.specs.SpecLines.{spec_in, specs_of}
+use Rattle.spec_reader.specs.SpecLines.{spec_of_fields, specs_of}
 use Rattle.spec_reader.specs.SpecValue.{SpecValue}
 use Rattle.spec_reader.specs.declared.spec_fault.SpecWhy.{SpecWhy}
 use Rattle.home_contexts.specs.User.{UserValue}
-use Rattle.home_contexts.specs.Words.{filled, holds, is_other, is_root, root_of}
+use Rattle.home_contexts.specs.Words.{filled, holds_word, is_other, is_root_word, root_of}
 use Rattle.home_contexts.specs.declared.homes_fault.HomesWhy.{HomesWhy}
-use Rattle.home_contexts.specs.declared.homes_fault.HomesWhy.TheVariants.{Refused, TooLong, TooManySpecs}
+use Rattle.home_contexts.specs.declared.homes_fault.HomesWhy.TheVariants.{Refused, TooLong}
+use Rattle.home_contexts.specs.declared.homes_fault.HomesWhy.TheVariants.{TooManySpecs}
 use Rattle.home_contexts.specs.declared.limits.TheConstants.{MOST_SPECS, MOST_TEXT_BYTES}
 use Rattle.home_contexts.specs.declared.word.Word.{Word}
 
@@ -48,14 +50,14 @@ first_by_root seen (user ∷ users) =
 
 -- some of the first three fields holds such a word
 abbrev pub hold : (Word → Bool) → List (List ℕ) → Bool
-hold p fields = list_any (holds p) (take 3 fields)
+hold p fields = list_any (holds_word p) (take 3 fields)
 
 -- each user; where HOME_ROOT alone of the words stands in the line, the first user of each root;
 -- without words nobody
 abbrev pub users_for : List UserValue → List (List ℕ) → List UserValue
 users_for users fields =
     if hold is_other fields then users
-    else if hold is_root fields then first_by_root [] users
+    else if hold is_root_word fields then first_by_root [] users
     else []
 
 -- ---- all given lines
@@ -87,14 +89,14 @@ given_lines template users = given_from users 1 (lines_of template)
 
 -- ---- the text
 
-abbrev pub given_text : Given → List ℕ
-given_text given = line_text given.fields
+abbrev pub home_text : Given → List ℕ
+home_text given = line_text given.fields
 
-abbrev pub text_of : List Given → List ℕ
-text_of given = flat_map given_text given
+abbrev pub homes_text : List Given → List ℕ
+homes_text given = flat_map home_text given
 
 abbrev pub is_long : Given → Bool
-is_long given = nat_lt MOST_TEXT_BYTES (length (given_text given))
+is_long given = nat_lt MOST_TEXT_BYTES (length (home_text given))
 
 abbrev pub refusal_of : ℕ → Result SpecValue SpecWhy → Option (RefusedLine SpecWhy)
 refusal_of number (Ok spec) = None
@@ -102,7 +104,7 @@ refusal_of number (Err why) = Some (record { number = number; why = why })
 
 -- the given line alone, as a line of file_contexts, is refused
 abbrev pub refusal : Given → Option (RefusedLine SpecWhy)
-refusal given = refusal_of given.number (spec_in Homedirs 1 given.fields)
+refusal given = refusal_of given.number (spec_of_fields Homedirs 1 given.fields)
 
 abbrev pub first_refusal : List Given → Option (RefusedLine SpecWhy)
 first_refusal given = first_of (filter_map refusal given)
@@ -111,8 +113,8 @@ first_refusal given = first_of (filter_map refusal given)
 abbrev pub within_limits : List Given → Result (List ℕ) HomesWhy
 within_limits given =
     if nat_lt MOST_SPECS (length given) then Err TooManySpecs
-    else if nat_lt MOST_TEXT_BYTES (length (text_of given)) then Err TooLong
-    else Ok (text_of given)
+    else if nat_lt MOST_TEXT_BYTES (length (homes_text given)) then Err TooLong
+    else Ok (homes_text given)
 
 abbrev pub unless_refused : Option (RefusedLine SpecWhy) → List Given → Result (List ℕ) HomesWhy
 unless_refused (Some refused) given = Err (Refused refused)

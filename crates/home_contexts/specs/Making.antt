@@ -1,15 +1,17 @@
 -- What is kept of the lines that were given, while a text is made.
-use Rattle.std.specs.Prelude.{◌≡◌, ⊤, ℕ, ◌+◌, ◌≤◌, ◌==◌, ◌||◌, ◌&&◌, Bool, true, false, not, min, List, [], ◌∷◌, ◌++◌, length, map, Option, Some, None, Result, Ok, Err, if◌then◌else◌}
+use Rattle.std.specs.Prelude.{◌≡◌, ⊤, ℕ, ◌+◌, ◌≤◌, ◌==◌, ◌||◌, ◌&&◌, Bool, true, false, not, min}
+use Rattle.std.specs.Prelude.{List, [], ◌∷◌, ◌++◌, length, map, Option, Some, None, Result, Ok, Err}
+use Rattle.std.specs.Prelude.{if◌then◌else◌}
 use Rattle.std.specs.List.{list_all, list_any}
 use Rattle.std.specs.declared.vec.Vec.{Vec}
-use Rattle.label_base.specs.Answers.{cause_of}
+use Rattle.label_base.specs.Answers.{fault_cause}
 use Rattle.label_base.specs.Lines.{is_comment}
 use Rattle.label_base.specs.Text.{same_bytes}
 use Rattle.label_base.specs.declared.cut.TheConstants.{LINE_FEED}
 use Rattle.label_base.specs.declared.fault.Fault.{Fault}
 use Rattle.spec_reader.specs.SpecValue.{SpecValue}
 use Rattle.spec_reader.specs.declared.spec_fault.SpecWhy.{SpecWhy}
-use Rattle.home_contexts.specs.Homes.{Given, first_refusal, refusal_of, root_text, text_of}
+use Rattle.home_contexts.specs.Homes.{Given, first_refusal, refusal_of, root_text, homes_text}
 use Rattle.home_contexts.specs.User.{UserValue, ends_field}
 use Rattle.home_contexts.specs.declared.homes_fault.HomesWhy.{HomesWhy}
 use Rattle.home_contexts.specs.declared.homes_fault.HomesWhy.TheVariants.{Refused}
@@ -20,16 +22,16 @@ use Rattle.home_contexts.specs.declared.word.TheConstants.{HOME_FIRST, ROLE_FIRS
 -- counts go up to one more than there may be, and the text is kept as long as it may be answered
 pub record IsMade (made : Made) (given : List Given) : Type 0 where
   pub counted : made.lines ≡ min (MOST_SPECS + 1) (length given)
-  pub measured : made.bytes ≡ min (MOST_TEXT_BYTES + 1) (length (text_of given))
-  pub kept : made.lines ≤ MOST_SPECS → made.bytes ≤ MOST_TEXT_BYTES → made.text ≡ text_of given
+  pub measured : made.bytes ≡ min (MOST_TEXT_BYTES + 1) (length (homes_text given))
+  pub kept : made.lines ≤ MOST_SPECS → made.bytes ≤ MOST_TEXT_BYTES → made.text ≡ homes_text given
 
 -- ---- one step
 
 -- the first refusal is this cause, if there is a cause
-abbrev pub Stops : Option HomesWhy → List Given → Type 0
-Stops None next = ⊤
-Stops (Some (Refused refused)) next = first_refusal next ≡ Some refused
-Stops (Some why) next = ⊥
+abbrev pub StopsAtRefused : Option HomesWhy → List Given → Type 0
+StopsAtRefused None next = ⊤
+StopsAtRefused (Some (Refused refused)) next = first_refusal next ≡ Some refused
+StopsAtRefused (Some why) next = ⊥
 
 -- ---- one line
 
@@ -45,19 +47,19 @@ abbrev pub are_parts : List (List ℕ) → Bool
 are_parts [] = false
 are_parts (field ∷ fields) = not (is_comment field) && list_all is_part (field ∷ fields)
 
-abbrev pub is_given : Given → Bool
-is_given given = are_parts given.fields
+abbrev pub is_home_given : Given → Bool
+is_home_given given = are_parts given.fields
 
 -- each of these lines has fields and is a specification, and what is kept is that of all
-pub record Adds (old new : Made) (next : List Given) : Type 0 where
-  pub parts : list_all is_given next ≡ true
+pub record AddsGiven (old new : Made) (next : List Given) : Type 0 where
+  pub parts : list_all is_home_given next ≡ true
   pub fine : first_refusal next ≡ None
   pub made : (given : List Given) → IsMade old given → IsMade new (given ++ next)
 
 -- these lines are given, none of them refused; or one is, or memory ran out
-abbrev pub Gives : {U : Type 0} → Result U (Fault HomesWhy) → Made → Made → List Given → Type 0
-Gives (Ok u) old new next = Adds old new next
-Gives (Err e) old new next = Stops (cause_of e) next
+abbrev pub GivesHomes : {U : Type 0} → Result U (Fault HomesWhy) → Made → Made → List Given → Type 0
+GivesHomes (Ok u) old new next = AddsGiven old new next
+GivesHomes (Err e) old new next = StopsAtRefused (fault_cause e) next
 
 -- the cause is that the line with this number is refused, if there is a cause
 abbrev pub RefusedAs : Option HomesWhy → ℕ → Result SpecValue SpecWhy → Type 0
@@ -68,7 +70,7 @@ RefusedAs (Some why) number read = ⊥
 -- the line is a specification, or it is refused, or memory ran out
 abbrev pub Checks : {U : Type 0} → Result U (Fault HomesWhy) → ℕ → Result SpecValue SpecWhy → Type 0
 Checks (Ok u) number read = (spec : SpecValue) × (read ≡ Ok spec)
-Checks (Err e) number read = RefusedAs (cause_of e) number read
+Checks (Err e) number read = RefusedAs (fault_cause e) number read
 
 -- ---- runs
 

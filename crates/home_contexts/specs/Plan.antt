@@ -1,6 +1,6 @@
 -- What genhomedircon reads, and what it writes.
 use Rattle.std.specs.Prelude.{ℕ, List, [], ◌∷◌, None, Some, Ok, false}
-use Rattle.file_roles.specs.Roles.{named, role}
+use Rattle.file_roles.specs.Roles.{file_named, role}
 use Rattle.file_roles.specs.declared.list.NamedFile.{NamedFile}
 use Rattle.file_roles.specs.declared.role.Part.TheVariants.{Homedirs, Template, Users}
 use Rattle.run_endings.specs.declared.ending.End.TheVariants.{Done}
@@ -13,9 +13,9 @@ use Rattle.home_contexts.specs.declared.asked.HomesWords.{HomesWords}
 -- read, and stands here since the fault line of a text that is too long names it
 abbrev pub homes_names : HomesWords → List NamedFile
 homes_names words =
-    named (role Template 0) words.template
-    ∷ named (role Users 0) words.users
-    ∷ named (role Homedirs 0) words.output
+    file_named (role Template 0) words.template
+    ∷ file_named (role Users 0) words.users
+    ∷ file_named (role Homedirs 0) words.output
     ∷ []
 
 -- the text is saved, and nothing reported

@@ -7,7 +7,7 @@ use Rattle.home_contexts.specs.User.{IsUser, UserValue}
 use Rattle.home_contexts.specs.declared.users_fault.NoUser.{NoUser}
 
 -- the fields are name, role and home, and perhaps more that are passed over
-pub record AreOf (fields : List (List ℕ)) (user : UserValue) : Type 0 where
+pub record AreUserFields (fields : List (List ℕ)) (user : UserValue) : Type 0 where
   pub home : List ℕ
   pub rest : List (List ℕ)
   pub cut : fields ≡ user.name ∷ user.role ∷ home ∷ rest
@@ -15,10 +15,10 @@ pub record AreOf (fields : List (List ℕ)) (user : UserValue) : Type 0 where
   pub parts : IsUser user
 
 -- what the fields of a line mean, whatever its number
-abbrev pub FieldsMean : ℕ → List (List ℕ) → Result UserValue NoUser → Type 0
-FieldsMean number fields (Ok user) = AreOf fields user
-FieldsMean number fields (Err why) = (user : UserValue) → ¬ AreOf fields user
+abbrev pub UserFieldsMean : ℕ → List (List ℕ) → Result UserValue NoUser → Type 0
+UserFieldsMean number fields (Ok user) = AreUserFields fields user
+UserFieldsMean number fields (Err why) = (user : UserValue) → ¬ AreUserFields fields user
 
 -- what the text of a file means
 abbrev pub UsersMean : List ℕ → Result (List UserValue) (RefusedLine NoUser) → Type 0
-UsersMean = LinesMean FieldsMean
+UsersMean = LinesMean UserFieldsMean

@@ -1,8 +1,8 @@
 ghost use Rattle.std.specs.Prelude.{◌≡◌, ◌<◌, ◌+◌, ◌^◌, IfOk, length};
 ghost use Rattle.std.specs.Option.{option_copied};
-ghost use Rattle.label_base.specs.Answers.{Answers, cause_of};
+ghost use Rattle.label_base.specs.Answers.{Answers, fault_cause};
 ghost use Rattle.tool_words.specs.Words.{usage, word_texts};
-ghost use Rattle.home_contexts.specs.Asked.{asked_in, homes_words, named_by};
+ghost use Rattle.home_contexts.specs.Asked.{homes_words_in, homes_words, named_by};
 
 use crate::letters::{OUTPUT, TEMPLATE, USERS, genhomedircon};
 use label_base::{Fault, Name, OutOfMemory};
@@ -65,7 +65,7 @@ fn named_by(
     users: Option<&str>,
     output: Option<&str>,
 ) -> Result<HomesWords, Fault<Usage>>
-    ensures { Answers (λ words. words) cause_of result (named_by count
+    ensures { Answers (λ words. words) fault_cause result (named_by count
         (option_copied template.entry) (option_copied users.entry) (option_copied output.entry)) }
 {
     let Some(template) = template else {
@@ -82,7 +82,7 @@ fn named_by(
 
 // What words ask for that say this.
 fn asked_in(alloc: Global, items: &[Item<'_>], count: u32) -> Result<HomesWords, Fault<Usage>>
-    ensures { Answers (λ words. words) cause_of result (asked_in items.now count) }
+    ensures { Answers (λ words. words) fault_cause result (homes_words_in items.now count) }
 {
     named_by(
         alloc,
@@ -99,7 +99,7 @@ fn asked_in(alloc: Global, items: &[Item<'_>], count: u32) -> Result<HomesWords,
 /// the index behind the last.
 pub fn read_homes(alloc: Global, words: &[String], first: u32) -> Result<HomesWords, Fault<Usage>>
     requires { length words.now + first < 2 ^ 31 }
-    ensures { Answers (λ words. words) cause_of result
+    ensures { Answers (λ words. words) fault_cause result
         (homes_words first (word_texts words.now)) }
 {
     let items = read_items(alloc, &genhomedircon(), words, first)?;

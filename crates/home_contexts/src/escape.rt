@@ -1,7 +1,8 @@
 ghost use Rattle.std.specs.Prelude.{◌≡◌, ◌++◌, ◌≤◌, length, OnOk, OnErr};
 ghost use Rattle.file_paths.specs.Path.{path_text};
 ghost use Rattle.pattern_syntax.specs.declared.limits.TheConstants.{MOST_POSITIONS};
-ghost use Rattle.home_contexts.specs.Escaped.{Matches, escaped, escaped_byte, stands_bare};
+ghost use Rattle.home_contexts.specs.Escaped.{Matches, pattern_escaped, pattern_escaped_byte};
+ghost use Rattle.home_contexts.specs.Escaped.{stands_bare};
 
 use file_paths::{NormPath, SLASH};
 use label_base::{Bytes, OutOfMemory};
@@ -20,7 +21,7 @@ pub(crate) fn stands_bare(b: u8) -> bool
 }
 
 fn push_escaped(b: u8, to: &mut Bytes) -> Result<(), OutOfMemory>
-    ensures { OnOk result (to.new ≡ to.old ++ escaped_byte b) }
+    ensures { OnOk result (to.new ≡ to.old ++ pattern_escaped_byte b) }
 {
     if stands_bare(b) {
         to.push_byte(b)
@@ -31,7 +32,7 @@ fn push_escaped(b: u8, to: &mut Bytes) -> Result<(), OutOfMemory>
 
 // Adds a text, escaped.
 pub(crate) fn add_escaped(text: &[u8], to: &mut Bytes) -> Result<(), OutOfMemory>
-    ensures { OnOk result (to.new ≡ to.old ++ escaped text.now) }
+    ensures { OnOk result (to.new ≡ to.old ++ pattern_escaped text.now) }
 {
     for b in text {
         push_escaped(*b, to)?;
@@ -45,10 +46,10 @@ pub(crate) fn add_escaped(text: &[u8], to: &mut Bytes) -> Result<(), OutOfMemory
 /// What is added is a pattern for that path alone, where it has no more bytes than a pattern may
 /// have positions.
 pub fn escape_path(alloc: Global, path: &NormPath, to: &mut Bytes) -> Result<(), OutOfMemory>
-    ensures ok { OnOk result (to.new ≡ to.old ++ escaped (path_text path.now)) }
+    ensures ok { OnOk result (to.new ≡ to.old ++ pattern_escaped (path_text path.now)) }
     ensures err { OnErr result (to.new ≡ to.old) }
     ensures alone { length (path_text path.now) ≤ MOST_POSITIONS
-        → Matches (escaped (path_text path.now)) (path_text path.now) }
+        → Matches (pattern_escaped (path_text path.now)) (path_text path.now) }
 {
     let mut text = Bytes::new(alloc);
     let path = path.path();

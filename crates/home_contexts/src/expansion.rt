@@ -1,10 +1,10 @@
 ghost use Rattle.std.specs.Prelude.{◌≡◌, ◌<◌, ◌^◌, [], false, length, IfOk};
 ghost use Rattle.std.specs.List.{list_any};
-ghost use Rattle.label_base.specs.Answers.{Answers, cause_of};
+ghost use Rattle.label_base.specs.Answers.{Answers, fault_cause};
 ghost use Rattle.label_base.specs.Lines.{fields_of};
 ghost use Rattle.home_contexts.specs.Homes.{IsReadBack, expansion, given_by_fields};
 ghost use Rattle.home_contexts.specs.Homes.{given_lines, is_long};
-ghost use Rattle.home_contexts.specs.Making.{Gives, first_flags, is_feed};
+ghost use Rattle.home_contexts.specs.Making.{GivesHomes, first_flags, is_feed};
 
 use crate::firsts::first_flags;
 use crate::giving::give_lines;
@@ -30,7 +30,7 @@ fn give_by_line(
     requires feed { list_any is_feed text.now ≡ false }
     requires short { list_any is_long
         (given_by_fields users.now number (fields_of text.now)) ≡ false }
-    ensures { Gives result made.old made.new
+    ensures { GivesHomes result made.old made.new
         (given_by_fields users.now number (fields_of text.now)) }
 {
     let Some((first, more)) = next_field(Some(text)) else {
@@ -61,7 +61,7 @@ fn give_all(
     requires size { length template.now < 2 ^ 32 }
     requires flags { firsts.now ≡ first_flags [] users.now }
     requires short { list_any is_long (given_lines template.now users.now) ≡ false }
-    ensures { Gives result made.old made.new (given_lines template.now users.now) }
+    ensures { GivesHomes result made.old made.new (given_lines template.now users.now) }
 {
     let mut left = template;
     let mut number = 0u32;
@@ -81,7 +81,7 @@ fn expand_by(
 ) -> Result<Bytes, HomesFault>
     requires size { length template.now < 2 ^ 32 }
     requires flags { firsts.now ≡ first_flags [] users.now }
-    ensures text { Answers (λ text. text) cause_of result (expansion template.now users.now) }
+    ensures text { Answers (λ text. text) fault_cause result (expansion template.now users.now) }
     ensures read_back { IfOk result IsReadBack }
 {
     if gives_long(template, users, firsts) {
@@ -99,8 +99,8 @@ fn expand_by(
 /// `HOME_ROOT` for the home without its last name, `ROLE` for the role and `USER` for the name; in
 /// the first field what stands in a word's place is escaped. A line gives one line for each user;
 /// where `HOME_ROOT` alone of the words stands in it, one for the first user of each root; and none
-/// without words. The text is read by [`read_specs`](spec_reader::read_specs), one specification for
-/// each line.
+/// without words. The text is read by [`read_specs`](spec_reader::read_specs), one specification
+/// for each line.
 ///
 /// A given line of more than [`MOST_TEXT_BYTES`](crate::MOST_TEXT_BYTES) bytes answers
 /// [`HomesWhy::TooLong`]; else the first that isn't one of file_contexts is told; else more than
@@ -108,7 +108,7 @@ fn expand_by(
 /// too long does.
 pub fn expand(alloc: Global, template: &[u8], users: &Row<User>) -> Result<Bytes, HomesFault>
     requires { length template.now < 2 ^ 32 }
-    ensures text { Answers (λ text. text) cause_of result (expansion template.now users.now) }
+    ensures text { Answers (λ text. text) fault_cause result (expansion template.now users.now) }
     ensures read_back { IfOk result IsReadBack }
 {
     let firsts = first_flags(alloc, users.as_slice())?;

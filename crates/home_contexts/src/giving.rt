@@ -4,9 +4,9 @@ ghost use Rattle.std.specs.List.{list_any};
 ghost use Rattle.std.specs.Option.{option_copied};
 ghost use Rattle.label_base.specs.Lines.{fields_left};
 ghost use Rattle.file_roles.specs.declared.role.Part.TheVariants.{Homedirs};
-ghost use Rattle.spec_reader.specs.SpecLines.{spec_in};
+ghost use Rattle.spec_reader.specs.SpecLines.{spec_of_fields};
 ghost use Rattle.home_contexts.specs.Homes.{filled_fields, given_to, is_long, line_text};
-ghost use Rattle.home_contexts.specs.Making.{Checks, Gives, are_parts, chosen, for_user};
+ghost use Rattle.home_contexts.specs.Making.{Checks, GivesHomes, are_parts, chosen, for_user};
 
 use crate::homes_fault::{HomesFault, HomesWhy};
 use crate::line::{add_line, is_long};
@@ -21,7 +21,7 @@ use std::alloc::Global;
 fn check_line(alloc: Global, number: u32, line: &[u8]) -> Result<(), HomesFault>
     requires { length line.now < 2 ^ 32 }
     ensures { (fields : List (List ℕ)) → are_parts fields ≡ true → line.now ≡ line_text fields
-        → Checks result number (spec_in Homedirs 1 fields) }
+        → Checks result number (spec_of_fields Homedirs 1 fields) }
 {
     match read_specs(alloc, line, Part::Homedirs, 1) {
         Ok(_) => Ok(()),
@@ -64,7 +64,7 @@ fn give_line(
     requires parts { are_parts (first.now ∷ fields_left (option_copied more)) ≡ true }
     requires short { list_any is_long (given_to (user.now ∷ []) number
         (first.now ∷ fields_left (option_copied more))) ≡ false }
-    ensures { Gives result made.old made.new (given_to (user.now ∷ []) number
+    ensures { GivesHomes result made.old made.new (given_to (user.now ∷ []) number
         (first.now ∷ fields_left (option_copied more.entry))) }
 {
     let _name = &user.name;
@@ -89,7 +89,7 @@ fn give_if(
     requires parts { are_parts (first.now ∷ fields_left (option_copied more)) ≡ true }
     requires short { list_any is_long (given_to (for_user is_for user.now) number
         (first.now ∷ fields_left (option_copied more))) ≡ false }
-    ensures { Gives result made.old made.new (given_to (for_user is_for user.now) number
+    ensures { GivesHomes result made.old made.new (given_to (for_user is_for user.now) number
         (first.now ∷ fields_left (option_copied more.entry))) }
 {
     if is_for {
@@ -121,7 +121,7 @@ pub(crate) fn give_lines(
     requires parts { are_parts (first.now ∷ fields_left (option_copied more)) ≡ true }
     requires short { list_any is_long (given_to (chosen all flags.now users.now) number
         (first.now ∷ fields_left (option_copied more))) ≡ false }
-    ensures { Gives result made.old made.new (given_to (chosen all flags.now users.now) number
+    ensures { GivesHomes result made.old made.new (given_to (chosen all flags.now users.now) number
         (first.now ∷ fields_left (option_copied more.entry))) }
 {
     'users: for i in 0..users.len() {

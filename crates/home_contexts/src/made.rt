@@ -1,6 +1,6 @@
 ghost use Rattle.std.specs.Prelude.{◌≡◌, ◌++◌, ◌∷◌, ◌+◌, [], List, min, OnOk};
-ghost use Rattle.label_base.specs.Answers.{Answers, cause_of};
-ghost use Rattle.home_contexts.specs.Homes.{Given, given_text, within_limits};
+ghost use Rattle.label_base.specs.Answers.{Answers, fault_cause};
+ghost use Rattle.home_contexts.specs.Homes.{Given, home_text, within_limits};
 ghost use Rattle.home_contexts.specs.Making.{IsMade};
 
 use crate::homes_fault::{HomesFault, HomesWhy};
@@ -50,7 +50,7 @@ impl Made {
     /// Adds a line. After a refusal nothing is known of the text.
     pub fn add(&mut self, line: &[u8]) -> Result<(), OutOfMemory>
         ensures { OnOk result ((given : List Given) → (next : Given)
-            → line.now ≡ given_text next
+            → line.now ≡ home_text next
             → IsMade self.old given
             → IsMade self.new (given ++ next ∷ [])) }
     {
@@ -68,7 +68,7 @@ impl Made {
     /// The text, where it is within the limits.
     pub fn finish(self) -> Result<Bytes, HomesFault>
         ensures { (given : List Given) → IsMade self given
-            → Answers (λ text. text) cause_of result (within_limits given) }
+            → Answers (λ text. text) fault_cause result (within_limits given) }
     {
         if self.lines > MOST_SPECS {
             return Err(Fault::Why(HomesWhy::TooManySpecs));

@@ -1,6 +1,6 @@
 ghost use Rattle.std.specs.Prelude.{◌≡◌, ◌∷◌, [], Ok};
 ghost use Rattle.std.specs.List.{list_all, list_any};
-ghost use Rattle.label_base.specs.Answers.{Answers, cause_of};
+ghost use Rattle.label_base.specs.Answers.{Answers, fault_cause};
 ghost use Rattle.context_syntax.specs.Context.{is_word, is_word_byte};
 ghost use Rattle.home_contexts.specs.User.{ends_field, is_home};
 ghost use Rattle.home_contexts.specs.UserLines.{user_in, with_home};
@@ -49,7 +49,7 @@ fn is_home(path: &NormPath) -> bool
 }
 
 fn make_user(alloc: Global, name: &[u8], role: &[u8], home: NormPath) -> Result<User, Fault<NoUser>>
-    ensures { Answers (λ user. user) cause_of result (with_home name.now role.now (Ok home)) }
+    ensures { Answers (λ user. user) fault_cause result (with_home name.now role.now (Ok home)) }
 {
     if !is_word(name) {
         return Err(Fault::Why(NoUser));
@@ -68,7 +68,7 @@ fn make_user(alloc: Global, name: &[u8], role: &[u8], home: NormPath) -> Result<
 }
 
 fn read_user(alloc: Global, name: &[u8], role: &[u8], home: &[u8]) -> Result<User, Fault<NoUser>>
-    ensures { Answers (λ user. user) cause_of result
+    ensures { Answers (λ user. user) fault_cause result
         (user_in (name.now ∷ role.now ∷ home.now ∷ [])) }
 {
     match NormPath::read(alloc, home) {

@@ -1,5 +1,5 @@
 ghost use Rattle.std.specs.Prelude.{◌≡◌, ◌↔◌, ◌<◌, ◌^◌, length};
-ghost use Rattle.label_base.specs.Answers.{Answers, cause_of};
+ghost use Rattle.label_base.specs.Answers.{Answers, fault_cause};
 ghost use Rattle.home_contexts.specs.UserGrammar.{UsersMean};
 ghost use Rattle.home_contexts.specs.UserLines.{users_of};
 
@@ -15,7 +15,7 @@ use std::alloc::Global;
 /// The first line that isn't a user is refused. Comments and blank lines are skipped.
 pub fn read_users(alloc: Global, bytes: &[u8]) -> Result<Row<User>, UsersFault>
     requires { length bytes.now < 2 ^ 32 }
-    ensures { Answers (λ users. users) cause_of result (users_of bytes.now) }
+    ensures { Answers (λ users. users) fault_cause result (users_of bytes.now) }
 {
     read_lines(alloc, &UserReader, bytes)
 }

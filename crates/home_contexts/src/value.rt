@@ -1,8 +1,8 @@
 ghost use Rattle.std.specs.Prelude.{◌≡◌, ◌++◌, ◌+◌, ◌≤◌, length, min, OnOk};
 ghost use Rattle.std.specs.List.{count_by};
 ghost use Rattle.file_paths.specs.Path.{path_text};
-ghost use Rattle.home_contexts.specs.Escaped.{is_marked};
-ghost use Rattle.home_contexts.specs.Words.{piece_text, root_of, value_of, written};
+ghost use Rattle.home_contexts.specs.Escaped.{is_special};
+ghost use Rattle.home_contexts.specs.Words.{template_text, root_of, word_value, written_word};
 
 use crate::escape::{add_escaped, stands_bare};
 use crate::limits::MOST_TEXT_BYTES;
@@ -22,7 +22,7 @@ pub(crate) fn root_text(home: &NormPath) -> &[u8]
 }
 
 fn value_of(user: &User, word: Word) -> &[u8]
-    ensures { result.now ≡ value_of user.now word }
+    ensures { result.now ≡ word_value user.now word }
 {
     match word {
         Word::HomeRoot => root_text(&user.home),
@@ -33,7 +33,7 @@ fn value_of(user: &User, word: Word) -> &[u8]
 }
 
 fn write_value(value: &[u8], in_pattern: bool, to: &mut Bytes) -> Result<(), OutOfMemory>
-    ensures { OnOk result (to.new ≡ to.old ++ written in_pattern value.now) }
+    ensures { OnOk result (to.new ≡ to.old ++ written_word in_pattern value.now) }
 {
     if in_pattern {
         add_escaped(value, to)
@@ -49,7 +49,7 @@ pub(crate) fn write_piece(
     user: &User,
     to: &mut Bytes,
 ) -> Result<(), OutOfMemory>
-    ensures { OnOk result (to.new ≡ to.old ++ piece_text in_pattern user.now piece) }
+    ensures { OnOk result (to.new ≡ to.old ++ template_text in_pattern user.now piece) }
 {
     match piece {
         Piece::Byte(b) => to.push_byte(b),
@@ -59,7 +59,7 @@ pub(crate) fn write_piece(
 
 // How many bytes need a backslash.
 fn count_marked(text: &[u8]) -> usize
-    ensures { result ≡ count_by is_marked text.now }
+    ensures { result ≡ count_by is_special text.now }
 {
     text.iter().filter(|b| !stands_bare(**b)).count()
 }
@@ -72,7 +72,8 @@ pub(crate) fn capped(so_far: u64, more: usize) -> u64
 }
 
 fn with_value(so_far: u64, value: &[u8], in_pattern: bool) -> u64
-    ensures { result ≡ min (MOST_TEXT_BYTES + 1) (so_far + length (written in_pattern value.now)) }
+    ensures { result ≡ min (MOST_TEXT_BYTES + 1)
+        (so_far + length (written_word in_pattern value.now)) }
 {
     if in_pattern {
         capped(capped(so_far, value.len()), count_marked(value))
@@ -84,7 +85,7 @@ fn with_value(so_far: u64, value: &[u8], in_pattern: bool) -> u64
 /// The length so far and that of what a user gives for a piece of a field.
 pub(crate) fn with_piece(so_far: u64, piece: Piece, in_pattern: bool, user: &User) -> u64
     ensures { result ≡ min (MOST_TEXT_BYTES + 1)
-        (so_far + length (piece_text in_pattern user.now piece)) }
+        (so_far + length (template_text in_pattern user.now piece)) }
 {
     match piece {
         Piece::Byte(_) => capped(so_far, 1),

@@ -1,8 +1,9 @@
-ghost use Rattle.std.specs.Prelude.{◌≡◌, ◌∷◌, ◌++◌, ◌<◌, ◌≤◌, ◌||◌, [], drop, length, map, take, IfSome, IfNone};
+ghost use Rattle.std.specs.Prelude.{◌≡◌, ◌∷◌, ◌++◌, ◌<◌, ◌≤◌, ◌||◌, [], drop, length, map, take};
+ghost use Rattle.std.specs.Prelude.{IfSome, IfNone};
 ghost use Rattle.home_contexts.specs.Making.{begins_none};
 ghost use Rattle.home_contexts.specs.declared.word.Piece.TheVariants.{Byte};
-ghost use Rattle.home_contexts.specs.Words.{holds, is_other, is_root, pieces_of};
-ghost use Rattle.home_contexts.specs.Words.{stands_for, word_at, word_text};
+ghost use Rattle.home_contexts.specs.Words.{holds_word, is_other, is_root_word, template_pieces};
+ghost use Rattle.home_contexts.specs.Words.{stands_for, template_word_at, word_text};
 
 /// Stands for the home without its last name.
 pub(crate) const HOME_ROOT: &[u8] = b"HOME_ROOT";
@@ -63,7 +64,7 @@ fn word_text(word: Word) -> &'static [u8]
 
 #[tactic(auto, unfolding(crate::specs::Words::word_at))]
 fn word_at(text: &[u8]) -> Option<Word>
-    ensures { result ≡ word_at text.now }
+    ensures { result ≡ template_word_at text.now }
 {
     if text.starts_with(HOME_ROOT) {
         Some(Word::HomeRoot)
@@ -89,9 +90,9 @@ fn behind_word<'a>(text: &'a [u8], word: &[u8]) -> &'a [u8]
 /// The first piece of a field, and what is left behind it.
 pub(crate) fn next_piece(field: &[u8]) -> Option<(Piece, &[u8])>
     ensures found { IfSome result
-        (λ found. pieces_of field.now ≡ found.0 ∷ pieces_of found.1.now) }
+        (λ found. template_pieces field.now ≡ found.0 ∷ template_pieces found.1.now) }
     ensures shorter { IfSome result (λ found. length found.1.now < length field.now) }
-    ensures none { IfNone result (pieces_of field.now ≡ []) }
+    ensures none { IfNone result (template_pieces field.now ≡ []) }
 {
     let [first, rest @ ..] = field else {
         return None;
@@ -113,8 +114,8 @@ fn begins_none(b: u8) -> bool
 #[tactic(auto, using(crate::proofs::Runs::run_more))]
 fn run_length(field: &[u8]) -> usize
     ensures within { result ≤ length field.now }
-    ensures pieces { pieces_of field.now
-        ≡ map Byte (take result field.now) ++ pieces_of (drop result field.now) }
+    ensures pieces { template_pieces field.now
+        ≡ map Byte (take result field.now) ++ template_pieces (drop result field.now) }
 {
     let mut at = 0;
     'bytes: while at < field.len() {
@@ -128,7 +129,8 @@ fn run_length(field: &[u8]) -> usize
 
 /// Bytes at the beginning that stand for themselves, and what is left behind them.
 pub(crate) fn plain_run(field: &[u8]) -> (&[u8], &[u8])
-    ensures pieces { pieces_of field.now ≡ map Byte result.0.now ++ pieces_of result.1.now }
+    ensures pieces { template_pieces field.now ≡ map Byte result.0.now ++ template_pieces
+        result.1.now }
     ensures shorter { length result.1.now ≤ length field.now }
 {
     let length = run_length(field);
@@ -136,13 +138,13 @@ pub(crate) fn plain_run(field: &[u8]) -> (&[u8], &[u8])
 }
 
 fn is_root(word: Word) -> bool
-    ensures { result ≡ is_root word }
+    ensures { result ≡ is_root_word word }
 {
     matches!(word, Word::HomeRoot)
 }
 
 fn with_piece(held: Held, piece: Piece) -> Held
-    ensures root { result.root ≡ (held.root || stands_for is_root piece) }
+    ensures root { result.root ≡ (held.root || stands_for is_root_word piece) }
     ensures other { result.other ≡ (held.other || stands_for is_other piece) }
 {
     match piece {
@@ -156,8 +158,8 @@ fn with_piece(held: Held, piece: Piece) -> Held
 
 /// The words held already, and those that the field holds.
 pub(crate) fn with_field(held: Held, field: &[u8]) -> Held
-    ensures root { result.root ≡ (held.root || holds is_root field.now) }
-    ensures other { result.other ≡ (held.other || holds is_other field.now) }
+    ensures root { result.root ≡ (held.root || holds_word is_root_word field.now) }
+    ensures other { result.other ≡ (held.other || holds_word is_other field.now) }
 {
     let mut all = held;
     let mut left = field;

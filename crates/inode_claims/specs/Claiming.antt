@@ -8,8 +8,8 @@ abbrev pub call_of : ℕ → ℕ → ℕ → Call
 call_of group position answer = record { group = group; position = position; answer = answer }
 
 -- no call yet, standing for n passes
-abbrev pub fresh : ℕ → ClaimView
-fresh n = record { calls = []; stands_for = n }
+abbrev pub fresh_claims : ℕ → ClaimView
+fresh_claims n = record { calls = []; stands_for = n }
 
 -- one call more
 abbrev pub with_call : ClaimView → ℕ → ℕ → ℕ → ClaimView
@@ -20,29 +20,29 @@ with_call view group position answer =
     }
 
 -- the calls of both, standing for the passes of both
-abbrev pub joined : ClaimView → ClaimView → ClaimView
-joined into from =
+abbrev pub claims_joined : ClaimView → ClaimView → ClaimView
+claims_joined into from =
     record { calls = into.calls ++ from.calls; stands_for = into.stands_for + from.stands_for }
 
-abbrev pub for_one_less : ClaimView → ClaimView
-for_one_less view = record { calls = view.calls; stands_for = view.stands_for - 1 }
+abbrev pub claims_for_one_less : ClaimView → ClaimView
+claims_for_one_less view = record { calls = view.calls; stands_for = view.stands_for - 1 }
 
 -- a call on the group that claimed this position
-abbrev pub is_at : ℕ → ℕ → Call → Bool
-is_at group position call = (call.group == group) && (call.position == position)
+abbrev pub is_call_at : ℕ → ℕ → Call → Bool
+is_call_at group position call = (call.group == group) && (call.position == position)
 
 -- a call on the group that was answered this word
 abbrev pub is_told : ℕ → ℕ → Call → Bool
 is_told group answer call = (call.group == group) && (call.answer == answer)
 
 -- how many calls pass the test
-abbrev pub count : (Call → Bool) → List Call → ℕ
-count test [] = 0
-count test (call ∷ calls) = cond (test call) 1 0 + count test calls
+abbrev pub calls_where : (Call → Bool) → List Call → ℕ
+calls_where test [] = 0
+calls_where test (call ∷ calls) = cond (test call) 1 0 + calls_where test calls
 
 -- some call claimed the position for the group
 abbrev pub IsClaimed : ℕ → ℕ → List Call → Type 0
-IsClaimed group position calls = 0 < count (is_at group position) calls
+IsClaimed group position calls = 0 < calls_where (is_call_at group position) calls
 
 -- the least position that the calls claim for the group, or the none-word where no call is on it
 abbrev pub least_claimed : ℕ → List Call → ℕ

@@ -1,5 +1,6 @@
 -- The rule of the words, which holds between any two steps of any threads.
-use Rattle.std.specs.Prelude.{◌≡◌, ℕ, suc, ◌-◌, ◌<◌, ◌≤◌, ◌==◌, ◌⊎◌, Bool, cond, List, [], length, slice_index, sum_by}
+use Rattle.std.specs.Prelude.{◌≡◌, ℕ, suc, ◌-◌, ◌<◌, ◌≤◌, ◌==◌, ◌⊎◌, Bool, cond, List, [], length}
+use Rattle.std.specs.Prelude.{slice_index, sum_by}
 use mathlib.Core.Option.{some}
 use lib.ListN.{get_elem?}
 use Rattle.atomic_table.specs.Table.{Step, Me}
@@ -7,11 +8,11 @@ use Rattle.walk_steps.specs.declared.machine.TheConstants.{NONE_WORD}
 use Rattle.inode_claims.specs.declared.rule.Call.{Call}
 use Rattle.inode_claims.specs.declared.rule.ClaimView.{ClaimView}
 use Rattle.inode_claims.specs.declared.rule.Plan.{Plan}
-use Rattle.inode_claims.specs.Claiming.{with_call, count, is_at, is_told, IsClaimed}
+use Rattle.inode_claims.specs.Claiming.{with_call, calls_where, is_call_at, is_told, IsClaimed}
 
 -- how many calls of all views pass the test
 abbrev pub count_all : (Call → Bool) → List ClaimView → ℕ
-count_all test views = sum_by (λ view. count test view.calls) views
+count_all test views = sum_by (λ view. calls_where test view.calls) views
 
 -- the word of a group, behind the one that belongs to none
 abbrev pub word_of : ℕ → List ℕ → ℕ
@@ -28,19 +29,20 @@ pub record LeastIsKept (plan : Plan) (words : List ℕ) (views : List ClaimView)
   pub whole : sum_by (λ view. view.stands_for) views ≡ plan.passes
   pub spent : SpentIsEmpty views
   -- each word is at most every position that was claimed for its group
-  pub low : (group position : ℕ) → 0 < count_all (is_at group position) views
+  pub low : (group position : ℕ) → 0 < count_all (is_call_at group position) views
       → word_of group words ≤ position
   -- and is one of them, or nothing lowered it
   pub met : (group : ℕ) → group < plan.groups → (word_of group words ≡ NONE_WORD)
-      ⊎ (0 < count_all (is_at group (word_of group words)) views)
+      ⊎ (0 < count_all (is_call_at group (word_of group words)) views)
   -- an answer is the none-word or a position that was claimed
   pub told : (group answer : ℕ) → 0 < count_all (is_told group answer) views → (answer ≡ NONE_WORD)
-      ⊎ (0 < count_all (is_at group answer) views)
+      ⊎ (0 < count_all (is_call_at group answer) views)
   -- the none-word is answered once, by the step that lowers it
   pub once : (group : ℕ) → group < plan.groups
       → count_all (is_told group NONE_WORD) views ≡ cond (word_of group words == NONE_WORD) 0 1
 
--- what the step of a claim tells its pass: the word that it found, which is at most what the pass had claimed
+-- what the step of a claim tells its pass: the word that it found, which is at most what the pass
+-- had claimed
 abbrev pub IsClaimOf : Step ℕ → Me ℕ ClaimView → ℕ → Me ℕ ClaimView → Type 0
 IsClaimOf step before found after =
     (after ≡ (with_call before.0 (step.word - 1) step.first found, before.1))

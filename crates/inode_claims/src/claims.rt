@@ -1,6 +1,7 @@
-ghost use Rattle.std.specs.Prelude.{◌≡◌, ℕ, ◌+◌, ◌-◌, ◌<◌, ◌≤◌, [], All, IfOk, length, min, vec_capacity, replicate};
+ghost use Rattle.std.specs.Prelude.{◌≡◌, ℕ, ◌+◌, ◌-◌, ◌<◌, ◌≤◌, [], All, IfOk, length, min};
+ghost use Rattle.std.specs.Prelude.{vec_capacity, replicate};
 ghost use Rattle.walk_steps.specs.declared.machine.TheConstants.{NONE_WORD};
-ghost use Rattle.inode_claims.specs.Claiming.{fresh, joined, with_call, IsClaimed};
+ghost use Rattle.inode_claims.specs.Claiming.{fresh_claims, claims_joined, with_call, IsClaimed};
 
 use crate::rule::{ClaimView, Claiming, CutOne, Joining, Least, Plan};
 use crate::winners::Winners;
@@ -9,7 +10,8 @@ use label_base::{OutOfMemory, Row};
 use std::alloc::{AllocError, Global};
 use walk_steps::NONE_WORD;
 
-/// The right to claim, one for each thread. When the program runs it is the number of its calls alone.
+/// The right to claim, one for each thread. When the program runs it is the number of its calls
+/// alone.
 #[derive(Drop)]
 pub struct ClaimPass {
     seat: Seat<u8, ClaimView>,
@@ -35,9 +37,17 @@ pub struct Claims {
 }
 
 impl Claims {
-    ghost use Rattle.inode_claims.specs.Answers.{IsPassOf, passes_of, groups_of, claim_view, Wins, TellsAll};
+    ghost use Rattle.inode_claims.specs.Answers.{
+      IsPassOf,
+      passes_of,
+      groups_of,
+      claim_view,
+      Wins,
+      TellsAll,
+    };
 
-    /// Words for so many groups, nothing claimed, and so many passes, at least one. Each stands for one pass.
+    /// Words for so many groups, nothing claimed, and so many passes, at least one. Each stands for
+    /// one pass.
     pub fn new(
         alloc: Global,
         groups: u32,
@@ -48,7 +58,7 @@ impl Claims {
         ensures passes { IfOk result (λ made. (passes_of made.0 ≡ passes)
             × (length made.1 ≡ passes)) }
         ensures each { IfOk result
-            (λ made. All (λ p. IsPassOf made.0 p × (claim_view p ≡ fresh 1)) made.1) }
+            (λ made. All (λ p. IsPassOf made.0 p × (claim_view p ≡ fresh_claims 1)) made.1) }
     {
         let (claims, seat) = Claims::open(alloc, groups, passes)?;
         let all = claims.deal(alloc, seat, passes)?;
@@ -63,7 +73,7 @@ impl Claims {
         requires { 0 < passes }
         ensures made { IfOk result (λ r. (groups_of r.0 ≡ groups) × (passes_of r.0 ≡ passes)) }
         ensures seat { IfOk result
-            (λ r. (r.1.table_id ≡ r.0.table.shared.table_id) × (r.1.me ≡ (fresh passes, []))) }
+            (λ r. (r.1.table_id ≡ r.0.table.shared.table_id) × (r.1.me ≡ (fresh_claims passes, []))) }
     {
         let count = groups as usize;
         let words = Vec::from_elem(alloc, NONE_WORD, count + 1)?;
@@ -83,7 +93,7 @@ impl Claims {
         requires room { (room.items ≡ []) × (groups ≤ vec_capacity room) }
         ensures made { IfOk result (λ r. (groups_of r.0 ≡ groups) × (passes_of r.0 ≡ passes)) }
         ensures seat { IfOk result
-            (λ r. (r.1.table_id ≡ r.0.table.shared.table_id) × (r.1.me ≡ (fresh passes, []))) }
+            (λ r. (r.1.table_id ≡ r.0.table.shared.table_id) × (r.1.me ≡ (fresh_claims passes, []))) }
     {
         let plan = Plan { groups, passes };
         let (table, seat) = Table::of_words(alloc, words, &plan)?;
@@ -103,10 +113,10 @@ impl Claims {
     ) -> Result<Row<ClaimPass>, OutOfMemory>
         requires some { 0 < passes }
         requires seat { (seat.table_id ≡ self.now.table.shared.table_id)
-            × (seat.me ≡ (fresh passes, [])) }
+            × (seat.me ≡ (fresh_claims passes, [])) }
         ensures len { IfOk result (λ all. length all ≡ passes) }
         ensures each { IfOk result
-            (λ all. All (λ p. IsPassOf self.now p × (claim_view p ≡ fresh 1)) all) }
+            (λ all. All (λ p. IsPassOf self.now p × (claim_view p ≡ fresh_claims 1)) all) }
     {
         let mut all = Row::new(alloc);
         for _ in 1..passes {
@@ -117,8 +127,9 @@ impl Claims {
     }
 
     fn last(&self, seat: Seat<u8, ClaimView>) -> ClaimPass
-        requires { (seat.table_id ≡ self.now.table.shared.table_id) × (seat.me ≡ (fresh 1, [])) }
-        ensures { IsPassOf self.now result × (claim_view result ≡ fresh 1) }
+        requires { (seat.table_id ≡ self.now.table.shared.table_id)
+            × (seat.me ≡ (fresh_claims 1, [])) }
+        ensures { IsPassOf self.now result × (claim_view result ≡ fresh_claims 1) }
     {
         ClaimPass { seat, count: 0 }
     }
@@ -128,8 +139,8 @@ impl Claims {
         requires view { (1 < seat.old.me.0.stands_for) × (seat.old.me.0.calls ≡ [])
             × (seat.old.me.1 ≡ []) }
         ensures table { seat.new.table_id ≡ seat.old.table_id }
-        ensures view { seat.new.me ≡ (fresh (seat.old.me.0.stands_for - 1), []) }
-        ensures pass { IsPassOf self.now result × (claim_view result ≡ fresh 1) }
+        ensures view { seat.new.me ≡ (fresh_claims (seat.old.me.0.stands_for - 1), []) }
+        ensures pass { IsPassOf self.now result × (claim_view result ≡ fresh_claims 1) }
     {
         let seat = self.table.shared.split_seat::<CutOne>(seat);
         ClaimPass { seat, count: 0 }
@@ -156,14 +167,15 @@ impl Claims {
     pub fn join(&self, into: &mut ClaimPass, from: ClaimPass)
         requires { IsPassOf self.now into.old × IsPassOf self.now from }
         ensures pass { IsPassOf self.now into.new }
-        ensures view { claim_view into.new ≡ joined (claim_view into.old) (claim_view from) }
+        ensures view { claim_view into.new ≡ claims_joined (claim_view into.old) (claim_view from) }
     {
         let ClaimPass { seat, count } = from;
         self.table.shared.join_seat::<Joining>(&mut into.seat, seat);
         into.count = into.count.saturating_add(count);
     }
 
-    /// The winner of each group. They are final where the pass stands for all passes of these claims.
+    /// The winner of each group. They are final where the pass stands for all passes of these
+    /// claims.
     pub fn close(self, pass: ClaimPass) -> Winners
         requires { IsPassOf self pass }
         ensures wins { Wins (groups_of self) (claim_view pass).calls result }

@@ -1,5 +1,6 @@
-//! One word for each group of paths that share an inode. Threads lower the words in single steps, in any order and
-//! without a wait, so that in the end each word is the least position that was claimed for its group.
+//! One word for each group of paths that share an inode. Threads lower the words in single steps,
+//! in any order and without a wait, so that in the end each word is the least position that was
+//! claimed for its group.
 #![tactic(auto)]
 
 mod claims;

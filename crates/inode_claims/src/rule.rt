@@ -1,8 +1,8 @@
 use atomic_table::{Join, Play, Split, TableRule};
 use std::collections::LinkedList;
 
-/// A call of `claim`: the group, the position claimed for it, and the word that was there before. It stands in
-/// proofs alone, and no value of it is made.
+/// A call of `claim`: the group, the position claimed for it, and the word that was there before.
+/// It stands in proofs alone, and no value of it is made.
 pub struct Call {
     pub group: u32,
     pub position: u64,

@@ -1,5 +1,7 @@
--- What calls of a sink do to the bytes that were written, where it tells them, and to its count of faults.
-use Rattle.std.specs.Prelude.{◌≡◌, ℕ, ◌≤◌, ◌<◌, min, List, ◌++◌, length, take, Option, if◌then◌else◌}
+-- What calls of a sink do to the bytes that were written, where it tells them, and to its count of
+-- faults.
+use Rattle.std.specs.Prelude.{◌≡◌, ℕ, ◌≤◌, ◌<◌, min, List, ◌++◌, length, take, Option}
+use Rattle.std.specs.Prelude.{if◌then◌else◌}
 use Rattle.std.specs.Io.KnownBytes.{Keeps, Appends}
 use Rattle.input_output.specs.Source.{Rose, next_count, is_listed}
 use Rattle.input_output.specs.declared.sink.Put.{Put}
@@ -19,7 +21,8 @@ PutCounts before now other = now ≡ before
 abbrev pub AppendsFront : Option (List ℕ) → Option (List ℕ) → List ℕ → Type 0
 AppendsFront old new bytes = (n : ℕ) × Appends old new (take n bytes)
 
--- a sink in memory: what was written, the greatest piece, the calls that are to fail, the calls so far and those that failed
+-- a sink in memory: what was written, the greatest piece, the calls that are to fail, the calls so
+-- far and those that failed
 pub record MemSinkValue : Type 0 where
   pub written : List ℕ
   pub piece : ℕ

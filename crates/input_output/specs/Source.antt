@@ -1,5 +1,7 @@
--- What calls of a source do to the bytes that it has left, where it tells them, and to its count of faults.
-use Rattle.std.specs.Prelude.{◌≡◌, ℕ, ◌+◌, ◌≤◌, ◌<◌, ◌==◌, min, Bool, List, length, take, drop, Option, if◌then◌else◌}
+-- What calls of a source do to the bytes that it has left, where it tells them, and to its count of
+-- faults.
+use Rattle.std.specs.Prelude.{◌≡◌, ℕ, ◌+◌, ◌≤◌, ◌<◌, ◌==◌, min, Bool, List, length, take, drop}
+use Rattle.std.specs.Prelude.{Option, if◌then◌else◌}
 use Rattle.std.specs.List.{list_any}
 use Rattle.std.specs.Io.KnownBytes.{Keeps, Consumes, IsAtEnd}
 use Rattle.input_output.specs.declared.source.TheConstants.{LAST_COUNT}
@@ -15,10 +17,10 @@ abbrev pub Rose : ℕ → ℕ → Type 0
 Rose before now = next_count before ≤ now
 
 -- what an answer says of the bytes that are left
-abbrev pub Takes : Option (List ℕ) → Option (List ℕ) → Take → List ℕ → Type 0
-Takes old new (Got n) buf = (0 < n) × (n ≤ length buf) × Consumes old new (take n buf)
-Takes old new End buf = IsAtEnd old × Keeps old new
-Takes old new Failed buf = Keeps old new
+abbrev pub TakesInput : Option (List ℕ) → Option (List ℕ) → Take → List ℕ → Type 0
+TakesInput old new (Got n) buf = (0 < n) × (n ≤ length buf) × Consumes old new (take n buf)
+TakesInput old new End buf = IsAtEnd old × Keeps old new
+TakesInput old new Failed buf = Keeps old new
 
 -- what an answer says of the count of faults
 abbrev pub TakeCounts : ℕ → ℕ → Take → Type 0
@@ -42,7 +44,8 @@ abbrev pub sure_after : SureSourceValue → Take → SureSourceValue
 sure_after s (Got n) = record s { left = drop n s.left }
 sure_after s other = s
 
--- a source in memory: what is left, the greatest piece, the calls that are to fail, the calls so far and those that failed
+-- a source in memory: what is left, the greatest piece, the calls that are to fail, the calls so
+-- far and those that failed
 pub record MemSourceValue : Type 0 where
   pub left : List ℕ
   pub piece : ℕ

@@ -1,5 +1,7 @@
 -- What calls of a store say of its files, where it tells them, and of its counts of faults.
-use Rattle.std.specs.Prelude.{◌≡◌, ℕ, zero, suc, ◌≤◌, ◌<◌, Bool, true, false, List, [], ◌∷◌, length, slice_index_or, Option, Some, None, Result, Ok, Err, if◌then◌else◌, map as list_map, refl}
+use Rattle.std.specs.Prelude.{◌≡◌, ℕ, zero, suc, ◌≤◌, ◌<◌, Bool, true, false, List, [], ◌∷◌, length}
+use Rattle.std.specs.Prelude.{slice_index_or, Option, Some, None, Result, Ok, Err, if◌then◌else◌}
+use Rattle.std.specs.Prelude.{map as list_map, refl}
 use Rattle.std.specs.Coded.{Coded, code_by, coded×, coded_list, coded_ℕ}
 use Rattle.std.specs.Str.{bytes_eq}
 use Rattle.std.specs.Ordering.{nat_cmp}
@@ -8,7 +10,8 @@ use Rattle.std.specs.FinMap as map
 use Rattle.input_output.specs.Source.{Rose, next_count, is_listed}
 use Rattle.input_output.specs.declared.mem_store.MemFile.{MemFile}
 use Rattle.input_output.specs.declared.store.FileFault.{FileFault}
-use Rattle.input_output.specs.declared.store.FileFault.TheVariants.{NotThere, Failed, TooLong, OutOfMemory}
+use Rattle.input_output.specs.declared.store.FileFault.TheVariants.{NotThere, Failed, TooLong}
+use Rattle.input_output.specs.declared.store.FileFault.TheVariants.{OutOfMemory}
 use Rattle.input_output.specs.declared.store.SaveFault.{SaveFault}
 use Rattle.input_output.specs.declared.store.SaveFault.TheVariants as save
 
@@ -45,7 +48,8 @@ abbrev pub Calls : Option ℕ → Option ℕ → ℕ → Type 0
 Calls None now more = Unit {0}
 Calls (Some count) now more = now ≡ Some (calls_after count more)
 
--- what an answer to a write says of the files: after a failure the named one alone is unknown, and may be absent
+-- what an answer to a write says of the files: after a failure the named one alone is unknown, and
+-- may be absent
 abbrev pub SaveTold : Option Files → Option Files → List ℕ → List ℕ → Result (Unit {0}) SaveFault
     → Type 0
 SaveTold None new name bytes result = Unit {0}
@@ -64,7 +68,8 @@ pub record StoreFaults : Type 0 where
   pub read_faults : ℕ
   pub write_faults : ℕ
 
--- the name of the file that is meant, where the name `from` leads to the file `to`, unless that is empty
+-- the name of the file that is meant, where the name `from` leads to the file `to`, unless that is
+-- empty
 abbrev pub name_led : List ℕ → List ℕ → List ℕ → List ℕ
 name_led from to name =
     if bytes_eq to [] then name else (if bytes_eq from name then to else name)
@@ -81,21 +86,24 @@ files_of files = map.from_entries (list_map pair_of files)
 abbrev pub bytes_of : MemFile → List ℕ
 bytes_of file = file.bytes
 
-abbrev pub has_name : List ℕ → MemFile → Bool
-has_name name file = bytes_eq file.name name
+abbrev pub file_has_name : List ℕ → MemFile → Bool
+file_has_name name file = bytes_eq file.name name
 
 -- the content of the first file of the list with this name
-abbrev pub found_in : List MemFile → List ℕ → Option (List ℕ)
-found_in [] name = None
-found_in (file ∷ files) name = if has_name name file then Some file.bytes else found_in files name
+abbrev pub file_found_in : List MemFile → List ℕ → Option (List ℕ)
+file_found_in [] name = None
+file_found_in (file ∷ files) name =
+    if file_has_name name file then Some file.bytes else file_found_in files name
 
 -- the place of the first file of the list with this name
 pub record IsFirstPlace (files : List MemFile) (name : List ℕ) (place : ℕ) : Type 0 where
   pub inside : place < length files
-  pub named : (d : MemFile) → has_name name (slice_index_or files place d) ≡ true
-  pub before : (k : ℕ) (d : MemFile) → k < place → has_name name (slice_index_or files k d) ≡ false
+  pub named : (d : MemFile) → file_has_name name (slice_index_or files place d) ≡ true
+  pub before : (k : ℕ) (d : MemFile) → k < place → file_has_name name (slice_index_or files k d)
+      ≡ false
 
--- a store in memory: its files, the calls that are to fail, the calls so far, the reads and the writes that failed
+-- a store in memory: its files, the calls that are to fail, the calls so far, the reads and the
+-- writes that failed
 pub record MemStoreValue : Type 0 where
   pub files : Files
   pub failing : List ℕ

@@ -12,13 +12,15 @@ use std::fs::{Files, OpenFile};
 use std::io::ErrorKind;
 use std::marker::Model;
 
-/// The files of the system. It tells no content and no number of calls, and counts each call that fails.
+/// The files of the system. It tells no content and no number of calls, and counts each call that
+/// fails.
 ///
-/// A name is a path as open(2) takes it. `NotThere` is the system's "no such file or directory" (ENOENT)
-/// and "file name too long" (ENAMETOOLONG), since no such file can exist. A read takes at most one byte
-/// more than its limit. A write makes the file anew, or shortens it to nothing first, so a write that
-/// fails may leave a part of the bytes; it ends once the bytes have reached their device, since some file
-/// systems tell only then that they lost them. One name may lead to another file.
+/// A name is a path as open(2) takes it. `NotThere` is the system's "no such file or directory"
+/// (ENOENT) and "file name too long" (ENAMETOOLONG), since no such file can exist. A read takes at
+/// most one byte more than its limit. A write makes the file anew, or shortens it to nothing first,
+/// so a write that fails may leave a part of the bytes; it ends once the bytes have reached their
+/// device, since some file systems tell only then that they lost them. One name may lead to another
+/// file.
 #[derive(Drop)]
 pub struct FileStore<'r, R> {
     system: &'r R,
@@ -102,8 +104,8 @@ fn fault_of(kind: ErrorKind) -> FileFault
     }
 }
 
-// Waits until a file's bytes have reached its device, where it has one: a file system may tell only then
-// that it lost them. What can't be waited for, as a pipe, is left as it is.
+// Waits until a file's bytes have reached its device, where it has one: a file system may tell only
+// then that it lost them. What can't be waited for, as a pipe, is left as it is.
 fn keep<F: OpenFile>(file: &F) -> Result<(), SaveFault> {
     match file.sync_all() {
         Ok(()) => Ok(()),

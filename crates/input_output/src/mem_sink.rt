@@ -98,7 +98,8 @@ impl Model for SureSink {
 }
 
 impl SureSink {
-    /// A sink, seen as its piece. No call takes more than `piece` bytes, which has to be at least 1.
+    /// A sink, seen as its piece. No call takes more than `piece` bytes, which has to be at least
+    /// 1.
     pub fn new(piece: usize) -> SureSink
         requires { 0 < piece }
         ensures { result ≡ piece }

@@ -1,5 +1,6 @@
 ghost use Rattle.std.specs.Prelude.{◌≡◌, ◌≤◌, ◌<◌, ◌+◌, ◌-◌, Some, length, take, min};
-ghost use Rattle.input_output.specs.Source.{Takes, TakeCounts, mem_after, mem_take, sure_after, sure_take};
+ghost use Rattle.input_output.specs.Source.{TakesInput, TakeCounts, mem_after, mem_take};
+ghost use Rattle.input_output.specs.Source.{sure_after, sure_take};
 
 use crate::source::{Source, Take};
 use label_base::{Bytes, Row};
@@ -25,7 +26,8 @@ impl Model for SureSource {
 }
 
 impl SureSource {
-    /// A source of these bytes. No call gives more than `piece` of them, which has to be at least 1.
+    /// A source of these bytes. No call gives more than `piece` of them, which has to be at least
+    /// 1.
     pub fn new(left: Bytes, piece: usize) -> SureSource
         requires { 0 < piece }
         ensures { result ≡ record { left = left; piece = piece } }
@@ -64,7 +66,7 @@ impl Source for SureSource {
 
     fn read(&mut self, buf: &mut [u8]) -> Take
         requires { 0 < length buf.old }
-        ensures took { Takes (Some self.old.left) (Some self.new.left) result buf.new }
+        ensures took { TakesInput (Some self.old.left) (Some self.new.left) result buf.new }
         ensures counts { TakeCounts 0 0 result }
         ensures answer { result ≡ sure_take self.old (length buf.new) }
         ensures after { self.new ≡ sure_after self.old result }
@@ -103,8 +105,8 @@ impl Model for MemSource {
 }
 
 impl MemSource {
-    /// A source of these bytes. No call gives more than `piece` of them, which has to be at least 1,
-    /// and the calls whose numbers, from 1 on, are among `failing` fail.
+    /// A source of these bytes. No call gives more than `piece` of them, which has to be at least
+    /// 1, and the calls whose numbers, from 1 on, are among `failing` fail.
     pub fn new(left: Bytes, piece: usize, failing: Row<u64>) -> MemSource
         requires { 0 < piece }
         ensures { result
@@ -133,7 +135,7 @@ impl Source for MemSource {
 
     fn read(&mut self, buf: &mut [u8]) -> Take
         requires { 0 < length buf.old }
-        ensures took { Takes (Some self.old.left) (Some self.new.left) result buf.new }
+        ensures took { TakesInput (Some self.old.left) (Some self.new.left) result buf.new }
         ensures counts { TakeCounts self.old.faults self.new.faults result }
         ensures answer { result ≡ mem_take self.old (length buf.new) }
         ensures after { self.new ≡ mem_after self.old result }

@@ -1,8 +1,12 @@
-ghost use Rattle.std.specs.Prelude.{◌≡◌, ◌≤◌, IfOk, OnOk, OnErr, false, IfSome, IfNone, length, Option, Some, None, Ok, Err};
+ghost use Rattle.std.specs.Prelude.{◌≡◌, ◌≤◌, IfOk, OnOk, OnErr, false, IfSome, IfNone, length};
+ghost use Rattle.std.specs.Prelude.{Option, Some, None, Ok, Err};
 ghost use Rattle.std.specs.FinMap as map;
 ghost use Rattle.std.specs.Option.{option_copied};
 ghost use Rattle.input_output.specs.Source.{next_count};
-ghost use Rattle.input_output.specs.Store.{Calls, FileCounts, FileIs, IsFirstPlace, SaveCounts, SaveTold, content, files_of, found_in, has_name, is_planned, read_after, read_failed, write_after, write_failed};
+ghost use Rattle.input_output.specs.Store.{Calls, FileCounts, FileIs, IsFirstPlace, SaveCounts};
+ghost use Rattle.input_output.specs.Store.{SaveTold, content, files_of, file_found_in};
+ghost use Rattle.input_output.specs.Store.{file_has_name, is_planned, read_after, read_failed};
+ghost use Rattle.input_output.specs.Store.{write_after, write_failed};
 
 use crate::store::{FileFault, SaveFault, Store};
 use label_base::{Bytes, Name, OutOfMemory, Row};
@@ -17,13 +21,13 @@ struct MemFile {
 }
 
 fn is_named(file: &MemFile, name: &str) -> bool
-    ensures { result ≡ has_name name.now file.now }
+    ensures { result ≡ file_has_name name.now file.now }
 {
     file.name.as_str() == name
 }
 
 fn find_file<'a>(files: &'a [MemFile], name: &str) -> Option<&'a [u8]>
-    ensures { option_copied result ≡ found_in files.now name.now }
+    ensures { option_copied result ≡ file_found_in files.now name.now }
 {
     for file in files {
         if is_named(file, name) {
@@ -35,7 +39,7 @@ fn find_file<'a>(files: &'a [MemFile], name: &str) -> Option<&'a [u8]>
 
 fn place_of(files: &[MemFile], name: &str) -> Option<usize>
     ensures some { IfSome result (IsFirstPlace files.now name.now) }
-    ensures none { IfNone result (found_in files.now name.now ≡ None) }
+    ensures none { IfNone result (file_found_in files.now name.now ≡ None) }
 {
     for (place, file) in files.iter().enumerate() {
         if is_named(file, name) {
@@ -204,7 +208,8 @@ impl MemStore {
         }
     }
 
-    /// Makes a file hold these bytes, and is no call that is counted. After a refusal all files stay.
+    /// Makes a file hold these bytes, and is no call that is counted. After a refusal all files
+    /// stay.
     pub fn put(&mut self, alloc: Global, name: &str, bytes: &[u8]) -> Result<(), OutOfMemory>
         ensures ok { OnOk result
             (self.new ≡ record self.old { files = map.insert self.old.files name.now bytes.now }) }

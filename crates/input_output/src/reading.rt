@@ -37,7 +37,8 @@ fn buffer_for(alloc: Global, limit: usize) -> Result<Vec<u8>, label_base::OutOfM
 }
 
 /// Reads a source to its end, if it has at most `limit` bytes. At most `limit + 1` bytes are taken,
-/// and the answer is `TooLong` where that many were. After a fault the bytes that were taken are lost.
+/// and the answer is `TooLong` where that many were. After a fault the bytes that were taken are
+/// lost.
 pub fn read_all<I: Source>(alloc: Global, source: &mut I, limit: usize) -> Result<Bytes, AllFault>
     requires { limit < 2 ^ 64 - 1 }
     ensures bytes { AllTaken (I.left source.old) (I.left source.new) limit result }

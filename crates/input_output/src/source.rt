@@ -1,5 +1,5 @@
 ghost use Rattle.std.specs.Prelude.{◌≡◌, ◌<◌, ◌≤◌, IfOk, List, ℕ, Option, None, length};
-ghost use Rattle.input_output.specs.Source.{Takes, TakeCounts};
+ghost use Rattle.input_output.specs.Source.{TakesInput, TakeCounts};
 
 use std::io;
 use std::io::{ErrorKind, Read};
@@ -30,7 +30,7 @@ pub trait Source {
     /// Takes some bytes from the front of what is left into the front of the buffer.
     fn read(&mut self, buf: &mut [u8]) -> Take
         requires { 0 < length buf.old }
-        ensures took { Takes (left self.old) (left self.new) result buf.new }
+        ensures took { TakesInput (left self.old) (left self.new) result buf.new }
         ensures counts { TakeCounts (faults self.old) (faults self.new) result };
 }
 
@@ -50,8 +50,8 @@ fn read_again<R: Read>(inner: &mut R, buf: &mut [u8]) -> io::Result<usize>
     inner.read(buf)
 }
 
-/// A source over any reader. It tells no content, and counts each error. A read that a signal interrupts
-/// is none.
+/// A source over any reader. It tells no content, and counts each error. A read that a signal
+/// interrupts is none.
 #[derive(Drop)]
 pub struct ReadSource<R> {
     inner: R,

@@ -1,5 +1,6 @@
 ghost use Rattle.std.specs.Prelude.{◌≡◌, ◌≤◌, IfOk, length, ℕ, Option};
-ghost use Rattle.input_output.specs.Store.{Calls, FileCounts, FileTold, Files, SaveCounts, SaveTold};
+ghost use Rattle.input_output.specs.Store.{Calls, FileCounts, FileTold, Files, SaveCounts};
+ghost use Rattle.input_output.specs.Store.{SaveTold};
 
 use label_base::Bytes;
 use std::alloc::Global;
@@ -37,8 +38,8 @@ pub trait Store {
     /// How often a write has failed. The count never falls, and stands still at its last value.
     ghost write_faults: { Self → ℕ };
 
-    /// How many reads and writes it was asked for, where the store tells it. The count never falls, and
-    /// stands still at its last value.
+    /// How many reads and writes it was asked for, where the store tells it. The count never falls,
+    /// and stands still at its last value.
     ghost calls: { Self → Option ℕ };
 
     /// The whole content of a file of at most `limit` bytes.

@@ -11,11 +11,15 @@ use Rattle.run_input.proofs.ReadsLemmas.{all_some, no_calls}
 no_more : (old : Option ℕ) (most : ℕ) → CallsUpTo old old most
 no_more old most = (0, omega arith, no_calls old)
 
-module _ {S : Type 0} (files : S → Option Files) (calls : S → Option ℕ) (read_faults write_faults : S → ℕ) where
-  pub unopened : {V : Type 0} (meant : Files → FilesSay V) (store : S) (result : Result V Cause) → IsErrAnd result (λ told. told ≡ OutOfMemory) → Reads files calls read_faults write_faults meant store store result
+module _ {S : Type 0} (files : S → Option Files) (calls : S → Option ℕ)
+    (read_faults write_faults : S → ℕ) where
+  pub unopened : {V : Type 0} (meant : Files → FilesSay V) (store : S) (result : Result V Cause)
+      → IsErrAnd result (λ told. told ≡ OutOfMemory) → Reads files calls read_faults write_faults
+      meant store store result
   unopened meant store (Ok value) is = absurd is
   unopened meant store (Err told) is =
-      let forgotten : Reads files calls read_faults write_faults meant store store (Err OutOfMemory) = record {
+      let forgotten : Reads files calls read_faults write_faults meant store store
+      (Err OutOfMemory) = record {
         same = refl;
         unwritten = refl;
         gives = all_some (files store) (λ fs. tt);
@@ -23,4 +27,5 @@ module _ {S : Type 0} (files : S → Option Files) (calls : S → Option ℕ) (r
         counts = refl;
         kinds = tt;
       } in
-      subst (λ (k : Cause). Reads files calls read_faults write_faults meant store store (Err k)) (sym is) forgotten
+      subst (λ (k : Cause). Reads files calls read_faults write_faults meant store store (Err k))
+      (sym is) forgotten

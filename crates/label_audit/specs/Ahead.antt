@@ -1,10 +1,10 @@
 -- How far one has looked ahead for labels that change.
 use Rattle.std.specs.Prelude.{◌≡◌, ℕ, ◌<◌, ◌≤◌, false}
 use Rattle.relabel_core.specs.Walk.{Walk, is_changed_name}
-use Rattle.label_audit.specs.Skipping.{Covers}
+use Rattle.label_audit.specs.Skipping.{SkipEndsAt}
 use Rattle.label_audit.specs.declared.ahead.Ahead.{Ahead}
 
 -- from the entry d on no name of a group whose label changes was met
 pub record IsAhead (w : Walk) (d : ℕ) (ahead : Ahead) : Type 0 where
-  pub covers : Covers w ahead.clear ahead.end
+  pub covers : SkipEndsAt w ahead.clear ahead.end
   pub clear : (e : ℕ) → d ≤ e → e < ahead.clear → is_changed_name w e ≡ false

@@ -18,4 +18,5 @@ finding_by None None = Agrees
 unfoldable pub finding_of : Walk → List Path → (absent : List ℕ) → (report : List ℕ)
     → (dump : Option (List ℕ)) → Finding
 finding_of w operands absent report dump =
-    finding_by (differing (report_pieces w operands absent) report) (differing_in (dump_pieces w) dump)
+    finding_by (differing (report_pieces w operands absent) report)
+    (differing_in (dump_pieces w) dump)

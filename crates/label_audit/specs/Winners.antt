@@ -19,5 +19,5 @@ winner_if w e =
     if is_wanted w e then record { name = Some e; decided = deciding w e } else no_winner
 
 -- what is kept of groups is right
-abbrev pub AreWinners : Walk → BTreeMap ℕ Winner → Type 0
-AreWinners w kept = (g : ℕ) → IfSome (get nat_cmp kept g) (IsWinner w g)
+abbrev pub AreWinnersKept : Walk → BTreeMap ℕ Winner → Type 0
+AreWinnersKept w kept = (g : ℕ) → IfSome (get nat_cmp kept g) (IsWinner w g)

@@ -3,7 +3,8 @@ use Rattle.std.specs.Prelude.{ℕ, ◌+◌, List, [], ◌∷◌, Result, Ok, Err
 use Rattle.label_base.specs.Text.{is_nonempty, same_bytes}
 use Rattle.tool_words.specs.Words.{usage}
 use Rattle.tool_words.specs.declared.usage.Usage.{Usage}
-use Rattle.tool_words.specs.declared.usage.UsageWhy.TheVariants.{BadPath, MissingOperand, UnknownTool}
+use Rattle.tool_words.specs.declared.usage.UsageWhy.TheVariants.{BadPath, MissingOperand}
+use Rattle.tool_words.specs.declared.usage.UsageWhy.TheVariants.{UnknownTool}
 use Rattle.tree_relabelling.specs.Words.{restorecon_words, setfiles_words}
 use Rattle.tree_relabelling.specs.declared.TheConstants.{RESTORECON, SETFILES}
 use Rattle.tree_relabelling.specs.declared.words.RelabelWords.{RelabelWords}

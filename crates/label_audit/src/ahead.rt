@@ -1,10 +1,10 @@
 ghost use Rattle.std.specs.Prelude.{◌≡◌, ℕ, ◌+◌, ◌<◌, ◌≤◌, ◌&&◌, IfOk, OnOk, nat_le, nat_lt};
 ghost use Rattle.tree_model.specs.Extents.{in_extent};
-ghost use Rattle.relabel_core.specs.Walk.{Walk, count, has_changed_name, is_changed_name};
+ghost use Rattle.relabel_core.specs.Walk.{Walk, walk_count, has_changed_name, is_changed_name};
 ghost use Rattle.relabel_core.specs.Walked.{IsFit, walk_of};
 ghost use Rattle.label_audit.specs.Ahead.{IsAhead};
 ghost use Rattle.label_audit.specs.Looking.{AreReady};
-ghost use Rattle.label_audit.specs.Skipping.{Covers};
+ghost use Rattle.label_audit.specs.Skipping.{SkipEndsAt};
 
 use crate::looking::{LookUps, decide_at, known_of, skip_at};
 use label_base::{OutOfMemory, Steps};
@@ -12,13 +12,14 @@ use relabel_core::WalkInput;
 use std::alloc::Global;
 use std::sync::ledger::Ledger;
 
-/// How far one has looked ahead: from the entry that is audited to `clear`, none is a name of a group
-/// whose label changes. So each entry is looked at ahead about once, however deep directories stand.
+/// How far one has looked ahead: from the entry that is audited to `clear`, none is a name of a
+/// group whose label changes. So each entry is looked at ahead about once, however deep directories
+/// stand.
 #[derive(Clone, Copy)]
 pub struct Ahead {
     clear: u32,
-    // Of the entries from there on, those before this index are below a directory before them that is
-    // skipped.
+    // Of the entries from there on, those before this index are below a directory before them that
+    // is skipped.
     end: u32,
 }
 
@@ -32,7 +33,8 @@ impl Ahead {
 
     // From an entry on, where one has looked less far.
     fn from(&self, d: u32, end: u32) -> Ahead
-        ensures ahead { (w : Walk) → IsAhead w d self.now → Covers w d end → IsAhead w d result }
+        ensures ahead { (w : Walk) → IsAhead w d self.now → SkipEndsAt w d end
+            → IsAhead w d result }
         ensures from { d ≤ result.clear }
     {
         if self.clear < d {
@@ -60,13 +62,13 @@ fn look_over<L: Ledger>(
     steps: &mut Steps<L>,
 ) -> Result<Seen, OutOfMemory>
     requires fit { IsFit input.now }
-    requires entry { e < count (walk_of input.now) }
-    requires covers { Covers (walk_of input.now) e end }
+    requires entry { e < walk_count (walk_of input.now) }
+    requires covers { SkipEndsAt (walk_of input.now) e end }
     requires ready { AreReady (walk_of input.now) lookups.old }
     ensures ready { OnOk result (AreReady (walk_of input.now) lookups.new) }
     ensures changed { IfOk result (λ seen.
         seen.changed ≡ is_changed_name (walk_of input.now) e) }
-    ensures covers { IfOk result (λ seen. Covers (walk_of input.now) (e + 1) seen.end) }
+    ensures covers { IfOk result (λ seen. SkipEndsAt (walk_of input.now) (e + 1) seen.end) }
 {
     let found = skip_at(alloc, input, e, end, lookups)?;
     let decided = decide_at(alloc, input, e, found.skip, lookups, steps)?;
@@ -77,8 +79,8 @@ fn look_over<L: Ledger>(
     })
 }
 
-// Looks on up to the end of a directory's extent, from the directory on: whether an entry there is a
-// name of a group whose label changes.
+// Looks on up to the end of a directory's extent, from the directory on: whether an entry there is
+// a name of a group whose label changes.
 #[tactic(auto, using(crate::proofs::AheadLemmas::ahead_more, crate::proofs::AheadLemmas::found_changed, crate::proofs::AheadLemmas::none_changed))]
 fn look_on<L: Ledger>(
     alloc: Global,
@@ -90,9 +92,9 @@ fn look_on<L: Ledger>(
     steps: &mut Steps<L>,
 ) -> Result<bool, OutOfMemory>
     requires fit { IsFit input.now }
-    requires entry { d < count (walk_of input.now) }
-    requires within { stop ≤ count (walk_of input.now) }
-    requires run { (e : ℕ) → e < count (walk_of input.now)
+    requires entry { d < walk_count (walk_of input.now) }
+    requires within { stop ≤ walk_count (walk_of input.now) }
+    requires run { (e : ℕ) → e < walk_count (walk_of input.now)
         → in_extent input.now.tree.now d e ≡ (nat_le d e && nat_lt e stop) }
     requires ready { AreReady (walk_of input.now) lookups.old }
     requires ahead { IsAhead (walk_of input.now) d ahead.old }
@@ -114,8 +116,8 @@ fn look_on<L: Ledger>(
     Ok(false)
 }
 
-/// Whether an entry at or below a directory is a name of a group whose label changes. Of the entries
-/// from the directory on, those before `end` are below one before it that is skipped.
+/// Whether an entry at or below a directory is a name of a group whose label changes. Of the
+/// entries from the directory on, those before `end` are below one before it that is skipped.
 pub fn has_changed<L: Ledger>(
     alloc: Global,
     input: &WalkInput<'_>,
@@ -126,8 +128,8 @@ pub fn has_changed<L: Ledger>(
     steps: &mut Steps<L>,
 ) -> Result<bool, OutOfMemory>
     requires fit { IsFit input.now }
-    requires entry { d < count (walk_of input.now) }
-    requires covers { Covers (walk_of input.now) d end }
+    requires entry { d < walk_count (walk_of input.now) }
+    requires covers { SkipEndsAt (walk_of input.now) d end }
     requires ready { AreReady (walk_of input.now) lookups.old }
     requires ahead { IsAhead (walk_of input.now) d ahead.old }
     ensures ready { OnOk result (AreReady (walk_of input.now) lookups.new) }

@@ -1,12 +1,13 @@
 ghost use Rattle.std.specs.Prelude.{◌≡◌, ◌++◌, ◌<◌, ◌+◌, ◌^◌, IfOk, OnOk, length, slice_get};
 ghost use Rattle.std.specs.Option.{option_copied};
 ghost use Rattle.file_paths.specs.PathRef.{path_of};
-ghost use Rattle.find_records.specs.Record.{AreOf};
+ghost use Rattle.find_records.specs.Record.{AreOfFormat};
 ghost use Rattle.report_text.specs.Texts.{shown_path};
 ghost use Rattle.tree_model.specs.Selection.{selected_by};
 ghost use Rattle.relabel_core.specs.Stored.{digests_of};
 ghost use Rattle.relabel_core.specs.Walked.{IsFit, walk_for, walk_of};
-ghost use Rattle.label_audit.specs.Answer.{answer_of, ending_of, finding_end, finding_line, finding_text, pattern_of, piece_text};
+ghost use Rattle.label_audit.specs.Answer.{audit_of, audit_ending, finding_end, finding_line};
+ghost use Rattle.label_audit.specs.Answer.{finding_text, pattern_text, audit_piece_text};
 
 use crate::auditing::audit;
 use crate::entries::entry_path;
@@ -51,7 +52,7 @@ fn add_operand(alloc: Global, path: &PathRef<'_>, text: &mut Bytes) -> Result<()
 
 // Adds the text of a specification's pattern.
 fn add_pattern(rules: &Rules, i: u32, text: &mut Bytes) -> Result<(), OutOfMemory>
-    ensures { OnOk result (text.new ≡ text.old ++ pattern_of (slice_get rules.now.rules i)) }
+    ensures { OnOk result (text.new ≡ text.old ++ pattern_text (slice_get rules.now.rules i)) }
 {
     match spec_at(rules, Some(i)) {
         None => Ok(()),
@@ -61,7 +62,7 @@ fn add_pattern(rules: &Rules, i: u32, text: &mut Bytes) -> Result<(), OutOfMemor
 
 fn add_spec(rules: &Rules, i: u32, text: &mut Bytes) -> Result<(), OutOfMemory>
     ensures { OnOk result (text.new
-        ≡ text.old ++ (SPECIFICATION.now ++ pattern_of (slice_get rules.now.rules i))) }
+        ≡ text.old ++ (SPECIFICATION.now ++ pattern_text (slice_get rules.now.rules i))) }
 {
     text.push(SPECIFICATION.as_bytes())?;
     add_pattern(rules, i, text)
@@ -74,7 +75,7 @@ fn add_piece(
     text: &mut Bytes,
 ) -> Result<(), OutOfMemory>
     ensures { OnOk result (text.new
-        ≡ text.old ++ piece_text (walk_of input.now) input.now.operands.now piece) }
+        ≡ text.old ++ audit_piece_text (walk_of input.now) input.now.operands.now piece) }
 {
     match piece {
         Piece::Operand(i) => { add_operand(alloc, &operand_at(input.operands.as_slice(), i), text) }
@@ -93,7 +94,7 @@ fn add_difference(
     text: &mut Bytes,
 ) -> Result<(), OutOfMemory>
     ensures { OnOk result (text.new ≡ text.old
-        ++ (words.now ++ piece_text (walk_of input.now) input.now.operands.now piece)) }
+        ++ (words.now ++ audit_piece_text (walk_of input.now) input.now.operands.now piece)) }
 {
     text.push(words.as_bytes())?;
     add_piece(alloc, input, piece, text)
@@ -156,7 +157,7 @@ fn ending_over(
     found: &AuditFiles,
 ) -> Result<Ending, OutOfMemory>
     requires { IsFit input.now }
-    ensures { IfOk result (λ ending. ending ≡ ending_of (walk_of input.now)
+    ensures { IfOk result (λ ending. ending ≡ audit_ending (walk_of input.now)
         input.now.operands.now input.now.chosen.now.absent found.now) }
 {
     let finding = audit(alloc, input, found.report.as_slice(), dump_of(&found.dump))?;
@@ -177,9 +178,9 @@ fn ending_stored(
 ) -> Result<Ending, OutOfMemory>
     requires tree { length tree.now < 2 ^ 31 }
     requires words { length words.now.inner.choice.operands < 2 ^ 31 }
-    requires format { AreOf words.now.inner.options.format tree.now }
+    requires format { AreOfFormat words.now.inner.options.format tree.now }
     ensures { IfOk result (λ ending. ending
-        ≡ ending_of (walk_for tree.now words.now.inner.choice found.now.run.rules
+        ≡ audit_ending (walk_for tree.now words.now.inner.choice found.now.run.rules
         words.now.inner.options (digests_of stored.now)) words.now.inner.choice.operands
         (selected_by words.now.inner.choice tree.now).absent found.now) }
 {
@@ -206,8 +207,8 @@ pub fn answer_of(
 ) -> Result<Ending, OutOfMemory>
     requires tree { length tree.now < 2 ^ 31 }
     requires words { length words.now.inner.choice.operands < 2 ^ 31 }
-    requires format { AreOf words.now.inner.options.format tree.now }
-    ensures { IfOk result (λ ending. ending ≡ answer_of words.now found.now tree.now) }
+    requires format { AreOfFormat words.now.inner.options.format tree.now }
+    ensures { IfOk result (λ ending. ending ≡ audit_of words.now found.now tree.now) }
 {
     let stored = Stored::new(alloc, tree, &found.run.stored)?;
     ending_stored(alloc, words, found, tree, &stored)

@@ -3,10 +3,10 @@ ghost use Rattle.std.specs.Option.{option_copied};
 ghost use Rattle.relabel_core.specs.Report.{AreRaised};
 ghost use Rattle.relabel_core.specs.Walked.{IsFit, walk_of};
 ghost use Rattle.label_audit.specs.Ahead.{IsAhead};
-ghost use Rattle.label_audit.specs.Compared.{IsOpened, behind, behind_of};
+ghost use Rattle.label_audit.specs.Compared.{IsOpened, next_behind, behind_of};
 ghost use Rattle.label_audit.specs.Finding.{finding_by, finding_of};
 ghost use Rattle.label_audit.specs.Looking.{AreReady};
-ghost use Rattle.label_audit.specs.Pieces.{Placed, differing_in, dump_pieces, report_pieces};
+ghost use Rattle.label_audit.specs.Pieces.{PlacedPiece, differing_in, dump_pieces, report_pieces};
 
 use crate::ahead::Ahead;
 use crate::compared::Compared;
@@ -21,7 +21,7 @@ use std::marker::Brand;
 use std::sync::ledger::{Blank, Ledger};
 
 fn dump_of<'f>(dump: Option<&'f [u8]>) -> Option<Compared<'f>>
-    ensures { (pieces : List Placed)
+    ensures { (pieces : List PlacedPiece)
         → behind_of result pieces ≡ differing_in pieces (option_copied dump.entry) }
 {
     match dump {
@@ -67,8 +67,8 @@ fn compare_all<L: Ledger>(
     requires ready { AreReady (walk_of input.now) lookups.old }
     requires ahead { IsAhead (walk_of input.now) 0 audit.old.ahead }
     requires flags { AreRaised (walk_of input.now) 0 audit.old.flags.items }
-    ensures report { OnOk result (behind audit.new.report []
-        ≡ behind audit.old.report (report_pieces (walk_of input.now) input.now.operands.now
+    ensures report { OnOk result (next_behind audit.new.report []
+        ≡ next_behind audit.old.report (report_pieces (walk_of input.now) input.now.operands.now
         input.now.chosen.now.absent)) }
     ensures dump { OnOk result (behind_of audit.new.dump []
         ≡ behind_of audit.old.dump (dump_pieces (walk_of input.now))) }
@@ -125,10 +125,10 @@ fn audit_by(
     Ok(finding_by(audit.report.end(), end_of(&audit.dump)))
 }
 
-/// Compares a report, and a dump where there is one, with those of a walk, piece by piece: it answers
-/// the first piece of the report that doesn't stand where those before it end, else the same of the
-/// dump. It takes memory for the piece at hand, and for the winner of each inode whose first name isn't
-/// it.
+/// Compares a report, and a dump where there is one, with those of a walk, piece by piece: it
+/// answers the first piece of the report that doesn't stand where those before it end, else the
+/// same of the dump. It takes memory for the piece at hand, and for the winner of each inode whose
+/// first name isn't it.
 pub fn audit(
     alloc: Global,
     input: &WalkInput<'_>,

@@ -1,11 +1,11 @@
 ghost use Rattle.std.specs.Prelude.{◌≡◌, ◌∷◌, [], List, is_some};
-ghost use Rattle.label_audit.specs.Compared.{behind};
-ghost use Rattle.label_audit.specs.Pieces.{Placed, differing, placed};
+ghost use Rattle.label_audit.specs.Compared.{next_behind};
+ghost use Rattle.label_audit.specs.Pieces.{PlacedPiece, differing, piece_placed};
 
 use run_faults::Piece;
 
-/// A file that is compared with pieces, one after the other: the bytes behind those that stood, and the
-/// first that didn't.
+/// A file that is compared with pieces, one after the other: the bytes behind those that stood, and
+/// the first that didn't.
 #[derive(Clone, Copy)]
 pub struct Compared<'f> {
     left: &'f [u8],
@@ -15,7 +15,8 @@ pub struct Compared<'f> {
 impl<'f> Compared<'f> {
     /// A file of these bytes, before its first piece.
     pub fn new(bytes: &'f [u8]) -> Compared<'f>
-        ensures { (pieces : List Placed) → behind result pieces ≡ differing pieces bytes.now }
+        ensures { (pieces : List PlacedPiece) → next_behind result pieces ≡ differing pieces
+            bytes.now }
     {
         Compared {
             left: bytes,
@@ -32,8 +33,9 @@ impl<'f> Compared<'f> {
 
     /// Compares the next piece, unless one before it didn't stand.
     pub fn compare(&mut self, piece: Piece, text: &[u8])
-        ensures { (pieces : List Placed)
-            → behind self.new pieces ≡ behind self.old (placed piece text.now ∷ pieces) }
+        ensures { (pieces : List PlacedPiece)
+            → next_behind self.new pieces ≡ next_behind self.old
+            (piece_placed piece text.now ∷ pieces) }
     {
         if self.differs.is_some() {
             return;
@@ -44,9 +46,10 @@ impl<'f> Compared<'f> {
         }
     }
 
-    /// The first piece that didn't stand, where all were compared: it is the end where bytes are left.
+    /// The first piece that didn't stand, where all were compared: it is the end where bytes are
+    /// left.
     pub fn end(&self) -> Option<Piece>
-        ensures { result ≡ behind self.now [] }
+        ensures { result ≡ next_behind self.now [] }
     {
         if self.differs.is_some() {
             return self.differs;

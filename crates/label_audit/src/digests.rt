@@ -1,11 +1,11 @@
 ghost use Rattle.std.specs.Prelude.{◌≡◌, ◌<◌, ◌&&◌, IfOk, OnOk, None, is_some, not};
 ghost use Rattle.relabel_core.specs.Changes.{digest_change};
 ghost use Rattle.relabel_core.specs.Passed.{renewal};
-ghost use Rattle.relabel_core.specs.Walk.{count};
+ghost use Rattle.relabel_core.specs.Walk.{walk_count};
 ghost use Rattle.relabel_core.specs.Walked.{IsFit, walk_of};
 ghost use Rattle.label_audit.specs.Ahead.{IsAhead};
 ghost use Rattle.label_audit.specs.Looking.{AreReady};
-ghost use Rattle.label_audit.specs.Skipping.{Covers};
+ghost use Rattle.label_audit.specs.Skipping.{SkipEndsAt};
 
 use crate::ahead::{Ahead, has_changed};
 use crate::looking::LookUps;
@@ -22,8 +22,8 @@ fn may_change(input: &WalkInput<'_>, e: u32) -> bool
     !input.options.dry && input.stored.get(e).is_some()
 }
 
-// The digest to which that of an entry changes that isn't made anew. One looks ahead only where one is
-// stored.
+// The digest to which that of an entry changes that isn't made anew. One looks ahead only where one
+// is stored.
 fn digest_voided<L: Ledger>(
     alloc: Global,
     input: &WalkInput<'_>,
@@ -34,8 +34,8 @@ fn digest_voided<L: Ledger>(
     steps: &mut Steps<L>,
 ) -> Result<Option<Digest>, OutOfMemory>
     requires fit { IsFit input.now }
-    requires entry { e < count (walk_of input.now) }
-    requires covers { Covers (walk_of input.now) e end }
+    requires entry { e < walk_count (walk_of input.now) }
+    requires covers { SkipEndsAt (walk_of input.now) e end }
     requires renewed { None ≡ renewal (walk_of input.now) e }
     requires ready { AreReady (walk_of input.now) lookups.old }
     requires ahead { IsAhead (walk_of input.now) e ahead.old }
@@ -50,8 +50,8 @@ fn digest_voided<L: Ledger>(
     Ok(digest_change(input, e, None, changed))
 }
 
-/// The digest to which that of an entry changes, which gets this one anew. Of the entries from it on,
-/// those before `end` are below a directory before it that is skipped.
+/// The digest to which that of an entry changes, which gets this one anew. Of the entries from it
+/// on, those before `end` are below a directory before it that is skipped.
 pub fn digest_at<L: Ledger>(
     alloc: Global,
     input: &WalkInput<'_>,
@@ -63,8 +63,8 @@ pub fn digest_at<L: Ledger>(
     steps: &mut Steps<L>,
 ) -> Result<Option<Digest>, OutOfMemory>
     requires fit { IsFit input.now }
-    requires entry { e < count (walk_of input.now) }
-    requires covers { Covers (walk_of input.now) e end }
+    requires entry { e < walk_count (walk_of input.now) }
+    requires covers { SkipEndsAt (walk_of input.now) e end }
     requires renewed { renewed ≡ renewal (walk_of input.now) e }
     requires ready { AreReady (walk_of input.now) lookups.old }
     requires ahead { IsAhead (walk_of input.now) e ahead.old }

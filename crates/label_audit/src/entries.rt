@@ -2,17 +2,19 @@ ghost use Rattle.std.specs.Prelude.{◌≡◌, ◌+◌, ◌++◌, ◌∷◌, ◌
 ghost use Rattle.context_syntax.specs.ContextRef.{context_lent};
 ghost use Rattle.file_paths.specs.PathRef.{path_of};
 ghost use Rattle.tree_model.specs.Extents.{entry_at};
-ghost use Rattle.relabel_core.specs.Changes.{change_at, digest_change, optional_section, section_at};
+ghost use Rattle.relabel_core.specs.Changes.{change_at, digest_change, optional_section};
+ghost use Rattle.relabel_core.specs.Changes.{section_at};
 ghost use Rattle.relabel_core.specs.KnownEntry.{index_known, walk_known};
 ghost use Rattle.relabel_core.specs.Passed.{renewal};
 ghost use Rattle.relabel_core.specs.Report.{AreRaised};
-ghost use Rattle.relabel_core.specs.Walk.{count};
+ghost use Rattle.relabel_core.specs.Walk.{walk_count};
 ghost use Rattle.relabel_core.specs.Walked.{IsFit, walk_of};
 ghost use Rattle.label_audit.specs.Ahead.{IsAhead};
-ghost use Rattle.label_audit.specs.Compared.{behind, behind_of, is_open};
+ghost use Rattle.label_audit.specs.Compared.{next_behind, behind_of, is_compared_open};
 ghost use Rattle.label_audit.specs.Looking.{AreReady};
-ghost use Rattle.label_audit.specs.Pieces.{Placed, dump_pieces, entry_piece, entry_pieces, placed, section_piece};
-ghost use Rattle.label_audit.specs.Skipping.{Covers};
+ghost use Rattle.label_audit.specs.Pieces.{PlacedPiece, dump_pieces, entry_piece, entry_pieces};
+ghost use Rattle.label_audit.specs.Pieces.{piece_placed, section_piece};
+ghost use Rattle.label_audit.specs.Skipping.{SkipEndsAt};
 
 use crate::ahead::Ahead;
 use crate::compared::Compared;
@@ -58,8 +60,9 @@ fn compare_line(
     report: &mut Compared<'_>,
 ) -> Result<(), OutOfMemory>
     requires { index_known known.now ≡ e }
-    ensures { OnOk result ((rest : List Placed)
-        → behind report.new rest ≡ behind report.old (entry_piece (walk_known known.now) e ∷ rest)) }
+    ensures { OnOk result ((rest : List PlacedPiece)
+        → next_behind report.new rest ≡ next_behind report.old
+        (entry_piece (walk_known known.now) e ∷ rest)) }
 {
     make_line(alloc, &known.message(), piece)?;
     report.compare(Piece::Entry(e), piece.as_slice());
@@ -104,7 +107,7 @@ fn make_section(
 
 // Whether there is a dump, all pieces of which stood so far.
 fn is_open(dump: &Option<Compared<'_>>) -> bool
-    ensures { result ≡ is_open dump.now }
+    ensures { result ≡ is_compared_open dump.now }
 {
     match dump {
         None => false,
@@ -114,8 +117,8 @@ fn is_open(dump: &Option<Compared<'_>>) -> bool
 
 // Compares a piece with the dump, where there is one.
 fn compare_dump(dump: &mut Option<Compared<'_>>, piece: Piece, text: &[u8])
-    ensures { (rest : List Placed)
-        → behind_of dump.new rest ≡ behind_of dump.old (placed piece text.now ∷ rest) }
+    ensures { (rest : List PlacedPiece)
+        → behind_of dump.new rest ≡ behind_of dump.old (piece_placed piece text.now ∷ rest) }
 {
     match dump {
         None => {}
@@ -138,8 +141,8 @@ fn compare_section<L: Ledger>(
     steps: &mut Steps<L>,
 ) -> Result<(), OutOfMemory>
     requires fit { IsFit input.now }
-    requires entry { e < count (walk_of input.now) }
-    requires covers { Covers (walk_of input.now) e end }
+    requires entry { e < walk_count (walk_of input.now) }
+    requires covers { SkipEndsAt (walk_of input.now) e end }
     requires walk { walk_known known.now ≡ walk_of input.now }
     requires index { index_known known.now ≡ e }
     requires renewed { renewed ≡ renewal (walk_of input.now) e }
@@ -147,7 +150,7 @@ fn compare_section<L: Ledger>(
     requires ahead { IsAhead (walk_of input.now) e audit.old.ahead }
     ensures ready { OnOk result (AreReady (walk_of input.now) lookups.new) }
     ensures ahead { OnOk result (IsAhead (walk_of input.now) e audit.new.ahead) }
-    ensures dump { OnOk result ((rest : List Placed) → behind_of audit.new.dump rest
+    ensures dump { OnOk result ((rest : List PlacedPiece) → behind_of audit.new.dump rest
         ≡ behind_of audit.old.dump (section_piece (walk_of input.now) e ∷ rest)) }
     ensures report { audit.new.report ≡ audit.old.report }
     ensures flags { audit.new.flags ≡ audit.old.flags }
@@ -175,8 +178,8 @@ fn compare_section<L: Ledger>(
     Ok(())
 }
 
-// Compares the line and the section of an entry. Of the entries from it on, those before `end` are below
-// a directory before it that is skipped; it answers the same for the next one.
+// Compares the line and the section of an entry. Of the entries from it on, those before `end` are
+// below a directory before it that is skipped; it answers the same for the next one.
 #[tactic(auto, using(crate::proofs::AheadLemmas::ahead_on, crate::proofs::CompareLemmas::raised_more))]
 fn audit_entry<L: Ledger>(
     alloc: Global,
@@ -188,18 +191,18 @@ fn audit_entry<L: Ledger>(
     steps: &mut Steps<L>,
 ) -> Result<u32, OutOfMemory>
     requires fit { IsFit input.now }
-    requires entry { e < count (walk_of input.now) }
-    requires covers { Covers (walk_of input.now) e end }
+    requires entry { e < walk_count (walk_of input.now) }
+    requires covers { SkipEndsAt (walk_of input.now) e end }
     requires ready { AreReady (walk_of input.now) lookups.old }
     requires ahead { IsAhead (walk_of input.now) e audit.old.ahead }
     requires flags { AreRaised (walk_of input.now) e audit.old.flags.items }
     ensures ready { OnOk result (AreReady (walk_of input.now) lookups.new) }
-    ensures covers { IfOk result (λ end. Covers (walk_of input.now) (e + 1) end) }
+    ensures covers { IfOk result (λ end. SkipEndsAt (walk_of input.now) (e + 1) end) }
     ensures ahead { OnOk result (IsAhead (walk_of input.now) (e + 1) audit.new.ahead) }
     ensures flags { OnOk result (AreRaised (walk_of input.now) (e + 1) audit.new.flags.items) }
-    ensures report { OnOk result ((rest : List Placed) → behind audit.new.report rest
-        ≡ behind audit.old.report (entry_piece (walk_of input.now) e ∷ rest)) }
-    ensures dump { OnOk result ((rest : List Placed) → behind_of audit.new.dump rest
+    ensures report { OnOk result ((rest : List PlacedPiece) → next_behind audit.new.report rest
+        ≡ next_behind audit.old.report (entry_piece (walk_of input.now) e ∷ rest)) }
+    ensures dump { OnOk result ((rest : List PlacedPiece) → behind_of audit.new.dump rest
         ≡ behind_of audit.old.dump (section_piece (walk_of input.now) e ∷ rest)) }
 {
     let found = skip_at(alloc, input, e, end, lookups)?;
@@ -233,11 +236,11 @@ pub fn audit_entries<L: Ledger>(
     requires ready { AreReady (walk_of input.now) lookups.old }
     requires ahead { IsAhead (walk_of input.now) 0 audit.old.ahead }
     requires flags { AreRaised (walk_of input.now) 0 audit.old.flags.items }
-    ensures flags { OnOk result (AreRaised (walk_of input.now) (count (walk_of input.now))
+    ensures flags { OnOk result (AreRaised (walk_of input.now) (walk_count (walk_of input.now))
         audit.new.flags.items) }
-    ensures report { OnOk result ((rest : List Placed) → behind audit.new.report rest
-        ≡ behind audit.old.report (entry_pieces (walk_of input.now) ++ rest)) }
-    ensures dump { OnOk result ((rest : List Placed) → behind_of audit.new.dump rest
+    ensures report { OnOk result ((rest : List PlacedPiece) → next_behind audit.new.report rest
+        ≡ next_behind audit.old.report (entry_pieces (walk_of input.now) ++ rest)) }
+    ensures dump { OnOk result ((rest : List PlacedPiece) → behind_of audit.new.dump rest
         ≡ behind_of audit.old.dump (dump_pieces (walk_of input.now) ++ rest)) }
 {
     let mut end = 0;

@@ -51,7 +51,8 @@ fn read_run<S: Store>(
 
 // Reads the file of the report.
 fn read_report<S: Store>(alloc: Global, list: &FileList, store: &mut S) -> Result<Bytes, Cause>
-    ensures { Reads S.files S.calls S.read_faults S.write_faults (part_says list.now (role parts.Report 0))
+    ensures { Reads S.files S.calls S.read_faults S.write_faults
+        (part_says list.now (role parts.Report 0))
         store.old store.new result }
 {
     let role = FileRole {

@@ -2,10 +2,10 @@ ghost use Rattle.std.specs.Prelude.{◌≡◌, ◌++◌, ◌∷◌, List, OnOk, 
 ghost use Rattle.label_base.specs.Bounded.{all_numbers};
 ghost use Rattle.report_text.specs.Message.{message_of};
 ghost use Rattle.relabel_core.specs.Report.{AreRaised, optional_text};
-ghost use Rattle.relabel_core.specs.Walk.{count};
+ghost use Rattle.relabel_core.specs.Walk.{walk_count};
 ghost use Rattle.relabel_core.specs.Walked.{walk_of};
-ghost use Rattle.label_audit.specs.Compared.{behind, unflagged_piece};
-ghost use Rattle.label_audit.specs.Pieces.{Placed, operand_piece, operand_pieces, spec_pieces};
+ghost use Rattle.label_audit.specs.Compared.{next_behind, unflagged_piece};
+ghost use Rattle.label_audit.specs.Pieces.{PlacedPiece, operand_piece, operand_pieces, spec_pieces};
 
 use crate::compared::Compared;
 use file_paths::NormPath;
@@ -39,8 +39,9 @@ fn compare_operand(
     piece: &mut Bytes,
     report: &mut Compared<'_>,
 ) -> Result<(), OutOfMemory>
-    ensures { OnOk result ((rest : List Placed)
-        → behind report.new rest ≡ behind report.old (operand_piece operands.now i ∷ rest)) }
+    ensures { OnOk result ((rest : List PlacedPiece)
+        → next_behind report.new rest ≡ next_behind report.old
+        (operand_piece operands.now i ∷ rest)) }
 {
     let message = Message::Absent {
         path: operand_at(operands, i),
@@ -57,8 +58,8 @@ fn compare_absent(
     piece: &mut Bytes,
     report: &mut Compared<'_>,
 ) -> Result<(), OutOfMemory>
-    ensures { OnOk result ((rest : List Placed) → behind report.new rest
-        ≡ behind report.old (map (operand_piece operands.now) indices.now ++ rest)) }
+    ensures { OnOk result ((rest : List PlacedPiece) → next_behind report.new rest
+        ≡ next_behind report.old (map (operand_piece operands.now) indices.now ++ rest)) }
 {
     'operands: for i in indices {
         compare_operand(alloc, operands, *i, piece, report)?;
@@ -73,8 +74,8 @@ pub fn compare_operands(
     piece: &mut Bytes,
     report: &mut Compared<'_>,
 ) -> Result<(), OutOfMemory>
-    ensures { OnOk result ((rest : List Placed) → behind report.new rest
-        ≡ behind report.old (operand_pieces (walk_of input.now) input.now.operands.now
+    ensures { OnOk result ((rest : List PlacedPiece) → next_behind report.new rest
+        ≡ next_behind report.old (operand_pieces (walk_of input.now) input.now.operands.now
         input.now.chosen.now.absent ++ rest)) }
 {
     if input.options.ignore_absent {
@@ -98,8 +99,8 @@ fn compare_spec(
     piece: &mut Bytes,
     report: &mut Compared<'_>,
 ) -> Result<(), OutOfMemory>
-    ensures { OnOk result ((rest : List Placed) → behind report.new rest
-        ≡ behind report.old (unflagged_piece rules.now flags.now i ∷ rest)) }
+    ensures { OnOk result ((rest : List PlacedPiece) → next_behind report.new rest
+        ≡ next_behind report.old (unflagged_piece rules.now flags.now i ∷ rest)) }
 {
     make_line(alloc, &unflagged_line(rules, flags, i), piece)?;
     report.compare(Piece::Rule(i), piece.as_slice());
@@ -113,8 +114,8 @@ fn compare_unflagged(
     piece: &mut Bytes,
     report: &mut Compared<'_>,
 ) -> Result<(), OutOfMemory>
-    ensures { OnOk result ((rest : List Placed) → behind report.new rest
-        ≡ behind report.old (map (unflagged_piece rules.now flags.now)
+    ensures { OnOk result ((rest : List PlacedPiece) → next_behind report.new rest
+        ≡ next_behind report.old (map (unflagged_piece rules.now flags.now)
         (all_numbers (length rules.now.rules)) ++ rest)) }
 {
     'specs: for i in 0..rules.rules.len() {
@@ -132,9 +133,9 @@ pub fn compare_specs(
     piece: &mut Bytes,
     report: &mut Compared<'_>,
 ) -> Result<(), OutOfMemory>
-    requires { AreRaised (walk_of input.now) (count (walk_of input.now)) flags.now }
-    ensures { OnOk result ((rest : List Placed) → behind report.new rest
-        ≡ behind report.old (spec_pieces (walk_of input.now) ++ rest)) }
+    requires { AreRaised (walk_of input.now) (walk_count (walk_of input.now)) flags.now }
+    ensures { OnOk result ((rest : List PlacedPiece) → next_behind report.new rest
+        ≡ next_behind report.old (spec_pieces (walk_of input.now) ++ rest)) }
 {
     if !input.options.warn_unmatched {
         return Ok(());

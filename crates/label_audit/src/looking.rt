@@ -2,10 +2,10 @@ ghost use Rattle.std.specs.Prelude.{◌≡◌, ◌<◌, IfOk, OnOk};
 ghost use Rattle.tree_model.specs.Groups.{group_of};
 ghost use Rattle.relabel_core.specs.KnownEntry.{index_known, walk_known};
 ghost use Rattle.relabel_core.specs.Passed.{skip_of};
-ghost use Rattle.relabel_core.specs.Walk.{count, deciding, is_skipped};
+ghost use Rattle.relabel_core.specs.Walk.{walk_count, deciding, is_skipped};
 ghost use Rattle.relabel_core.specs.Walked.{IsFit, walk_of};
 ghost use Rattle.label_audit.specs.Looking.{AreReady};
-ghost use Rattle.label_audit.specs.Skipping.{Covers, IsSkipped};
+ghost use Rattle.label_audit.specs.Skipping.{SkipEndsAt, IsSkipped};
 ghost use Rattle.label_audit.specs.Winners.{IsWinner};
 
 use crate::skipping::{Skipped, skip_entry};
@@ -50,7 +50,7 @@ fn winner_unless<L: Ledger>(
     steps: &mut Steps<L>,
 ) -> Result<Winner, OutOfMemory>
     requires fit { IsFit input.now }
-    requires entry { e < count (walk_of input.now) }
+    requires entry { e < walk_count (walk_of input.now) }
     requires skipped { skipped ≡ is_skipped (walk_of input.now) e }
     requires decided { decided ≡ deciding (walk_of input.now) e }
     requires ready { AreReady (walk_of input.now) lookups.old }
@@ -83,7 +83,7 @@ pub fn known_of<'a, L: Ledger>(
     steps: &mut Steps<L>,
 ) -> Result<Known<'a>, OutOfMemory>
     requires fit { IsFit input.now }
-    requires entry { e < count (walk_of input.now) }
+    requires entry { e < walk_count (walk_of input.now) }
     requires skip { skip ≡ skip_of (walk_of input.now) e }
     requires decided { decided ≡ deciding (walk_of input.now) e }
     requires ready { AreReady (walk_of input.now) lookups.old }
@@ -105,7 +105,7 @@ pub fn decide_at<L: Ledger>(
     steps: &mut Steps<L>,
 ) -> Result<Option<u32>, OutOfMemory>
     requires fit { IsFit input.now }
-    requires entry { e < count (walk_of input.now) }
+    requires entry { e < walk_count (walk_of input.now) }
     requires skip { skip ≡ skip_of (walk_of input.now) e }
     requires ready { AreReady (walk_of input.now) lookups.old }
     ensures ready { OnOk result (AreReady (walk_of input.now) lookups.new) }
@@ -125,8 +125,8 @@ pub fn skip_at(
     lookups: &mut LookUps<'_>,
 ) -> Result<Skipped, OutOfMemory>
     requires fit { IsFit input.now }
-    requires entry { e < count (walk_of input.now) }
-    requires covers { Covers (walk_of input.now) e end }
+    requires entry { e < walk_count (walk_of input.now) }
+    requires covers { SkipEndsAt (walk_of input.now) e end }
     requires ready { AreReady (walk_of input.now) lookups.old }
     ensures ready { OnOk result (AreReady (walk_of input.now) lookups.new) }
     ensures found { IfOk result (IsSkipped (walk_of input.now) e) }

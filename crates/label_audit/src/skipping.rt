@@ -3,9 +3,9 @@ ghost use Rattle.dir_digest.specs.Listings.{terms_in};
 ghost use Rattle.spec_match.specs.Scratches.{IsScratchOf};
 ghost use Rattle.relabel_core.specs.Passed.{needed};
 ghost use Rattle.relabel_core.specs.Terms.{terms_by};
-ghost use Rattle.relabel_core.specs.Walk.{count, skippable};
+ghost use Rattle.relabel_core.specs.Walk.{walk_count, skippable};
 ghost use Rattle.relabel_core.specs.Walked.{IsFit, walk_of};
-ghost use Rattle.label_audit.specs.Skipping.{Covers, IsSkipped};
+ghost use Rattle.label_audit.specs.Skipping.{SkipEndsAt, IsSkipped};
 
 use dir_digest::{Digest, Listings};
 use label_base::OutOfMemory;
@@ -26,9 +26,9 @@ pub struct Skipped {
 // What is found of an entry that is below no directory that is skipped.
 fn skip_found(input: &WalkInput<'_>, e: u32, end: u32, found: &Finding) -> Skipped
     requires fit { IsFit input.now }
-    requires entry { e < count (walk_of input.now) }
+    requires entry { e < walk_count (walk_of input.now) }
     requires outside { end ≤ e }
-    requires covers { Covers (walk_of input.now) e end }
+    requires covers { SkipEndsAt (walk_of input.now) e end }
     requires digest { found.now.digest ≡ needed (walk_of input.now) e }
     requires skippable { found.now.skippable ≡ skippable (walk_of input.now) e }
     ensures { IsSkipped (walk_of input.now) e result }
@@ -58,8 +58,8 @@ pub fn skip_entry(
     buffers: &mut Buffers,
 ) -> Result<Skipped, OutOfMemory>
     requires fit { IsFit input.now }
-    requires entry { e < count (walk_of input.now) }
-    requires covers { Covers (walk_of input.now) e end }
+    requires entry { e < walk_count (walk_of input.now) }
+    requires covers { SkipEndsAt (walk_of input.now) e end }
     requires listings { terms_in listings.now ≡ terms_by input.now.rules.now input.now.options }
     requires own { IsScratchOf input.now.rules.now.rules buffers.old.scratch }
     ensures own { IsScratchOf input.now.rules.now.rules buffers.new.scratch }

@@ -1,5 +1,5 @@
 ghost use Rattle.std.specs.Prelude.{◌<◌, ◌^◌, IfOk, length};
-ghost use Rattle.find_records.specs.Record.{AreOf};
+ghost use Rattle.find_records.specs.Record.{AreOfFormat};
 ghost use Rattle.find_records.specs.declared.format.Format.TheVariants.{One};
 
 use crate::{AuditWords, Finding, Piece, audit, read_audit};
@@ -68,7 +68,7 @@ const VERBOSE: Options = Options {
 };
 
 fn tree(alloc: Global) -> Result<Tree, Fail>
-    ensures { IfOk result (λ tree. AreOf One tree) }
+    ensures { IfOk result (λ tree. AreOfFormat One tree) }
 {
     let mut source = MemSource::new(Bytes::copy_of(alloc, RECORDS)?, 100, Row::new(alloc));
     let limits = RecordLimits {
@@ -114,7 +114,7 @@ fn found_in(
     report: &[u8],
     dump: &[u8],
 ) -> Result<Finding, OutOfMemory>
-    requires { AreOf One tree.now }
+    requires { AreOfFormat One tree.now }
 {
     let entries = tree.len();
     let operands = choice.operands.len();

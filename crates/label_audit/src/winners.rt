@@ -1,11 +1,12 @@
-ghost use Rattle.std.specs.Prelude.{◌≡◌, ◌==◌, ℕ, ◌<◌, IfOk, OnOk, Some, false, get_or, if◌then◌else◌, length};
+ghost use Rattle.std.specs.Prelude.{◌≡◌, ◌==◌, ℕ, ◌<◌, IfOk, OnOk, Some, false, get_or};
+ghost use Rattle.std.specs.Prelude.{if◌then◌else◌, length};
 ghost use Rattle.std.specs.BTreeMap.{get};
 ghost use Rattle.std.specs.Ordering.{nat_cmp};
 ghost use Rattle.spec_match.specs.Scratches.{IsScratchOf};
 ghost use Rattle.tree_model.specs.Groups.{group_of, names_in};
-ghost use Rattle.relabel_core.specs.Walk.{count, deciding, is_skipped};
+ghost use Rattle.relabel_core.specs.Walk.{walk_count, deciding, is_skipped};
 ghost use Rattle.relabel_core.specs.Walked.{IsFit, walk_of};
-ghost use Rattle.label_audit.specs.Winners.{AreWinners, IsWinner, winner_if};
+ghost use Rattle.label_audit.specs.Winners.{AreWinnersKept, IsWinner, winner_if};
 
 use label_base::{OutOfMemory, Steps};
 use label_rules::does_give;
@@ -15,8 +16,8 @@ use std::alloc::Global;
 use std::collections::BTreeMap;
 use std::sync::ledger::Ledger;
 
-/// The winner of a group of names, and the specification that decides it; both none where none of the
-/// names is decided to a context.
+/// The winner of a group of names, and the specification that decides it; both none where none of
+/// the names is decided to a context.
 #[derive(Clone, Copy)]
 pub struct Winner {
     pub name: Option<u32>,
@@ -57,7 +58,7 @@ fn decide_name<L: Ledger>(
     steps: &mut Steps<L>,
 ) -> Result<Winner, OutOfMemory>
     requires fit { IsFit input.now }
-    requires entry { e < count (walk_of input.now) }
+    requires entry { e < walk_count (walk_of input.now) }
     requires left { is_skipped (walk_of input.now) e ≡ false }
     requires own { IsScratchOf input.now.rules.now.rules scratch.old }
     ensures own { IsScratchOf input.now.rules.now.rules scratch.new }
@@ -77,7 +78,7 @@ fn search_names<L: Ledger>(
     steps: &mut Steps<L>,
 ) -> Result<Winner, OutOfMemory>
     requires fit { IsFit input.now }
-    requires entry { e < count (walk_of input.now) }
+    requires entry { e < walk_count (walk_of input.now) }
     requires left { is_skipped (walk_of input.now) e ≡ false }
     requires names { names.now ≡ names_in input.now.tree.now (group_of input.now.tree.now e) }
     requires own { IsScratchOf input.now.rules.now.rules scratch.old }
@@ -121,12 +122,12 @@ fn later_winner<L: Ledger>(
     steps: &mut Steps<L>,
 ) -> Result<Winner, OutOfMemory>
     requires fit { IsFit input.now }
-    requires entry { e < count (walk_of input.now) }
+    requires entry { e < walk_count (walk_of input.now) }
     requires left { is_skipped (walk_of input.now) e ≡ false }
     requires own { IsScratchOf input.now.rules.now.rules scratch.old }
-    requires winners { AreWinners (walk_of input.now) winners.old }
+    requires winners { AreWinnersKept (walk_of input.now) winners.old }
     ensures own { IsScratchOf input.now.rules.now.rules scratch.new }
-    ensures winners { OnOk result (AreWinners (walk_of input.now) winners.new) }
+    ensures winners { OnOk result (AreWinnersKept (walk_of input.now) winners.new) }
     ensures found { IfOk result (IsWinner (walk_of input.now) (group_of input.now.tree.now e)) }
 {
     let group = input.tree.group(e);
@@ -152,7 +153,7 @@ fn first_winner<L: Ledger>(
     steps: &mut Steps<L>,
 ) -> Result<Winner, OutOfMemory>
     requires fit { IsFit input.now }
-    requires entry { first < count (walk_of input.now) }
+    requires entry { first < walk_count (walk_of input.now) }
     requires left { is_skipped (walk_of input.now) first ≡ false }
     requires decided { decided ≡ deciding (walk_of input.now) e }
     requires own { IsScratchOf input.now.rules.now.rules scratch.old }
@@ -183,13 +184,13 @@ pub fn winner_of<L: Ledger>(
     steps: &mut Steps<L>,
 ) -> Result<Winner, OutOfMemory>
     requires fit { IsFit input.now }
-    requires entry { e < count (walk_of input.now) }
+    requires entry { e < walk_count (walk_of input.now) }
     requires left { is_skipped (walk_of input.now) e ≡ false }
     requires decided { decided ≡ deciding (walk_of input.now) e }
     requires own { IsScratchOf input.now.rules.now.rules scratch.old }
-    requires winners { AreWinners (walk_of input.now) winners.old }
+    requires winners { AreWinnersKept (walk_of input.now) winners.old }
     ensures own { IsScratchOf input.now.rules.now.rules scratch.new }
-    ensures winners { OnOk result (AreWinners (walk_of input.now) winners.new) }
+    ensures winners { OnOk result (AreWinnersKept (walk_of input.now) winners.new) }
     ensures found { IfOk result (IsWinner (walk_of input.now) (group_of input.now.tree.now e)) }
 {
     let names = input.tree.names_of(input.tree.group(e));

@@ -1,5 +1,5 @@
 ghost use Rattle.std.specs.Prelude.{◌≡◌, ◌<◌, ◌+◌, ◌^◌, IfOk, Some, length};
-ghost use Rattle.label_base.specs.Answers.{Answers, cause_of};
+ghost use Rattle.label_base.specs.Answers.{Answers, fault_cause};
 ghost use Rattle.tool_words.specs.Words.{usage, word_texts};
 ghost use Rattle.label_audit.specs.Words.{audit_words, run_words, tool_words};
 
@@ -28,7 +28,7 @@ impl Drop for AuditWords {
 }
 
 fn wrong(index: u32, why: UsageWhy) -> Fault<Usage>
-    ensures { cause_of result ≡ Some (usage index why) }
+    ensures { fault_cause result ≡ Some (usage index why) }
 {
     Fault::Why(Usage { index, why })
 }
@@ -41,7 +41,7 @@ fn read_tool(
     index: u32,
 ) -> Result<RelabelWords, Fault<Usage>>
     requires { length words.now + (index + 1) < 2 ^ 31 }
-    ensures meant { Answers (λ words. words) cause_of result
+    ensures meant { Answers (λ words. words) fault_cause result
         (tool_words tool.now index (word_texts words.now)) }
     ensures few { IfOk result (λ asked. length asked.choice.operands < 2 ^ 31) }
 {
@@ -57,7 +57,7 @@ fn read_tool(
 // Reads the words of the run, the first of which has this index and names its tool.
 fn read_run(alloc: Global, words: &[String], first: u32) -> Result<RelabelWords, Fault<Usage>>
     requires { length words.now + first < 2 ^ 31 }
-    ensures meant { Answers (λ words. words) cause_of result
+    ensures meant { Answers (λ words. words) fault_cause result
         (run_words first (word_texts words.now)) }
     ensures few { IfOk result (λ asked. length asked.choice.operands < 2 ^ 31) }
 {
@@ -67,14 +67,14 @@ fn read_run(alloc: Global, words: &[String], first: u32) -> Result<RelabelWords,
     read_tool(alloc, tool.as_str(), rest, first)
 }
 
-/// Reads the words of audit behind its name, the first of which has this index: the name of the file
-/// that has the report, as it stands, then the words of a run of setfiles or restorecon.
+/// Reads the words of audit behind its name, the first of which has this index: the name of the
+/// file that has the report, as it stands, then the words of a run of setfiles or restorecon.
 ///
 /// The error is the first word that is wrong, with its index; where none is, what is missing, with
 /// the index behind the last.
 pub fn read_audit(alloc: Global, words: &[String], first: u32) -> Result<AuditWords, Fault<Usage>>
     requires { length words.now + first < 2 ^ 31 }
-    ensures meant { Answers (λ words. words) cause_of result
+    ensures meant { Answers (λ words. words) fault_cause result
         (audit_words first (word_texts words.now)) }
     ensures few { IfOk result (λ asked. length asked.inner.choice.operands < 2 ^ 31) }
 {

@@ -3,7 +3,8 @@ use Rattle.std.specs.Prelude.{◌≡◌, ◌∷◌, []}
 use Rattle.label_base.specs.Spelling.{byte}
 use Rattle.label_base.specs.declared.cut.TheConstants.{BLANK, LINE_FEED, TAB}
 use Rattle.label_base.specs.declared.escape.TheConstants.{BACKSLASH, DEL}
-use Rattle.label_base.specs.declared.kind.EntryKind.TheVariants.{Regular, Directory, Link, Pipe, Socket, Block, Char, Other}
+use Rattle.label_base.specs.declared.kind.EntryKind.TheVariants.{Regular, Directory, Link, Pipe}
+use Rattle.label_base.specs.declared.kind.EntryKind.TheVariants.{Socket, Block, Char, Other}
 use Rattle.label_base.specs.declared.kind.TheConstants.{KINDS}
 use Rattle.label_base.specs.declared.lines.TheConstants.{COMMENT_MARK}
 

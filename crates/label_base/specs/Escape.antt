@@ -1,29 +1,34 @@
--- The escapes of a dump: the backslash, control bytes and DEL in three octal digits, as setfattr(1) reads them.
-use Rattle.std.specs.Prelude.{ℕ, ◌+◌, ◌-◌, ◌*◌, ◌/◌, ◌%◌, Bool, true, false, ◌==◌, ◌&&◌, nat_lt, nat_le, List, [], ◌∷◌, ◌++◌, Option, Some, None, if◌then◌else◌}
+-- The escapes of a dump: the backslash, control bytes and DEL in three octal digits, as setfattr(1)
+-- reads them.
+use Rattle.std.specs.Prelude.{ℕ, ◌+◌, ◌-◌, ◌*◌, ◌/◌, ◌%◌, Bool, true, false, ◌==◌, ◌&&◌, nat_lt}
+use Rattle.std.specs.Prelude.{nat_le, List, [], ◌∷◌, ◌++◌, Option, Some, None, if◌then◌else◌}
 use Rattle.std.specs.List.{flat_map}
+use Rattle.label_base.specs.Spelling.{byte}
 use Rattle.label_base.specs.declared.cut.TheConstants.{BLANK}
 use Rattle.label_base.specs.declared.escape.TheConstants.{BACKSLASH, DEL}
 use Rattle.label_base.specs.declared.escape.EscapeFault.{EscapeFault}
 use Rattle.label_base.specs.declared.escape.EscapeFault.TheVariants.{BadEscape, OutOfMemory}
 
 -- a byte that stands for itself
-abbrev pub is_plain : ℕ → Bool
-is_plain b = if b == BACKSLASH then false else if nat_lt b BLANK then false
+abbrev pub is_plain_byte : ℕ → Bool
+is_plain_byte b = if b == BACKSLASH then false else if nat_lt b BLANK then false
     else if b == DEL then false else true
 
 abbrev pub escaped_byte : ℕ → List ℕ
 escaped_byte b =
-    if is_plain b then b ∷ [] else BACKSLASH ∷ (48 + b / 64) ∷ (48 + b / 8 % 8) ∷ (48 + b % 8) ∷ []
+    if is_plain_byte b then b ∷ [] else BACKSLASH ∷ (byte "0" + b / 64) ∷ (byte "0" + b / 8 % 8)
+    ∷ (byte "0" + b % 8)
+    ∷ []
 
 -- the bytes with each escaped
 abbrev pub escaped : List ℕ → List ℕ
 escaped bytes = flat_map escaped_byte bytes
 
 abbrev pub is_octal : ℕ → Bool
-is_octal b = nat_le 48 b && nat_le b 55
+is_octal b = nat_le (byte "0") b && nat_le b (byte "7")
 
 abbrev pub octal_value : ℕ → ℕ → ℕ → ℕ
-octal_value x y z = 64 * (x - 48) + 8 * (y - 48) + (z - 48)
+octal_value x y z = 64 * (x - byte "0") + 8 * (y - byte "0") + (z - byte "0")
 
 -- the byte that three octal digits stand for
 abbrev pub octal_byte : ℕ → ℕ → ℕ → Option ℕ

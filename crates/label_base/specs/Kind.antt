@@ -1,9 +1,11 @@
 -- Kinds of entries, and what names them.
-use Rattle.std.specs.Prelude.{ℕ, Bool, true, false, ◌==◌, ◌&&◌, codes, List, [], slice_get, Option, Some, None}
+use Rattle.std.specs.Prelude.{ℕ, Bool, true, false, ◌==◌, ◌&&◌, codes, List, [], slice_get, Option}
+use Rattle.std.specs.Prelude.{Some, None}
 use Rattle.std.specs.List.{find, list_any}
 use Rattle.label_base.specs.Text.{is_nonempty, same_bytes}
 use Rattle.label_base.specs.declared.kind.EntryKind.{EntryKind}
-use Rattle.label_base.specs.declared.kind.EntryKind.TheVariants.{Regular, Directory, Link, Pipe, Socket, Block, Char, Other}
+use Rattle.label_base.specs.declared.kind.EntryKind.TheVariants.{Regular, Directory, Link, Pipe}
+use Rattle.label_base.specs.declared.kind.EntryKind.TheVariants.{Socket, Block, Char, Other}
 use Rattle.label_base.specs.declared.kind.Asked.{Asked}
 use Rattle.label_base.specs.declared.kind.Asked.TheVariants.{Any, Of}
 use Rattle.label_base.specs.declared.kind.TheConstants.{KINDS}
@@ -37,20 +39,20 @@ pub record Names : Type 0 where
   -- the name that matchpathcon(8) takes by -m
   pub class_name : List ℕ
 
-abbrev pub named : List ℕ → List ℕ → List ℕ → Names
-named letters type_field class_name =
+abbrev pub kind_names : List ℕ → List ℕ → List ℕ → Names
+kind_names letters type_field class_name =
     record { letters = letters; type_field = type_field; class_name = class_name }
 
 -- a door (D) and a kind that could not be told (U) have letters alone
 abbrev pub names_of : EntryKind → Names
-names_of Regular = named (codes "f") (codes "--") (codes "file")
-names_of Directory = named (codes "d") (codes "-d") (codes "dir")
-names_of Link = named (codes "l") (codes "-l") (codes "lnk_file")
-names_of Pipe = named (codes "p") (codes "-p") (codes "pipe")
-names_of Socket = named (codes "s") (codes "-s") (codes "sock_file")
-names_of Block = named (codes "b") (codes "-b") (codes "blk_file")
-names_of Char = named (codes "c") (codes "-c") (codes "chr_file")
-names_of Other = named (codes "DU") [] []
+names_of Regular = kind_names (codes "f") (codes "--") (codes "file")
+names_of Directory = kind_names (codes "d") (codes "-d") (codes "dir")
+names_of Link = kind_names (codes "l") (codes "-l") (codes "lnk_file")
+names_of Pipe = kind_names (codes "p") (codes "-p") (codes "pipe")
+names_of Socket = kind_names (codes "s") (codes "-s") (codes "sock_file")
+names_of Block = kind_names (codes "b") (codes "-b") (codes "blk_file")
+names_of Char = kind_names (codes "c") (codes "-c") (codes "chr_file")
+names_of Other = kind_names (codes "DU") [] []
 
 -- whether it has more names than letters
 abbrev pub has_names : EntryKind → Bool
@@ -61,18 +63,18 @@ abbrev pub has_letter : ℕ → EntryKind → Bool
 has_letter letter kind = list_any (λ b. b == letter) (names_of kind).letters
 
 -- whether there is a name, and it is this text
-abbrev pub is_name : (name text : List ℕ) → Bool
-is_name name text = is_nonempty name && same_bytes name text
+abbrev pub is_kind_name : (name text : List ℕ) → Bool
+is_kind_name name text = is_nonempty name && same_bytes name text
 
 -- the kinds that a letter, a type field, a class name and a number tell
 abbrev pub letter_kind : ℕ → Option EntryKind
 letter_kind letter = find (has_letter letter) KINDS
 
 abbrev pub field_kind : List ℕ → Option EntryKind
-field_kind text = find (λ kind. is_name (names_of kind).type_field text) KINDS
+field_kind text = find (λ kind. is_kind_name (names_of kind).type_field text) KINDS
 
 abbrev pub class_kind : List ℕ → Option EntryKind
-class_kind text = find (λ kind. is_name (names_of kind).class_name text) KINDS
+class_kind text = find (λ kind. is_kind_name (names_of kind).class_name text) KINDS
 
 abbrev pub numbered_kind : ℕ → Option EntryKind
 numbered_kind number = slice_get KINDS number

@@ -1,5 +1,6 @@
 -- The grammar of the lines of a file, whatever its lines say: selabel_file(5) has it for its files.
-use Rattle.std.specs.Prelude.{◌≡◌, ⊤, ℕ, ◌+◌, ◌<◌, ◌≤◌, true, false, List, [], ◌∷◌, ◌++◌, length, Contains, Result, Ok, Err}
+use Rattle.std.specs.Prelude.{◌≡◌, ⊤, ℕ, ◌+◌, ◌<◌, ◌≤◌, true, false, List, [], ◌∷◌, ◌++◌, length}
+use Rattle.std.specs.Prelude.{Contains, Result, Ok, Err}
 use Rattle.std.specs.List.{list_all, list_any}
 use Rattle.label_base.specs.declared.cut.TheConstants.{LINE_FEED}
 use Rattle.label_base.specs.declared.lines.TheConstants.{COMMENT_MARK}
@@ -55,7 +56,8 @@ pub record Says {B W : Type 0} (Means : ℕ → List (List ℕ) → Result B W �
   pub something : ¬ SayNothing fields
   pub meaning : Means number fields meant
 
--- each of these lines, the first of which has this number, says nothing or a value, and these are the values
+-- each of these lines, the first of which has this number, says nothing or a value, and these are
+-- the values
 pub data AreSaid {B W : Type 0} (Means : ℕ → List (List ℕ) → Result B W → Type 0) : ℕ
     → List (List ℕ) → List B → Type 0 where
   none : (number : ℕ) → AreSaid Means number [] []
@@ -71,7 +73,8 @@ pub data AreSaid {B W : Type 0} (Means : ℕ → List (List ℕ) → Result B W 
       → AreSaid Means number (line ∷ lines) (first ∷ values)
 
 -- this line of the text has this number and means this, and the lines before it say these values
-pub record StandsAt {B W : Type 0} (Means : ℕ → List (List ℕ) → Result B W → Type 0) (text : List ℕ)
+pub record LineStandsAt {B W : Type 0} (Means : ℕ → List (List ℕ) → Result B W → Type 0)
+    (text : List ℕ)
     (number : ℕ) (values : List B) (meant : Result B W) : Type 0 where
   pub before : List (List ℕ)
   pub line : List ℕ
@@ -87,7 +90,7 @@ abbrev pub LinesMean : {B W : Type 0} → (ℕ → List (List ℕ) → Result B 
 LinesMean Means text (Ok values) =
     (lines : List (List ℕ)) × AreLines text lines × AreSaid Means 1 lines values
 LinesMean {B = B} Means text (Err refused) =
-    (values : List B) × StandsAt Means text refused.number values (Err refused.why)
+    (values : List B) × LineStandsAt Means text refused.number values (Err refused.why)
 
 -- the same, where there is room for so many values
 abbrev pub LinesMeanWithin : {B W : Type 0} → (ℕ → List (List ℕ) → Result B W → Type 0) → ℕ → List ℕ
@@ -95,8 +98,8 @@ abbrev pub LinesMeanWithin : {B W : Type 0} → (ℕ → List (List ℕ) → Res
 LinesMeanWithin Means room text (Ok values) =
     LinesMean Means text (Ok values) × (length values ≤ room)
 LinesMeanWithin {B = B} Means room text (Err (Refused refused)) =
-    (values : List B) × StandsAt Means text refused.number values (Err refused.why)
+    (values : List B) × LineStandsAt Means text refused.number values (Err refused.why)
     × (length values ≤ room)
 LinesMeanWithin {B = B} Means room text (Err TooMany) =
-    (values : List B) × (number : ℕ) × (next : B) × StandsAt Means text number values (Ok next)
+    (values : List B) × (number : ℕ) × (next : B) × LineStandsAt Means text number values (Ok next)
     × (length values ≡ room)

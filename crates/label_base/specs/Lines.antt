@@ -1,5 +1,7 @@
 -- Lines, fields, and what the lines of a file say.
-use Rattle.std.specs.Prelude.{◌≡◌, ℕ, Bool, false, ◌||◌, ◌==◌, List, [], ◌∷◌, ◌++◌, length, Option, Some, None, Result, Ok, Err, is_ok, nat_lt, filter, take_while, if◌then◌else◌}
+use Rattle.std.specs.Prelude.{◌≡◌, ℕ, Bool, false, ◌||◌, ◌==◌, List, [], ◌∷◌, ◌++◌, length, Option}
+use Rattle.std.specs.Prelude.{Some, None, Result, Ok, Err, is_ok, nat_lt, filter, take_while}
+use Rattle.std.specs.Prelude.{if◌then◌else◌}
 use Rattle.std.specs.List.{slice_split, enumerate_from, filter_map}
 use Rattle.label_base.specs.Text.{is_nonempty}
 use Rattle.label_base.specs.declared.cut.TheConstants.{BLANK, LINE_FEED, TAB}
@@ -55,9 +57,9 @@ abbrev pub line_said : {B W : Type 0} → (ℕ → List (List ℕ) → Result B 
 line_said meaning number line = fields_said (meaning number) (fields_of line)
 
 -- a line that has a value, a line without one, a line that is refused
-abbrev pub value_of : {B W : Type 0} → Result (Option B) W → Option B
-value_of (Ok value) = value
-value_of (Err why) = None
+abbrev pub line_value : {B W : Type 0} → Result (Option B) W → Option B
+line_value (Ok value) = value
+line_value (Err why) = None
 
 abbrev pub why_of : {B W : Type 0} → ℕ → Result (Option B) W → Option (RefusedLine W)
 why_of number (Ok value) = None
@@ -75,7 +77,7 @@ refusals said lines = filter_map (λ l. why_of l.0 (said l.0 l.1)) lines
 
 -- every value
 abbrev pub values : {A B W : Type 0} → (ℕ → A → Result (Option B) W) → List (ℕ × A) → List B
-values said lines = filter_map (λ l. value_of (said l.0 l.1)) lines
+values said lines = filter_map (λ l. line_value (said l.0 l.1)) lines
 
 -- the values where no line is refused, else the first refusal
 abbrev pub all_or_first : {B E : Type 0} → List B → Option E → Result (List B) E

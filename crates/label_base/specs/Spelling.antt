@@ -9,3 +9,16 @@ first_code (code ∷ others) = code
 -- the byte that a text of one byte is
 abbrev pub byte : String → ℕ
 byte text = first_code (codes text)
+
+-- bytes without a spelling
+abbrev pub tab : ℕ
+tab = 9
+
+abbrev pub line_feed : ℕ
+line_feed = 10
+
+abbrev pub carriage_return : ℕ
+carriage_return = 13
+
+abbrev pub delete : ℕ
+delete = 127

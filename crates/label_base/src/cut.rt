@@ -79,8 +79,8 @@ pub fn next_line(text: &[u8]) -> Option<(&[u8], &[u8])>
     }
 }
 
-/// A law on all bytes: the lines into which a text is cut, and the fields into which a line is, are those that
-/// their grammar gives. It does nothing.
+/// A law on all bytes: the lines into which a text is cut, and the fields into which a line is, are
+/// those that their grammar gives. It does nothing.
 #[tactic(auto, using(crate::proofs::LineCuts::lines_are, crate::proofs::LineCuts::fields_are))]
 pub fn cuts_follow_grammar(_text: &[u8])
     ensures lines { (lines : _) → (lines_of _text.now ≡ lines) ↔ AreLines _text.now lines }

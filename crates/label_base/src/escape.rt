@@ -2,7 +2,9 @@ ghost use Rattle.std.specs.Prelude.{◌≡◌, ◌++◌, ◌≤◌, length, OnOk
 ghost use Rattle.std.specs.List.{list_all};
 ghost use Rattle.std.specs.Option.{option_copied};
 ghost use Rattle.label_base.specs.Answers.{Finds, NoneUnless};
-ghost use Rattle.label_base.specs.Escape.{escaped, escaped_byte, is_plain, is_octal, octal_byte, in_front, unescaped, after_backslash, unescaped_left, is_free};
+ghost use Rattle.label_base.specs.Escape.{escaped, escaped_byte, is_plain_byte, is_octal};
+ghost use Rattle.label_base.specs.Escape.{octal_byte, in_front, unescaped, after_backslash};
+ghost use Rattle.label_base.specs.Escape.{unescaped_left, is_free};
 ghost use Rattle.label_base.specs.Pieces.{turns_left};
 ghost use Rattle.label_base.specs.declared.escape.EscapeFault.TheVariants as fault;
 
@@ -35,7 +37,7 @@ impl From<memory::OutOfMemory> for EscapeFault {
 }
 
 fn stays(b: u8) -> bool
-    ensures { result ≡ is_plain b }
+    ensures { result ≡ is_plain_byte b }
 {
     b != BACKSLASH && b >= BLANK && b != DEL
 }
@@ -60,7 +62,7 @@ fn add_escaped(bytes: &[u8], text: &mut Bytes) -> Result<(), memory::OutOfMemory
 }
 
 fn is_plain_text(bytes: &[u8]) -> bool
-    ensures { result ≡ list_all is_plain bytes.now }
+    ensures { result ≡ list_all is_plain_byte bytes.now }
 {
     bytes.iter().all(|b| stays(*b))
 }
@@ -95,8 +97,8 @@ fn octal(b: u8) -> bool
     b >= b'0' && b <= b'7'
 }
 
-/// The byte that three octal digits stand for, none where one is no such digit or the value is above
-/// 255.
+/// The byte that three octal digits stand for, none where one is no such digit or the value is
+/// above 255.
 pub fn octal_byte(x: u8, y: u8, z: u8) -> Option<u8>
     ensures { result ≡ octal_byte x y z }
 {

@@ -1,6 +1,6 @@
 ghost use Rattle.std.specs.Prelude.{◌≡◌};
 ghost use Rattle.std.specs.Option.{option_map};
-ghost use Rattle.label_base.specs.Answers.{cause_of};
+ghost use Rattle.label_base.specs.Answers.{fault_cause};
 ghost use Rattle.label_base.specs.declared.fault.Fault.TheVariants as faults;
 
 use crate::memory;
@@ -25,7 +25,7 @@ impl<W> From<memory::OutOfMemory> for Fault<W> {
 impl<W: Copy> Fault<W> {
     /// The reason, or none where memory was wanting.
     pub fn why(&self) -> Option<W>
-        ensures { result ≡ cause_of self.now }
+        ensures { result ≡ fault_cause self.now }
     {
         match self {
             Fault::Why(why) => Some(*why),
@@ -35,7 +35,7 @@ impl<W: Copy> Fault<W> {
 
     /// The same for this reason; want of memory stays what it is.
     pub fn because<V: Copy>(&self, why: V) -> Fault<V>
-        ensures { cause_of result ≡ option_map (λ _. why) (cause_of self.now) }
+        ensures { fault_cause result ≡ option_map (λ _. why) (fault_cause self.now) }
     {
         match self {
             Fault::Why(_) => Fault::Why(why),

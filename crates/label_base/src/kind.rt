@@ -1,5 +1,7 @@
 ghost use Rattle.std.specs.Prelude.{◌≡◌, ◌↔◌, ◌<◌, length, IfSome, Some, true};
-ghost use Rattle.label_base.specs.Kind.{class_kind, field_kind, has_letter, has_names, is_name, kind_number, letter_kind, named, names_of, numbered_kind, same_kind};
+ghost use Rattle.label_base.specs.Kind.{class_kind, field_kind, has_letter, has_names};
+ghost use Rattle.label_base.specs.Kind.{is_kind_name, kind_number, letter_kind, kind_names};
+ghost use Rattle.label_base.specs.Kind.{names_of, numbered_kind, same_kind};
 ghost use Rattle.label_base.specs.KindNames.{names_told};
 
 /// The kind of an entry of a tree, as find(1) tells it with `%y`.
@@ -40,7 +42,8 @@ struct Names {
 }
 
 fn named(letters: &'static [u8], type_field: &'static [u8], class_name: &'static str) -> Names
-    ensures { names_told result ≡ named letters.entry.now type_field.entry.now class_name.entry.now }
+    ensures { names_told result ≡ kind_names letters.entry.now type_field.entry.now
+        class_name.entry.now }
 {
     Names {
         letters,
@@ -141,7 +144,7 @@ fn kind_with(letter: u8) -> Option<EntryKind>
 }
 
 fn is_name(name: &[u8], text: &[u8]) -> bool
-    ensures { result ≡ is_name name.now text.now }
+    ensures { result ≡ is_kind_name name.now text.now }
 {
     !name.is_empty() && name == text
 }

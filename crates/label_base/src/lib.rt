@@ -1,5 +1,5 @@
-//! What all crates of `relabel` stand on: values that contracts see as lists, numbers, escapes, and the cutting of lines and
-//! fields.
+//! What all crates of `relabel` stand on: values that contracts see as lists, numbers, escapes, and
+//! the cutting of lines and fields.
 #![tactic(auto)]
 
 mod bytes;

@@ -1,7 +1,9 @@
-ghost use Rattle.std.specs.Prelude.{◌≡◌, ◌∷◌, ◌<◌, ◌≤◌, ◌^◌, ℕ, List, Result, length, IfErr, IfOk, OnOk};
+ghost use Rattle.std.specs.Prelude.{◌≡◌, ◌∷◌, ◌<◌, ◌≤◌, ◌^◌, ℕ, List, Result, length, IfErr, IfOk};
+ghost use Rattle.std.specs.Prelude.{OnOk};
 ghost use Rattle.std.specs.Option.{option_copied};
-ghost use Rattle.label_base.specs.Answers.{Answers, cause_of};
-ghost use Rattle.label_base.specs.Lines.{Adds, Stops, fields_left, is_comment, line_said, lines_read, lines_within};
+ghost use Rattle.label_base.specs.Answers.{Answers, fault_cause};
+ghost use Rattle.label_base.specs.Lines.{Adds, Stops, fields_left, is_comment, line_said};
+ghost use Rattle.label_base.specs.Lines.{lines_read, lines_within};
 
 use crate::cut::{next_field, next_line};
 use crate::fault::Fault;
@@ -31,7 +33,7 @@ pub trait LineReader {
         more: Option<&[u8]>,
     ) -> Result<Self::Value, Fault<Self::Why>>
         requires { length first.now < 2 ^ 32 }
-        ensures { Answers (λ value. value) cause_of result
+        ensures { Answers (λ value. value) fault_cause result
             (meaning self.now number (first.now ∷ fields_left (option_copied more.entry))) };
 }
 
@@ -75,7 +77,7 @@ fn add_line<R: LineReader>(
     ensures ok { OnOk result
         (Adds (line_said (R.meaning reader.now) number line.now) values.old values.new) }
     ensures within { OnOk result (length values.new ≤ room) }
-    ensures err { IfErr result (λ fault. Stops number room (length values.old) (cause_of fault)
+    ensures err { IfErr result (λ fault. Stops number room (length values.old) (fault_cause fault)
         (line_said (R.meaning reader.now) number line.now)) }
 {
     let Some((first, more)) = next_field(Some(line)) else {
@@ -98,7 +100,8 @@ fn add_line<R: LineReader>(
 
 /// Reads the lines of a file in order, as [`read_lines`] does, into at most `room` values.
 ///
-/// The first line that would give one more answers [`LinesWhy::TooMany`], unless it is refused itself.
+/// The first line that would give one more answers [`LinesWhy::TooMany`], unless it is refused
+/// itself.
 pub fn read_lines_within<R: LineReader>(
     alloc: Global,
     reader: &R,
@@ -106,7 +109,7 @@ pub fn read_lines_within<R: LineReader>(
     room: u32,
 ) -> Result<Row<R::Value>, Fault<LinesWhy<R::Why>>>
     requires { length bytes.now < 2 ^ 32 }
-    ensures read { Answers (λ values. values) cause_of result
+    ensures read { Answers (λ values. values) fault_cause result
         (lines_within room (R.meaning reader.now) bytes.now) }
     ensures within { IfOk result (λ values. length values ≤ room) }
 {
@@ -123,15 +126,15 @@ pub fn read_lines_within<R: LineReader>(
 
 /// Reads the lines of a file in order, and gives what they say.
 ///
-/// Blank lines, and those whose first byte other than a blank is `#`, say nothing, as in the files of
-/// selabel_file(5). Lines count from 1, and the first that is refused is told.
+/// Blank lines, and those whose first byte other than a blank is `#`, say nothing, as in the files
+/// of selabel_file(5). Lines count from 1, and the first that is refused is told.
 pub fn read_lines<R: LineReader>(
     alloc: Global,
     reader: &R,
     bytes: &[u8],
 ) -> Result<Row<R::Value>, Fault<RefusedLine<R::Why>>>
     requires { length bytes.now < 2 ^ 32 }
-    ensures { Answers (λ values. values) cause_of result
+    ensures { Answers (λ values. values) fault_cause result
         (lines_read (R.meaning reader.now) bytes.now) }
 {
     match read_lines_within(alloc, reader, bytes, u32::MAX) {

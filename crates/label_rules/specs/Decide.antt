@@ -2,7 +2,7 @@
 use Rattle.std.specs.Prelude.{Bool, true, false, Option, Some, None, if◌then◌else◌}
 use Rattle.label_base.specs.Text.{same_bytes}
 use Rattle.context_syntax.specs.Context.{ContextValue, same_context, with_kind_of}
-use Rattle.context_syntax.specs.TypeNames.{NameSet, has_name}
+use Rattle.context_syntax.specs.TypeNames.{NameSet, set_has_name}
 use Rattle.context_syntax.specs.declared.label.Label.{Label}
 use Rattle.context_syntax.specs.declared.label.Label.TheVariants.{Absent, Odd, Is}
 
@@ -21,7 +21,7 @@ whole_verdict current wanted = if same_context current wanted then Keep else Cha
 abbrev pub type_verdict : NameSet → (current wanted : ContextValue) → VerdictValue
 type_verdict types current wanted =
     if same_bytes current.kind wanted.kind then Keep
-    else if has_name types current.kind then Customized
+    else if set_has_name types current.kind then Customized
     else Change (with_kind_of current wanted)
 
 abbrev pub verdict_on : (force : Bool) → NameSet → (current wanted : ContextValue) → VerdictValue

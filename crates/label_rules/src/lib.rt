@@ -1,5 +1,5 @@
-//! The rules that decide labels, and what is done by them for one path: which specification decides it, what becomes of the
-//! label that is there, and the lines that tell it.
+//! The rules that decide labels, and what is done by them for one path: which specification decides
+//! it, what becomes of the label that is there, and the lines that tell it.
 #![tactic(auto)]
 
 mod given;

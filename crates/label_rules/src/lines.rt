@@ -89,7 +89,8 @@ fn conflict<'a>(
     })
 }
 
-/// The line of a name that is decided to the one context, where its group's winner is decided to the other.
+/// The line of a name that is decided to the one context, where its group's winner is decided to
+/// the other.
 pub fn conflict_line<'a>(
     first: &PathRef<'a>,
     second: &PathRef<'a>,

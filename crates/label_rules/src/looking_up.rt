@@ -12,8 +12,9 @@ use spec_match::Scratch;
 use std::alloc::Global;
 use std::sync::ledger::Ledger;
 
-/// The index of the specification that decides a path: the last one that applies to what is asked and whose language holds
-/// the substituted path (selabel_file(5)). There is none where no specification does. It counts at most one step.
+/// The index of the specification that decides a path: the last one that applies to what is asked
+/// and whose language holds the substituted path (selabel_file(5)). There is none where no
+/// specification does. It counts at most one step.
 #[tactic(auto, unfolding(crate::specs::LookUp::index_asked))]
 pub fn look_up_path<L: Ledger>(
     alloc: Global,
@@ -37,8 +38,8 @@ pub fn look_up_path<L: Ledger>(
     }
 }
 
-/// The index of the specification that decides an entry: that of its path, where its kind is asked for. It counts at most
-/// one step.
+/// The index of the specification that decides an entry: that of its path, where its kind is asked
+/// for. It counts at most one step.
 pub fn look_up<L: Ledger>(
     alloc: Global,
     rules: &Rules,

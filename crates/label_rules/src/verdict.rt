@@ -1,5 +1,6 @@
 ghost use Rattle.std.specs.Prelude.{◌≡◌, false};
-ghost use Rattle.label_rules.specs.Decide.{is_change, label_by, type_verdict, verdict_for, verdict_on, whole_verdict};
+ghost use Rattle.label_rules.specs.Decide.{is_change, label_by, type_verdict, verdict_for};
+ghost use Rattle.label_rules.specs.Decide.{verdict_on, whole_verdict};
 ghost use Rattle.label_rules.specs.Verdicts.{verdict_of};
 
 use context_syntax::{Context, ContextRef, Label, TypeNames};
@@ -55,8 +56,9 @@ fn decide_context<'a>(
     decide_type(current, wanted, types)
 }
 
-/// What becomes of a label where a context is wanted, as restorecon(8) decides it. With `force` the whole context is given,
-/// and customizable types give way too; without it the type alone is given to a label that is a context. It takes no memory.
+/// What becomes of a label where a context is wanted, as restorecon(8) decides it. With `force` the
+/// whole context is given, and customizable types give way too; without it the type alone is given
+/// to a label that is a context. It takes no memory.
 ///
 /// A second decision on the label that the first one leaves changes nothing.
 #[tactic(auto, using(crate::proofs::Settled::settled))]

@@ -30,6 +30,6 @@ verified_ending words rules entries = record {
   saved = None;
 }
 
-unfoldable pub answer_of : LookupWords → Rules → List Record → Ending
-answer_of words rules entries =
+unfoldable pub lookups_of : LookupWords → Rules → List Record → Ending
+lookups_of words rules entries =
     if words.verify then verified_ending words rules entries else found_ending words rules

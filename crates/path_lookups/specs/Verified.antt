@@ -1,5 +1,6 @@
 -- Whether paths have the labels that they should have, as matchpathcon(8) tells it with -V.
-use Rattle.std.specs.Prelude.{ℕ, Bool, true, false, List, filter, length, map, Option, Some, None, if◌then◌else◌}
+use Rattle.std.specs.Prelude.{ℕ, Bool, true, false, List, filter, length, map, Option, Some, None}
+use Rattle.std.specs.Prelude.{if◌then◌else◌}
 use Rattle.file_paths.specs.Path.{Path}
 use Rattle.label_base.specs.declared.kind.Asked.{Asked}
 use Rattle.label_base.specs.declared.kind.Asked.TheVariants.{Of}

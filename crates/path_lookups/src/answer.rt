@@ -1,5 +1,5 @@
 ghost use Rattle.std.specs.Prelude.{◌≡◌, ◌<◌, ◌^◌, IfOk, length};
-ghost use Rattle.path_lookups.specs.Answer.{answer_of, found_ending, lookup_end, verified_ending};
+ghost use Rattle.path_lookups.specs.Answer.{lookups_of, found_ending, lookup_end, verified_ending};
 
 use crate::found::add_found_report;
 use crate::verified::add_verified_report;
@@ -73,7 +73,7 @@ pub fn answer_of(
     tree: &Tree,
 ) -> Result<Ending, OutOfMemory>
     requires { length words.now.paths < 2 ^ 31 }
-    ensures { IfOk result (λ ending. ending ≡ answer_of words.now rules.now tree.now) }
+    ensures { IfOk result (λ ending. ending ≡ lookups_of words.now rules.now tree.now) }
 {
     if words.verify {
         return verified_ending(alloc, words, rules, tree);

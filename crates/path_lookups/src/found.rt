@@ -1,7 +1,7 @@
 ghost use Rattle.std.specs.Prelude.{◌≡◌, ◌+◌, ◌++◌, ◌<◌, ◌≤◌, IfOk, OnOk};
 ghost use Rattle.std.specs.Option.{option_copied};
 ghost use Rattle.file_paths.specs.PathRef.{path_of};
-ghost use Rattle.report_text.specs.Texts.{line_of, report_of};
+ghost use Rattle.report_text.specs.Texts.{message_line, report_of};
 ghost use Rattle.spec_match.specs.Scratches.{IsScratchOf};
 ghost use Rattle.path_lookups.specs.Found.{any_or, context_for, found_message, found_messages};
 
@@ -15,8 +15,8 @@ use std::alloc::Global;
 use std::marker::Brand;
 use std::sync::ledger::{Blank, Ledger};
 
-/// The context that is decided for a path. There is none where no specification decides it, nor where the one that does
-/// says `<<none>>`. It counts at most one step.
+/// The context that is decided for a path. There is none where no specification decides it, nor
+/// where the one that does says `<<none>>`. It counts at most one step.
 pub fn find_context<'a, L: Ledger>(
     alloc: Global,
     rules: &'a Rules,
@@ -57,7 +57,7 @@ fn add_found<L: Ledger>(
     requires { IsScratchOf rules.now.rules scratch.old }
     ensures own { IsScratchOf rules.now.rules scratch.new }
     ensures text { OnOk result
-        (to.new ≡ to.old ++ line_of (found_message rules.now kind bare path.now)) }
+        (to.new ≡ to.old ++ message_line (found_message rules.now kind bare path.now)) }
 {
     let path = path.path();
     let context = find_context(alloc, rules, &path, any_or(kind), scratch, steps)?;
@@ -92,9 +92,9 @@ fn add_all_found<L: Ledger>(
     Ok(())
 }
 
-/// Adds at the end a line for each path with the context that is decided for it, `<<none>>` where none is
-/// (matchpathcon(8)). Where no kind is told, specifications of every kind apply. A `bare` line doesn't name the path. After
-/// want of memory a front of the lines may have been added.
+/// Adds at the end a line for each path with the context that is decided for it, `<<none>>` where
+/// none is (matchpathcon(8)). Where no kind is told, specifications of every kind apply. A `bare`
+/// line doesn't name the path. After want of memory a front of the lines may have been added.
 pub fn add_found_report(
     alloc: Global,
     rules: &Rules,

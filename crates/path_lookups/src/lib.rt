@@ -1,5 +1,5 @@
-//! Look-ups of single paths, and the tool matchpathcon(8), which makes them: which context is decided
-//! for a path, and whether its inode has that label.
+//! Look-ups of single paths, and the tool matchpathcon(8), which makes them: which context is
+//! decided for a path, and whether its inode has that label.
 #![tactic(auto)]
 
 mod answer;

@@ -253,7 +253,8 @@ fn paths_are_verified(rt: HostRuntime) -> Result<(), Fail> {
     Ok(())
 }
 
-// What a look-up of one path tells: its index, whether a context is found, and whether it is not verified.
+// What a look-up of one path tells: its index, whether a context is found, and whether it is not
+// verified.
 fn told_of<L: Ledger>(
     alloc: Global,
     rules: &Rules,

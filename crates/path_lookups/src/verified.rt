@@ -2,9 +2,11 @@ ghost use Rattle.std.specs.Prelude.{◌≡◌, ◌+◌, ◌++◌, ◌<◌, ◌�
 ghost use Rattle.std.specs.Option.{option_copied};
 ghost use Rattle.file_paths.specs.PathRef.{path_of};
 ghost use Rattle.report_text.specs.Message.{message_of};
-ghost use Rattle.report_text.specs.Texts.{line_of, report_of};
+ghost use Rattle.report_text.specs.Texts.{message_line, report_of};
 ghost use Rattle.spec_match.specs.Scratches.{IsScratchOf};
-ghost use Rattle.path_lookups.specs.Verified.{count_unverified, entry_message, is_but_user, is_unverified, kind_or, label_message, verified_message, verified_messages};
+ghost use Rattle.path_lookups.specs.Verified.{count_unverified, entry_message, is_but_user};
+ghost use Rattle.path_lookups.specs.Verified.{is_unverified, kind_or, label_message};
+ghost use Rattle.path_lookups.specs.Verified.{verified_message, verified_messages};
 
 use crate::found::find_context;
 use context_syntax::{Context, Label};
@@ -86,9 +88,10 @@ fn entry_message<'a, L: Ledger>(
     Ok(label_message(path, tree.label(tree.group(e)), wanted))
 }
 
-/// Whether a path has the label that it should have (matchpathcon(8), `-V`): a path without an entry has no record. The
-/// kind that is asked for is the one that is told, or else the entry's. It is verified where no context is decided for it,
-/// or where its inode's label is a context that equals the decided one but for the user. It counts at most one step.
+/// Whether a path has the label that it should have (matchpathcon(8), `-V`): a path without an
+/// entry has no record. The kind that is asked for is the one that is told, or else the entry's. It
+/// is verified where no context is decided for it, or where its inode's label is a context that
+/// equals the decided one but for the user. It counts at most one step.
 pub fn verify<'a, L: Ledger>(
     alloc: Global,
     rules: &'a Rules,
@@ -134,7 +137,7 @@ fn add_verified<L: Ledger>(
     requires { IsScratchOf rules.now.rules scratch.old }
     ensures own { IsScratchOf rules.now.rules scratch.new }
     ensures text { OnOk result
-        (to.new ≡ to.old ++ line_of (verified_message rules.now tree.now kind path.now)) }
+        (to.new ≡ to.old ++ message_line (verified_message rules.now tree.now kind path.now)) }
     ensures told { IfOk result (λ told.
         told ≡ is_unverified (verified_message rules.now tree.now kind path.now)) }
 {
@@ -171,9 +174,9 @@ fn add_all_verified<L: Ledger>(
     Ok(unverified)
 }
 
-/// Adds at the end a line for each path that says whether it has the label that it should have, as [`verify`] has it, and
-/// answers how many have another or no record. There must be fewer than 2^32 paths. After want of memory a front of the
-/// lines may have been added.
+/// Adds at the end a line for each path that says whether it has the label that it should have, as
+/// [`verify`] has it, and answers how many have another or no record. There must be fewer than 2^32
+/// paths. After want of memory a front of the lines may have been added.
 pub fn add_verified_report(
     alloc: Global,
     rules: &Rules,

@@ -1,7 +1,8 @@
 ghost use Rattle.std.specs.Prelude.{◌≡◌, ◌<◌, ◌+◌, ◌^◌, IfOk, length};
-ghost use Rattle.label_base.specs.Answers.{Answers, cause_of};
+ghost use Rattle.label_base.specs.Answers.{Answers, fault_cause};
 ghost use Rattle.tool_words.specs.Words.{operand_paths, word_texts};
-ghost use Rattle.path_lookups.specs.Words.{asked_by, asked_in, base_of, end_wrong, format_of, lookup_words};
+ghost use Rattle.path_lookups.specs.Words.{lookup_words_by, lookup_words_in, lookup_base};
+ghost use Rattle.path_lookups.specs.Words.{lookup_end_wrong, lookup_format, lookup_words};
 
 use crate::letters::{ASKED, BARE, BASE, LINK_COUNTS, VERIFY, matchpathcon};
 use file_paths::NormPath;
@@ -45,7 +46,7 @@ impl Drop for LookupWords {
 }
 
 fn base_of(alloc: Global, items: &[Item<'_>]) -> Result<Name, OutOfMemory>
-    ensures { IfOk result (λ name. name ≡ base_of items.now) }
+    ensures { IfOk result (λ name. name ≡ lookup_base items.now) }
 {
     match value_of(BASE, items) {
         Some(text) => Name::copy_of(alloc, text),
@@ -55,7 +56,7 @@ fn base_of(alloc: Global, items: &[Item<'_>]) -> Result<Name, OutOfMemory>
 
 // The format of the records.
 fn format_of(items: &[Item<'_>]) -> Format
-    ensures { result ≡ format_of items.now }
+    ensures { result ≡ lookup_format items.now }
 {
     if has_flag(LINK_COUNTS, items) {
         Format::Two
@@ -66,7 +67,7 @@ fn format_of(items: &[Item<'_>]) -> Format
 
 // What the words ask for, where nothing is wrong with them.
 fn asked_by(alloc: Global, items: &[Item<'_>]) -> Result<LookupWords, OutOfMemory>
-    ensures { IfOk result (λ words. words ≡ asked_by items.now) }
+    ensures { IfOk result (λ words. words ≡ lookup_words_by items.now) }
 {
     Ok(LookupWords {
         base: base_of(alloc, items)?,
@@ -80,7 +81,7 @@ fn asked_by(alloc: Global, items: &[Item<'_>]) -> Result<LookupWords, OutOfMemor
 
 // What is missing at the end of the words, whose number this is.
 fn end_wrong(items: &[Item<'_>], count: u32) -> Option<Usage>
-    ensures { result ≡ end_wrong items.now count }
+    ensures { result ≡ lookup_end_wrong items.now count }
 {
     if has_operand(items) {
         return None;
@@ -93,7 +94,7 @@ fn end_wrong(items: &[Item<'_>], count: u32) -> Option<Usage>
 
 // What words ask for that say this.
 fn asked_in(alloc: Global, items: &[Item<'_>], count: u32) -> Result<LookupWords, Fault<Usage>>
-    ensures meant { Answers (λ words. words) cause_of result (asked_in items.now count) }
+    ensures meant { Answers (λ words. words) fault_cause result (lookup_words_in items.now count) }
     ensures operands { IfOk result (λ words. words.paths ≡ operand_paths items.now) }
 {
     match end_wrong(items, count) {
@@ -108,7 +109,7 @@ fn asked_in(alloc: Global, items: &[Item<'_>], count: u32) -> Result<LookupWords
 /// the index behind the last.
 pub fn read_lookup(alloc: Global, words: &[String], first: u32) -> Result<LookupWords, Fault<Usage>>
     requires { length words.now + first < 2 ^ 31 }
-    ensures meant { Answers (λ words. words) cause_of result
+    ensures meant { Answers (λ words. words) fault_cause result
         (lookup_words first (word_texts words.now)) }
     ensures few { IfOk result (λ asked. length asked.paths < 2 ^ 31) }
 {

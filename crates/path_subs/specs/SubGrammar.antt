@@ -1,4 +1,5 @@
--- The grammar of a substitution file: a source and a target on each line, as selabel_file(5) has them.
+-- The grammar of a substitution file: a source and a target on each line, as selabel_file(5) has
+-- them.
 use Rattle.std.specs.Prelude.{◌≡◌, ℕ, ◌<◌, List, ◌∷◌, length, Result, Ok, Err}
 use Rattle.label_base.specs.LineGrammar.{LinesMean}
 use Rattle.file_paths.specs.Path.{path_read}
@@ -6,7 +7,8 @@ use Rattle.label_base.specs.declared.lines.RefusedLine.{RefusedLine}
 use Rattle.path_subs.specs.Subs.{SubValue}
 use Rattle.path_subs.specs.declared.sub_fault.NoSub.{NoSub}
 
--- the fields are source and target, and perhaps more that are passed over; both are paths, the source not the root
+-- the fields are source and target, and perhaps more that are passed over; both are paths, the
+-- source not the root
 pub record IsSub (fields : List (List ℕ)) (sub : SubValue) : Type 0 where
   pub source : List ℕ
   pub target : List ℕ
@@ -17,10 +19,10 @@ pub record IsSub (fields : List (List ℕ)) (sub : SubValue) : Type 0 where
   pub below_root : 0 < length sub.source
 
 -- what the fields of a line mean, whatever its number
-abbrev pub FieldsMean : ℕ → List (List ℕ) → Result SubValue NoSub → Type 0
-FieldsMean number fields (Ok sub) = IsSub fields sub
-FieldsMean number fields (Err why) = (sub : SubValue) → ¬ IsSub fields sub
+abbrev pub SubFieldsMean : ℕ → List (List ℕ) → Result SubValue NoSub → Type 0
+SubFieldsMean number fields (Ok sub) = IsSub fields sub
+SubFieldsMean number fields (Err why) = (sub : SubValue) → ¬ IsSub fields sub
 
 -- what the text of a file means
 abbrev pub SubsMean : List ℕ → Result (List SubValue) (RefusedLine NoSub) → Type 0
-SubsMean = LinesMean FieldsMean
+SubsMean = LinesMean SubFieldsMean

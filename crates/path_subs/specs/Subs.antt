@@ -1,5 +1,6 @@
 -- The substitution of the front of a path.
-use Rattle.std.specs.Prelude.{◌≡◌, Bool, true, false, ◌&&◌, ◌||◌, not, List, [], ◌∷◌, ◌++◌, length, drop, Option, Some, None, filter}
+use Rattle.std.specs.Prelude.{◌≡◌, Bool, true, false, ◌&&◌, ◌||◌, not, List, [], ◌∷◌, ◌++◌, length}
+use Rattle.std.specs.Prelude.{drop, Option, Some, None, filter}
 use Rattle.std.specs.List.{last_or, list_any}
 use Rattle.file_paths.specs.Path.{Path, at_or_below, strictly_below}
 
@@ -33,8 +34,8 @@ abbrev pub substituted : List SubValue → List SubValue → Path → Path
 substituted first second path = by_last second (by_last first path)
 
 -- some line of the first stage covers the path, or some line of the second does
-abbrev pub is_covered : List SubValue → List SubValue → Path → Bool
-is_covered first second path = list_any (covers path) first || list_any (covers path) second
+abbrev pub is_path_covered : List SubValue → List SubValue → Path → Bool
+is_path_covered first second path = list_any (covers path) first || list_any (covers path) second
 
 -- the source of some line lies strictly below the path
 abbrev pub has_below : List SubValue → Path → Bool

@@ -76,7 +76,8 @@ fn is_longer(path: &PathRef<'_>, other: &PathRef<'_>, sub: &Sub) -> bool
     kept < path.names().saturating_sub(sub.target.names())
 }
 
-/// Whether the source of some line lies strictly below what the lines of the first stage make of the path.
+/// Whether the source of some line lies strictly below what the lines of the first stage make of
+/// the path.
 pub fn has_source_below_first(subs: &SubList, first: &SubList, path: &PathRef<'_>) -> bool
     ensures { result ≡ has_below subs.now (by_last first.now (path_of path.now)) }
 {

@@ -1,5 +1,5 @@
-//! The substitution of the front of a path, as selabel_file(5) describes it for file_contexts.subs and
-//! file_contexts.subs_dist.
+//! The substitution of the front of a path, as selabel_file(5) describes it for file_contexts.subs
+//! and file_contexts.subs_dist.
 #![tactic(auto)]
 
 mod below;

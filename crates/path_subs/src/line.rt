@@ -1,5 +1,5 @@
 ghost use Rattle.std.specs.Prelude.{Ok};
-ghost use Rattle.label_base.specs.Answers.{Answers, cause_of};
+ghost use Rattle.label_base.specs.Answers.{Answers, fault_cause};
 ghost use Rattle.path_subs.specs.SubLines.{sub_in, with_paths};
 
 use crate::sub::Sub;
@@ -9,7 +9,7 @@ use label_base::{Fault, LineReader, next_field};
 use std::alloc::Global;
 
 fn make_sub(source: NormPath, target: NormPath) -> Result<Sub, Fault<NoSub>>
-    ensures { Answers (λ sub. sub) cause_of result (with_paths (Ok source) (Ok target)) }
+    ensures { Answers (λ sub. sub) fault_cause result (with_paths (Ok source) (Ok target)) }
 {
     if source.names() == 0 {
         return Err(Fault::Why(NoSub));

@@ -1,11 +1,13 @@
-ghost use Rattle.std.specs.Prelude.{◌≡◌, ◌<◌, ◌≤◌, ◌-◌, ◌^◌, ℕ, if◌then◌else◌, List, true, false, length, min, drop, get_or, Some, IfOk, IfSome, OnOk};
+ghost use Rattle.std.specs.Prelude.{◌≡◌, ◌<◌, ◌≤◌, ◌-◌, ◌^◌, ℕ, if◌then◌else◌, List, true, false};
+ghost use Rattle.std.specs.Prelude.{length, min, drop, get_or, Some, IfOk, IfSome, OnOk};
 ghost use Rattle.std.specs.Option.{option_copied};
 ghost use Rattle.label_base.specs.Bounded.{greatest_below};
 ghost use Rattle.label_base.specs.NumberUnder.{number_under};
 ghost use Rattle.file_paths.specs.Path.{are_names, with_slashes};
 ghost use Rattle.file_paths.specs.PathRef.{path_of};
 ghost use Rattle.file_paths.specs.PathText.{ends_name};
-ghost use Rattle.path_subs.specs.Listed.{IsListed, fits_at, has_text, last_covering, mark, mark_by, sub_at};
+ghost use Rattle.path_subs.specs.Listed.{AreSubsListed, sub_fits_at, has_text, last_covering, mark};
+ghost use Rattle.path_subs.specs.Listed.{mark_by, sub_at};
 ghost use Rattle.path_subs.specs.Subs.{SubValue, covering, covers};
 
 use crate::sub::Sub;
@@ -20,8 +22,8 @@ const LENGTHS: usize = 4096;
 
 const BYTES: usize = 64;
 
-/// The lines of one substitution file, seen as their list, and what finds the last one that covers a path
-/// without a look at the others.
+/// The lines of one substitution file, seen as their list, and what finds the last one that covers
+/// a path without a look at the others.
 #[derive(Debug, Drop)]
 pub struct SubList {
     lines: Row<Sub>,
@@ -43,7 +45,7 @@ impl Model for SubList {
     ghost view = { λ s. s.lines };
 
     ghost invariant = { λ s.
-        IsListed s.lines (length s.lines) s.last.entries s.marks.items s.longest };
+        AreSubsListed s.lines (length s.lines) s.last.entries s.marks.items s.longest };
 }
 
 // The number under a text.
@@ -56,7 +58,8 @@ fn number_under(last: &IndexMap<Vec<u8>, usize>, text: &[u8]) -> Option<usize>
     }
 }
 
-// The mark of the text of so many bytes that ends with this one. Paths are shorter than the lengths that are told apart.
+// The mark of the text of so many bytes that ends with this one. Paths are shorter than the lengths
+// that are told apart.
 fn mark_of(length: usize, byte: u8) -> usize
     ensures { result ≡ mark_by length byte }
 {
@@ -90,8 +93,8 @@ fn number_at(
     requires above { 0 < end }
     requires within { end ≤ length text.now }
     ensures { (subs : List SubValue) → (longest : ℕ)
-        → IsListed subs (length subs) last.now.entries marks.now longest
-        → result ≡ greatest_below (length subs) (λ i. fits_at text.now end (sub_at subs i)) }
+        → AreSubsListed subs (length subs) last.now.entries marks.now longest
+        → result ≡ greatest_below (length subs) (λ i. sub_fits_at text.now end (sub_at subs i)) }
 {
     if !ends_name_at(text, end) {
         return None;
@@ -117,7 +120,7 @@ fn last_covering(
     path: &PathRef<'_>,
 ) -> Option<usize>
     ensures { (subs : List SubValue)
-        → IsListed subs (length subs) last.now.entries marks.now longest
+        → AreSubsListed subs (length subs) last.now.entries marks.now longest
         → result ≡ last_covering subs (path_of path.now) }
 {
     let text = path.as_text();
@@ -192,7 +195,8 @@ fn mark_line(marks: &mut Vec<bool>, sub: &Sub) -> Result<usize, OutOfMemory>
     Ok(text.len())
 }
 
-// What finds the lines: under the text of each source its last line, the marks of all, and how long the longest is.
+// What finds the lines: under the text of each source its last line, the marks of all, and how long
+// the longest is.
 #[derive(Drop)]
 struct Listing {
     last: IndexMap<Vec<u8>, usize>,
@@ -201,7 +205,7 @@ struct Listing {
 }
 
 fn list_all(alloc: Global, lines: &[Sub]) -> Result<Listing, OutOfMemory>
-    ensures { IfOk result (λ listing. IsListed lines.now (length lines.now)
+    ensures { IfOk result (λ listing. AreSubsListed lines.now (length lines.now)
         listing.last.entries listing.marks.items listing.longest) }
 {
     let mut last = IndexMap::new(alloc);
@@ -240,8 +244,9 @@ impl SubList {
         &self.lines
     }
 
-    /// The last line that covers the path. It looks at the front of the path alone, up to the length of the longest
-    /// source, and looks up what stands before a slash where some source is as long.
+    /// The last line that covers the path. It looks at the front of the path alone, up to the
+    /// length of the longest source, and looks up what stands before a slash where some source is
+    /// as long.
     pub fn last_cover(&self, path: &PathRef<'_>) -> Option<&Sub>
         ensures value { option_copied result ≡ covering self.now (path_of path.now) }
         ensures covers { IfSome result (λ sub. covers (path_of path.now) sub.now ≡ true) }

@@ -1,7 +1,7 @@
 ghost use Rattle.std.specs.Prelude.{◌≡◌, IfOk, is_some, unwrap_or};
 ghost use Rattle.std.specs.Bool.{OnTrue};
 ghost use Rattle.file_paths.specs.PathRef.{path_of};
-ghost use Rattle.path_subs.specs.Subs.{KeepsBelow, is_covered, plain, substituted};
+ghost use Rattle.path_subs.specs.Subs.{KeepsBelow, is_path_covered, plain, substituted};
 
 use crate::below::{has_source_below, has_source_below_first};
 use crate::stage::stage;
@@ -37,11 +37,12 @@ fn copy_of(alloc: Global, path: &PathRef<'_>) -> Result<NormPath, OutOfMemory>
 }
 
 impl Subs {
-    /// The path as both stages change it, or none where no line covers it, so that the path itself can be taken
-    /// without a copy.
+    /// The path as both stages change it, or none where no line covers it, so that the path itself
+    /// can be taken without a copy.
     ///
-    /// A line covers the paths at or below its source, and of several that do in one file the last is taken. The
-    /// names of its source give place to those of its target. A changed path knows no limit of length.
+    /// A line covers the paths at or below its source, and of several that do in one file the last
+    /// is taken. The names of its source give place to those of its target. A changed path knows no
+    /// limit of length.
     pub fn changed(
         &self,
         alloc: Global,
@@ -50,7 +51,7 @@ impl Subs {
         ensures value { IfOk result (λ changed. unwrap_or changed (path_of path.now)
             ≡ substituted self.now.first self.now.second (path_of path.now)) }
         ensures variant { IfOk result (λ changed. is_some changed
-            ≡ is_covered self.now.first self.now.second (path_of path.now)) }
+            ≡ is_path_covered self.now.first self.now.second (path_of path.now)) }
     {
         let Some(once) = stage(alloc, &self.first, path)? else {
             return stage(alloc, &self.second, path);
@@ -70,8 +71,9 @@ impl Subs {
         }
     }
 
-    /// Whether every path below this one is changed as this one is: no source of the first stage lies strictly below
-    /// it, and none of the second strictly below what the first makes of it. Takes no memory.
+    /// Whether every path below this one is changed as this one is: no source of the first stage
+    /// lies strictly below it, and none of the second strictly below what the first makes of it.
+    /// Takes no memory.
     #[tactic(auto, using(crate::proofs::PlainPaths::plain_keeps))]
     pub fn plain_at(&self, path: &PathRef<'_>) -> bool
         ensures value { result ≡ plain self.now.first self.now.second (path_of path.now) }

@@ -1,5 +1,6 @@
 -- An automaton made ready: marks, and what they leave, where it has tables and where it needs none.
-use Rattle.std.proofs.Common.{◌≡◌, refl, sym, ◌∙◌, subst, ℕ, suc, ◌-◌, ◌*◌, ◌<◌, ◌==◌, Bool, true, false, List, [], ◌∷◌, ◌++◌, length, take, drop, arith}
+use Rattle.std.proofs.Common.{◌≡◌, refl, sym, ◌∙◌, subst, ℕ, suc, ◌-◌, ◌*◌, ◌<◌, ◌==◌, Bool, true}
+use Rattle.std.proofs.Common.{false, List, [], ◌∷◌, ◌++◌, length, take, drop, arith}
 use Rattle.std.specs.Prelude.{◌&&◌, not, nat_lt}
 use Rattle.std.proofs.lemmas.List.{take-append-drop}
 use Rattle.std.proofs.lemmas.Bool.{not-true}
@@ -9,123 +10,192 @@ use Rattle.pattern_syntax.specs.Language.{In}
 use Rattle.pattern_match.specs.Residuals.{residuals, is_some_list}
 use Rattle.pattern_match.specs.Automaton.{automaton, all_places}
 use Rattle.pattern_match.specs.Settled.{MarksLeadOnward}
-use Rattle.pattern_match.specs.States.{bit, is_bare, AreMarks, IsMarked, AreMarksBy, IsBehindBy, AreMarksOf, IsBehind, IsRead}
+use Rattle.pattern_match.specs.States.{bit, is_bare, AreMarks, IsMarked, AreMarksBy, IsBehindBy}
+use Rattle.pattern_match.specs.States.{AreMarksOf, IsBehind, IsRead}
 use Rattle.pattern_match.specs.Onwards.{AreTextBytes}
-use Rattle.pattern_syntax.specs.Nodes.{tree_of}
-use Rattle.pattern_match.specs.Compiled.{IsReady, IsReadyFor, IsCompiled}
+use Rattle.pattern_syntax.specs.Nodes.{nodes_tree}
+use Rattle.pattern_match.specs.Compiled.{AreTablesReady, IsReadyFor, IsCompiled}
 use Rattle.pattern_match.specs.declared.machine.Machine.TheInside.{Inside}
 use Rattle.pattern_match.specs.declared.class.Class.{Class}
 use Rattle.pattern_match.proofs.Language.{empty_in}
 use Rattle.pattern_match.proofs.Onwards.{onward_left}
 use Rattle.pattern_match.proofs.Running.{Runs, automaton_runs, no_first}
 use Rattle.pattern_match.proofs.WordBits.{bit_within}
-use Rattle.pattern_match.proofs.Stepping.{IsStep, IsEnd, IsAny, step_onto, step_from, end_from, end_onto, any_left, left_any}
-use Rattle.pattern_match.proofs.RunTables.{IsMachine, start_made, start_stands, wide, stepped_states}
+use Rattle.pattern_match.proofs.Stepping.{IsStep, IsEnd, IsAny, step_onto, step_from, end_from}
+use Rattle.pattern_match.proofs.Stepping.{end_onto, any_left, left_any}
+use Rattle.pattern_match.proofs.RunTables.{IsMachine, start_made, start_stands, wide}
+use Rattle.pattern_match.proofs.RunTables.{stepped_states}
 
 -- a pattern without a byte set holds the empty text alone
-bare_text : (t : Tree) → is_bare t ≡ true → (text : List ℕ) → (In t text → text ≡ []) × (text ≡ [] → In t text)
-bare_text t h text = (λ i. at text i, λ e. subst (λ w. In t w) (sym e) (empty_in t (sym r.holds_empty ∙ second_so (not (is_some_list (automaton t).places)) _ h)))
+bare_text : (t : Tree) → is_bare t ≡ true → (text : List ℕ) → (In t text → text ≡ [])
+    × (text ≡ [] → In t text)
+bare_text t h text = (
+  λ i. at text i,
+  λ e. subst (λ w. In t w) (sym e)
+      (empty_in t (sym r.holds_empty ∙ second_so (not (is_some_list (automaton t).places)) _ h)),
+)
   where
     r : Runs (automaton t) t (residuals t)
     r = automaton_runs t
 
     at : (text : List ℕ) → In t text → text ≡ []
     at [] i = refl
-    at (b ∷ bs) i = absurd (no_first (automaton t) t (residuals t) r (not-true (is_some_list (automaton t).places) (first_so (not (is_some_list (automaton t).places)) _ h)) b bs i)
+    at (b ∷ bs) i =
+        absurd (no_first (automaton t) t (residuals t) r
+        (not-true (is_some_list (automaton t).places)
+        (first_so (not (is_some_list (automaton t).places)) _ h)) b bs i)
 
-pub some_marks : (t : Tree) (marks : List ℕ) → is_bare t ≡ false → AreMarksOf t marks → AreMarks t marks
+pub some_marks : (t : Tree) (marks : List ℕ) → is_bare t ≡ false → AreMarksOf t marks
+    → AreMarks t marks
 some_marks t marks e a = subst (λ v. AreMarksBy v t marks) e a
 
-pub marks_of_some : (t : Tree) (marks : List ℕ) → is_bare t ≡ false → AreMarks t marks → AreMarksOf t marks
+pub marks_of_some : (t : Tree) (marks : List ℕ) → is_bare t ≡ false → AreMarks t marks
+    → AreMarksOf t marks
 marks_of_some t marks e a = subst (λ v. AreMarksBy v t marks) (sym e) a
 
-pub behind_some : (t : Tree) (marks text : List ℕ) → is_bare t ≡ false → IsBehind t marks text → IsMarked t marks text
+pub behind_some : (t : Tree) (marks text : List ℕ) → is_bare t ≡ false → IsBehind t marks text
+    → IsMarked t marks text
 behind_some t marks text e a = subst (λ v. IsBehindBy v t marks text) e a
 
-pub some_behind : (t : Tree) (marks text : List ℕ) → is_bare t ≡ false → IsMarked t marks text → IsBehind t marks text
+pub some_behind : (t : Tree) (marks text : List ℕ) → is_bare t ≡ false → IsMarked t marks text
+    → IsBehind t marks text
 some_behind t marks text e a = subst (λ v. IsBehindBy v t marks text) (sym e) a
 
-pub bare_behind : (t : Tree) (marks text : List ℕ) → is_bare t ≡ true → (IsBehind t marks text → text ≡ []) × (text ≡ [] → IsBehind t marks text)
-bare_behind t marks text e = (λ a. subst (λ v. IsBehindBy v t marks text) e a, λ a. subst (λ v. IsBehindBy v t marks text) (sym e) a)
+pub bare_behind : (t : Tree) (marks text : List ℕ) → is_bare t ≡ true
+    → (IsBehind t marks text → text ≡ []) × (text ≡ [] → IsBehind t marks text)
+bare_behind t marks text e = (
+  λ a. subst (λ v. IsBehindBy v t marks text) e a,
+  λ a. subst (λ v. IsBehindBy v t marks text)
+      (sym e) a,
+)
 
-pub bare_unmarked : (t : Tree) (marks : List ℕ) → is_bare t ≡ true → AreMarksOf t marks → (p : ℕ) → bit marks p ≡ true → ⊥
+pub bare_unmarked : (t : Tree) (marks : List ℕ) → is_bare t ≡ true → AreMarksOf t marks → (p : ℕ)
+    → bit marks p ≡ true → ⊥
 bare_unmarked t marks e a p h =
     let n : length marks ≡ 0 = subst (λ v. AreMarksBy v t marks) e a in
     let l = bit_within marks p h in
     omega arith
 
 -- what a machine keeps, as its pattern's
-pub ready_by : (m : Inside) (t : Tree) → tree_of m.nodes.items ≡ t → IsCompiled m → IsReadyFor t m.ready
+pub ready_by : (m : Inside) (t : Tree) → nodes_tree m.nodes.items ≡ t → IsCompiled m
+    → IsReadyFor t m.ready
 ready_by m t is kept = subst (λ u. IsReadyFor u m.ready) is kept
 
-module _ (t : Tree) (bare : Bool) (rows width : ℕ) (follow accept : List ℕ) (classes : List Class) (r : IsReady t bare rows width follow accept classes) where
+module _ (t : Tree) (bare : Bool) (rows width : ℕ) (follow accept : List ℕ) (classes : List Class)
+    (r : AreTablesReady t bare rows width follow accept classes) where
   pub machine : bare ≡ false → IsMachine t rows width follow accept classes
   machine e = record { rows_is = r.rows_are e; tables = r.tables e }
 
   not_bare : bare ≡ false → is_bare t ≡ false
   not_bare e = sym r.bare_is ∙ e
 
-  made_at : (v : Bool) → bare ≡ v → (new : List ℕ) → length new ≡ width → ((k : ℕ) → k < 64 * length new → bit new k ≡ (nat_lt 0 rows && (rows - 1 == k))) → AreMarksOf t new
+  made_at : (v : Bool) → bare ≡ v → (new : List ℕ) → length new ≡ width
+      → ((k : ℕ) → k < 64 * length new → bit new k ≡ (nat_lt 0 rows && (rows - 1 == k)))
+      → AreMarksOf t new
   made_at true e new n h = subst (λ v. AreMarksBy v t new) (sym e ∙ r.bare_is) (n ∙ r.none e)
-  made_at false e new n h = marks_of_some t new (not_bare e) (start_made t rows width follow accept classes (machine e) new n h)
+  made_at false e new n h =
+      marks_of_some t new (not_bare e)
+      (start_made t rows width follow accept classes (machine e) new n h)
 
-  starts_at : (v : Bool) → bare ≡ v → (new : List ℕ) → length new ≡ width → ((k : ℕ) → k < 64 * length new → bit new k ≡ (nat_lt 0 rows && (rows - 1 == k))) → (text : List ℕ) → (IsBehind t new text → In t text) × (In t text → IsBehind t new text)
+  starts_at : (v : Bool) → bare ≡ v → (new : List ℕ) → length new ≡ width
+      → ((k : ℕ) → k < 64 * length new → bit new k ≡ (nat_lt 0 rows && (rows - 1 == k)))
+      → (text : List ℕ) → (IsBehind t new text → In t text) × (In t text → IsBehind t new text)
   starts_at true e new n h text =
-      let b = sym r.bare_is ∙ e in
-      (λ a. (bare_text t b text).1 ((bare_behind t new text b).0 a), λ a. (bare_behind t new text b).1 ((bare_text t b text).0 a))
+      let b = sym r.bare_is ∙ e in (
+        λ a. (bare_text t b text).1 ((bare_behind t new text b).0 a),
+        λ a.
+            (bare_behind t new text b).1 ((bare_text t b text).0 a),
+      )
   starts_at false e new n h text =
-      let s = start_stands t rows width follow accept classes (machine e) new n h in
-      (λ a. s.from text (behind_some t new text (not_bare e) a), λ a. some_behind t new text (not_bare e) (s.onto text a))
+      let s = start_stands t rows width follow accept classes (machine e) new n h in (
+        λ a. s.from text (behind_some t new text (not_bare e) a),
+        λ a. some_behind t new text
+            (not_bare e) (s.onto text a),
+      )
 
   wide_at : (v : Bool) → bare ≡ v → (old : List ℕ) → AreMarksOf t old → length old ≡ width
   wide_at true e old a = subst (λ v. AreMarksBy v t old) (sym r.bare_is ∙ e) a ∙ sym (r.none e)
-  wide_at false e old a = wide t rows width follow accept classes (machine e) old (some_marks t old (not_bare e) a)
+  wide_at false e old a = wide t rows width follow accept classes (machine e) old
+      (some_marks t old (not_bare e) a)
 
-  pub restart_made : (new : List ℕ) → length new ≡ width → ((k : ℕ) → k < 64 * length new → bit new k ≡ (nat_lt 0 rows && (rows - 1 == k))) → AreMarksOf t new
+  pub restart_made : (new : List ℕ) → length new ≡ width
+      → ((k : ℕ) → k < 64 * length new → bit new k ≡ (nat_lt 0 rows && (rows - 1 == k)))
+      → AreMarksOf t new
   restart_made = made_at bare refl
 
-  pub restart_starts : (new : List ℕ) → length new ≡ width → ((k : ℕ) → k < 64 * length new → bit new k ≡ (nat_lt 0 rows && (rows - 1 == k))) → (text : List ℕ) → (IsBehind t new text → In t text) × (In t text → IsBehind t new text)
+  pub restart_starts : (new : List ℕ) → length new ≡ width
+      → ((k : ℕ) → k < 64 * length new → bit new k ≡ (nat_lt 0 rows && (rows - 1 == k)))
+      → (text : List ℕ) → (IsBehind t new text → In t text) × (In t text → IsBehind t new text)
   restart_starts = starts_at bare refl
 
   pub as_wide : (old : List ℕ) → AreMarksOf t old → length old ≡ width
   as_wide = wide_at bare refl
 
-pub step_made : (t : Tree) (old new : List ℕ) (b : ℕ) → is_bare t ≡ false → AreMarksOf t old → length new ≡ length old → IsStep (all_places (automaton t)) old new b → AreMarksOf t new
-step_made t old new b e a n s = marks_of_some t new e (stepped_states t old new b (some_marks t old e a) n s)
+pub step_made : (t : Tree) (old new : List ℕ) (b : ℕ) → is_bare t ≡ false → AreMarksOf t old
+    → length new ≡ length old → IsStep (all_places (automaton t)) old new b → AreMarksOf t new
+step_made t old new b e a n s =
+    marks_of_some t new e (stepped_states t old new b (some_marks t old e a) n s)
 
-pub step_behind : (t : Tree) (old new : List ℕ) (b : ℕ) → is_bare t ≡ false → IsStep (all_places (automaton t)) old new b → (text : List ℕ) → (IsBehind t old (b ∷ text) → IsBehind t new text) × (IsBehind t new text → IsBehind t old (b ∷ text))
+pub step_behind : (t : Tree) (old new : List ℕ) (b : ℕ) → is_bare t ≡ false
+    → IsStep (all_places (automaton t)) old new b → (text : List ℕ)
+    → (IsBehind t old (b ∷ text) → IsBehind t new text)
+    × (IsBehind t new text → IsBehind t old (b ∷ text))
 step_behind t old new b e s text = (
   λ a. some_behind t new text e (step_onto t old new b s text (behind_some t old (b ∷ text) e a)),
   λ a. some_behind t old (b ∷ text) e (step_from t old new b s text (behind_some t new text e a)),
 )
 
-pub end_behind : (t : Tree) (marks : List ℕ) (v : Bool) → is_bare t ≡ false → IsEnd (all_places (automaton t)) marks v → (v ≡ true → IsBehind t marks []) × (IsBehind t marks [] → v ≡ true)
-end_behind t marks v e s = (λ h. some_behind t marks [] e (end_from t marks v s h), λ a. end_onto t marks v s (behind_some t marks [] e a))
+pub end_behind : (t : Tree) (marks : List ℕ) (v : Bool) → is_bare t ≡ false
+    → IsEnd (all_places (automaton t)) marks v → (v ≡ true → IsBehind t marks [])
+    × (IsBehind t marks [] → v ≡ true)
+end_behind t marks v e s = (
+  λ h. some_behind t marks [] e (end_from t marks v s h),
+  λ a. end_onto t marks v s
+      (behind_some t marks [] e a),
+)
 
-pub bare_ends : (t : Tree) (marks : List ℕ) → is_bare t ≡ true → (true ≡ true → IsBehind t marks []) × (IsBehind t marks [] → true ≡ true)
+pub bare_ends : (t : Tree) (marks : List ℕ) → is_bare t ≡ true → (true ≡ true → IsBehind t marks [])
+    × (IsBehind t marks [] → true ≡ true)
 bare_ends t marks e = (λ h. (bare_behind t marks [] e).1 refl, λ a. refl)
 
-pub all_behind : (t : Tree) (marks : List ℕ) → is_bare t ≡ false → MarksLeadOnward t marks → (text : List ℕ) → AreTextBytes text → IsBehind t marks text
+pub all_behind : (t : Tree) (marks : List ℕ) → is_bare t ≡ false → MarksLeadOnward t marks
+    → (text : List ℕ) → AreTextBytes text → IsBehind t marks text
 all_behind t marks e s text a = some_behind t marks text e (onward_left t marks s text a)
 
-pub any_behind : (t : Tree) (marks : List ℕ) (v : Bool) → is_bare t ≡ false → AreMarksOf t marks → IsAny marks v → v ≡ true → (text : List ℕ) × IsBehind t marks text
-any_behind t marks v e a s h = let r = any_left t marks v (some_marks t marks e a) s h in (r.0, some_behind t marks r.0 e r.1)
+pub any_behind : (t : Tree) (marks : List ℕ) (v : Bool) → is_bare t ≡ false → AreMarksOf t marks
+    → IsAny marks v → v ≡ true → (text : List ℕ) × IsBehind t marks text
+any_behind t marks v e a s h = let r = any_left t marks v (some_marks t marks e a) s h in
+    (r.0, some_behind t marks r.0 e r.1)
 
-pub behind_any : (t : Tree) (marks : List ℕ) (v : Bool) → is_bare t ≡ false → IsAny marks v → (text : List ℕ) → IsBehind t marks text → v ≡ true
+pub behind_any : (t : Tree) (marks : List ℕ) (v : Bool) → is_bare t ≡ false → IsAny marks v
+    → (text : List ℕ) → IsBehind t marks text → v ≡ true
 behind_any t marks v e s text a = left_any t marks v s text (behind_some t marks text e a)
 
-pub bare_left : (t : Tree) (marks : List ℕ) → is_bare t ≡ true → (text : List ℕ) × IsBehind t marks text
+pub bare_left : (t : Tree) (marks : List ℕ) → is_bare t ≡ true → (text : List ℕ)
+    × IsBehind t marks text
 bare_left t marks e = ([], (bare_behind t marks [] e).1 refl)
 
-pub nothing_left : (t : Tree) (marks text : List ℕ) (i : ℕ) (v : Bool) → v ≡ false → ((rest : List ℕ) → IsBehind t marks rest → v ≡ true) → IsRead t marks (take i text) → In t text → ⊥
+pub nothing_left : (t : Tree) (marks text : List ℕ) (i : ℕ) (v : Bool) → v ≡ false
+    → ((rest : List ℕ) → IsBehind t marks rest → v ≡ true) → IsRead t marks (take i text)
+    → In t text → ⊥
 nothing_left t marks text i v e f h m =
     let p : take i text ++ drop i text ≡ text = take-append-drop i text in
     let u : v ≡ true = f (drop i text) ((h (drop i text)).1 (subst (λ w. In t w) (sym p) m)) in
     let c : true ≡ false = sym u ∙ e in cc
 
-is_nil : (text : List ℕ) (v : Bool) → v ≡ (length text == 0) → (v ≡ true → text ≡ []) × (text ≡ [] → v ≡ true)
+is_nil : (text : List ℕ) (v : Bool) → v ≡ (length text == 0) → (v ≡ true → text ≡ [])
+    × (text ≡ [] → v ≡ true)
 is_nil [] v e = (λ h. refl, λ h. e)
-is_nil (b ∷ bs) v e = (λ h. absurd (let z : (suc (length bs) == 0) ≡ false = grind arith in let d : true ≡ false = sym h ∙ e ∙ z in cc), λ h. cc)
+is_nil (b ∷ bs) v e = (
+  λ h. absurd (let z : (suc (length bs) == 0) ≡ false = grind arith in
+      let d : true ≡ false = sym h ∙ e ∙ z in cc),
+  λ h. cc,
+)
 
-pub bare_matches : (t : Tree) (text : List ℕ) (v : Bool) → is_bare t ≡ true → v ≡ (length text == 0) → (v ≡ true → In t text) × (In t text → v ≡ true)
-bare_matches t text v e h = (λ a. (bare_text t e text).1 ((is_nil text v h).0 a), λ a. (is_nil text v h).1 ((bare_text t e text).0 a))
+pub bare_matches : (t : Tree) (text : List ℕ) (v : Bool) → is_bare t ≡ true → v ≡ (length text == 0)
+    → (v ≡ true → In t text) × (In t text → v ≡ true)
+bare_matches t text v e h = (
+  λ a. (bare_text t e text).1 ((is_nil text v h).0 a),
+  λ a. (is_nil text v h).1
+      ((bare_text t e text).0 a),
+)

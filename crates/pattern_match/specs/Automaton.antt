@@ -1,15 +1,19 @@
--- The position automaton of a pattern (Glushkov's): its states are the byte sets of the pattern, repeats written out.
-use Rattle.std.specs.Prelude.{ℕ, zero, suc, pred, ◌+◌, Bool, true, false, ◌||◌, ◌&&◌, ◌==◌, List, [], ◌∷◌, ◌++◌, map, length, Option, Some, None, if◌then◌else◌}
+-- The position automaton of a pattern (Glushkov's): its states are the byte sets of the pattern,
+-- repeats written out.
+use Rattle.std.specs.Prelude.{ℕ, zero, suc, pred, ◌+◌, Bool, true, false, ◌||◌, ◌&&◌, ◌==◌, List}
+use Rattle.std.specs.Prelude.{[], ◌∷◌, ◌++◌, map, length, Option, Some, None, if◌then◌else◌}
 use Rattle.pattern_syntax.specs.Tree.{Tree, Set, Nothing, Both, Either, Repeat}
 use Rattle.pattern_match.specs.Residuals.{is_some_list, is_count}
 
--- a byte set, whether a text may end behind it, and the numbers of the sets that may take the next byte
+-- a byte set, whether a text may end behind it, and the numbers of the sets that may take the next
+-- byte
 pub record Place : Type 0 where
   pub bytes : List ℕ
   pub is_last : Bool
   pub next : List ℕ
 
--- the places in order, the numbers of those that may take a first byte, whether the empty text is held, whether any text is
+-- the places in order, the numbers of those that may take a first byte, whether the empty text is
+-- held, whether any text is
 pub record Automaton : Type 0 where
   pub places : List Place
   pub first : List ℕ
@@ -25,9 +29,9 @@ bare holds_empty = record {
   is_live = holds_empty;
 }
 
-abbrev pub single : List ℕ → Automaton
-single [] = bare false
-single (b ∷ bs) = record {
+abbrev pub single_place : List ℕ → Automaton
+single_place [] = bare false
+single_place (b ∷ bs) = record {
   places = record { bytes = b ∷ bs; is_last = true; next = [] } ∷ [];
   first = 0 ∷ [];
   holds_empty = false;
@@ -76,8 +80,8 @@ both_live a b = record {
 abbrev pub both : Automaton → Automaton → Automaton
 both a b = if a.is_live && b.is_live then both_live a b else bare false
 
-abbrev pub either : Automaton → Automaton → Automaton
-either a b = record {
+abbrev pub either_automaton : Automaton → Automaton → Automaton
+either_automaton a b = record {
   places = a.places ++ map (moved (length a.places)) b.places;
   first = a.first ++ up (length a.places) b.first;
   holds_empty = a.holds_empty || b.holds_empty;
@@ -116,8 +120,8 @@ abbrev pub repeat_places : ℕ → Option ℕ → Automaton → Automaton
 repeat_places least None piece = endless least piece
 repeat_places least (Some most) piece = copies least most piece
 
-abbrev pub repeated : ℕ → Option ℕ → Automaton → Automaton
-repeated least most piece =
+abbrev pub repeated_automaton : ℕ → Option ℕ → Automaton → Automaton
+repeated_automaton least most piece =
     if is_count least most then
     (if is_some_list piece.places
     then repeat_places least most piece
@@ -125,13 +129,14 @@ repeated least most piece =
     else bare false
 
 unfoldable pub automaton : Tree → Automaton
-automaton (Set bytes) = single bytes
+automaton (Set bytes) = single_place bytes
 automaton Nothing = bare true
 automaton (Both first second) = both (automaton first) (automaton second)
-automaton (Either left right) = either (automaton left) (automaton right)
-automaton (Repeat least most piece) = repeated least most (automaton piece)
+automaton (Either left right) = either_automaton (automaton left) (automaton right)
+automaton (Repeat least most piece) = repeated_automaton least most (automaton piece)
 
--- the places with one at the end that stands before the first byte; the byte 0 leads there, which is in no text
+-- the places with one at the end that stands before the first byte; the byte 0 leads there, which
+-- is in no text
 abbrev pub all_places : Automaton → List Place
 all_places a =
     if a.is_live

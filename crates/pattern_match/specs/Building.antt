@@ -16,7 +16,7 @@ Builds node old new =
     (trees : List Tree) → HoldsTrees old trees → HoldsTrees new (after_node node trees)
 
 -- the stack holds the trees of the nodes before a later place
-pub record IsPut (nodes : List Node) (stack : List Automaton) (at next : ℕ) : Type 0 where
+pub record IsNodePut (nodes : List Node) (stack : List Automaton) (at next : ℕ) : Type 0 where
   pub later : at < next
   pub within : next ≤ length nodes
   pub holds : HoldsTrees stack (trees_before nodes next)

@@ -1,5 +1,6 @@
 -- The bytes of one position.
-use Rattle.std.specs.Prelude.{◌≡◌, ℕ, ◌<◌, Bool, true, false, not, ◌&&◌, ◌==◌, List, [], ◌∷◌, Option, Some, None, slice_get}
+use Rattle.std.specs.Prelude.{◌≡◌, ℕ, ◌<◌, Bool, true, false, not, ◌&&◌, ◌==◌, List, [], ◌∷◌}
+use Rattle.std.specs.Prelude.{Option, Some, None, slice_get}
 use Rattle.pattern_syntax.specs.ByteSet.{has_byte, bytes_with}
 use Rattle.pattern_match.specs.declared.class.Class.{Class}
 use Rattle.pattern_match.specs.declared.class.Class.TheVariants.{Byte, Set}

@@ -1,6 +1,6 @@
 -- What an automaton made ready keeps.
 use Rattle.std.specs.Prelude.{◌≡◌, ℕ, Bool, true, false, List, length}
-use Rattle.pattern_syntax.specs.Nodes.{tree_of}
+use Rattle.pattern_syntax.specs.Nodes.{nodes_tree}
 use Rattle.pattern_syntax.specs.Tree.{Tree}
 use Rattle.pattern_match.specs.Automaton.{automaton, all_places}
 use Rattle.pattern_match.specs.States.{is_bare}
@@ -10,7 +10,7 @@ use Rattle.pattern_match.specs.declared.readying.Ready.{Ready}
 use Rattle.pattern_match.specs.declared.machine.Machine.TheInside.{Inside}
 
 -- the tables are those of the tree's automaton; one that holds the empty text alone has none
-pub record IsReady (tree : Tree) (bare : Bool) (rows width : ℕ) (follow accept : List ℕ)
+pub record AreTablesReady (tree : Tree) (bare : Bool) (rows width : ℕ) (follow accept : List ℕ)
     (classes : List Class) : Type 0 where
   pub bare_is : bare ≡ is_bare tree
   pub none : bare ≡ true → width ≡ 0
@@ -19,7 +19,7 @@ pub record IsReady (tree : Tree) (bare : Bool) (rows width : ℕ) (follow accept
 
 abbrev pub IsReadyFor : Tree → Ready → Type 0
 IsReadyFor tree r =
-    IsReady tree r.is_bare r.rows r.width r.follow.items r.accept.items r.classes.items
+    AreTablesReady tree r.is_bare r.rows r.width r.follow.items r.accept.items r.classes.items
 
 abbrev pub IsCompiled : Inside → Type 0
-IsCompiled m = IsReadyFor (tree_of m.nodes.items) m.ready
+IsCompiled m = IsReadyFor (nodes_tree m.nodes.items) m.ready

@@ -13,8 +13,8 @@ use Rattle.pattern_match.specs.declared.class.Class.{Class}
 use Rattle.pattern_match.specs.declared.segment.Segment.{Segment}
 
 -- the segment's places stand in the rows, and are those of the automaton
-abbrev pub Stands : List ℕ → List Class → Segment → Automaton → Type 0
-Stands rows classes s a =
+abbrev pub IsSegmentOf : List ℕ → List Class → Segment → Automaton → Type 0
+IsSegmentOf rows classes s a =
     IsSegment rows (map class_bytes classes) s.start s.first s.last s.holds_empty s.is_live a
 
 -- the segments, the last one first, stand for the automata one before the other, up to an end
@@ -23,7 +23,7 @@ AreSegments rows classes [] [] end = Unit {0}
 AreSegments rows classes [] (a ∷ others) end = ⊥
 AreSegments rows classes (s ∷ segments) [] end = ⊥
 AreSegments rows classes (s ∷ segments) (a ∷ others) end =
-    Stands rows classes s a × (end ≡ s.start + length a.places)
+    IsSegmentOf rows classes s a × (end ≡ s.start + length a.places)
     × AreSegments rows classes segments others s.start
 
 -- as many classes as rows, of few places; the segments, their last one at the end, stand for the
@@ -73,7 +73,7 @@ before_rest least (suc left) piece rest =
 -- each of so many copies of a piece stands behind the one before
 abbrev pub StandCopies : List ℕ → List Class → Segment → ℕ → Automaton → Type 0
 StandCopies rows classes piece copies a =
-    (c : ℕ) → c < copies → Stands rows classes (further piece (c * length a.places)) a
+    (c : ℕ) → c < copies → IsSegmentOf rows classes (further piece (c * length a.places)) a
 
 -- there is room for so many copies of a piece of so many places
 pub record CanCopy (rows : List ℕ) (piece : Segment) (places copies : ℕ) : Type 0 where
@@ -99,13 +99,14 @@ pub record AreGrown (by : ℕ) (rows new : List ℕ) (classes others : List Clas
       → slice_index_or (map class_bytes others) p []
       ≡ slice_index_or (map class_bytes others) (p - by) []
 
--- how many copies of a piece a repeat is written as: without an upper number the last one is entered again
+-- how many copies of a piece a repeat is written as: without an upper number the last one is
+-- entered again
 abbrev pub copies_of : ℕ → Option ℕ → ℕ
 copies_of least None = if least == 0 then 1 else least
 copies_of least (Some most) = most
 
 -- a piece of so many places stands last
-pub record IsLast (rows : List ℕ) (classes : List Class) (piece : Segment) (places : ℕ)
+pub record IsLastPiece (rows : List ℕ) (classes : List Class) (piece : Segment) (places : ℕ)
     : Type 0 where
   pub some : 0 < places
   pub count : length rows ≡ piece.start + places

@@ -1,4 +1,5 @@
--- Loops of an automaton, in its tables: states that follow themselves by every byte that texts have.
+-- Loops of an automaton, in its tables: states that follow themselves by every byte that texts
+-- have.
 use Rattle.std.specs.Prelude.{◌≡◌, ℕ, ◌+◌, ◌*◌, ◌<◌, ◌≤◌, true, List, length}
 use Rattle.pattern_match.specs.Class.{HasEachByte, takes_at}
 use Rattle.pattern_match.specs.States.{bit}

@@ -1,6 +1,7 @@
--- What is left of a language behind the first bytes of its texts: left quotients (Brzozowski, "Derivatives of Regular
--- Expressions", 1964).
-use Rattle.std.specs.Prelude.{ℕ, zero, suc, pred, Bool, true, false, ◌||◌, ◌&&◌, ◌==◌, List, [], ◌∷◌, ◌++◌, Some, None, if◌then◌else◌}
+-- What is left of a language behind the first bytes of its texts: left quotients (Brzozowski,
+-- "Derivatives of Regular Expressions", 1964).
+use Rattle.std.specs.Prelude.{ℕ, zero, suc, pred, Bool, true, false, ◌||◌, ◌&&◌, ◌==◌, List, []}
+use Rattle.std.specs.Prelude.{◌∷◌, ◌++◌, Some, None, if◌then◌else◌}
 use Rattle.std.specs.List.{list_any}
 use Rattle.file_paths.specs.Path.{Path, path_text}
 use Rattle.file_paths.specs.declared.path.TheConstants.{SLASH}

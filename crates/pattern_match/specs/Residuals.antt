@@ -1,5 +1,6 @@
 -- What is left of a pattern once one of its byte sets has taken a byte.
-use Rattle.std.specs.Prelude.{ℕ, zero, suc, pred, Bool, true, false, ◌||◌, ◌&&◌, ◌==◌, nat_le, List, [], ◌∷◌, ◌++◌, map, Option, Some, None, if◌then◌else◌}
+use Rattle.std.specs.Prelude.{ℕ, zero, suc, pred, Bool, true, false, ◌||◌, ◌&&◌, ◌==◌, nat_le, List}
+use Rattle.std.specs.Prelude.{[], ◌∷◌, ◌++◌, map, Option, Some, None, if◌then◌else◌}
 use Rattle.pattern_syntax.specs.Tree.{Tree, Set, Nothing, Both, Either, Repeat}
 
 abbrev pub is_some_list : {A : Type 0} → List A → Bool
@@ -23,36 +24,39 @@ has_texts (Repeat least most piece) = is_count least most && ((least == 0) || ha
 abbrev pub Residual : Type 0
 Residual = List ℕ × Tree
 
-abbrev pub and_then : Tree → Residual → Residual
-and_then second residual = (residual.0, Both residual.1 second)
+abbrev pub followed_by : Tree → Residual → Residual
+followed_by second residual = (residual.0, Both residual.1 second)
 
--- the residuals of a repeat, from those of its piece: behind the first copy of the piece, the second and so on
+-- the residuals of a repeat, from those of its piece: behind the first copy of the piece, the
+-- second and so on
 abbrev pub of_copies : ℕ → ℕ → Tree → List Residual → List Residual
 of_copies least zero piece rs = []
 of_copies least (suc most) piece rs =
-    map (and_then (Repeat (pred least) (Some most) piece)) rs
+    map (followed_by (Repeat (pred least) (Some most) piece)) rs
     ++ of_copies (pred least) most piece rs
 
 abbrev pub of_endless : ℕ → Tree → List Residual → List Residual
-of_endless zero piece rs = map (and_then (Repeat 0 None piece)) rs
-of_endless (suc zero) piece rs = map (and_then (Repeat 0 None piece)) rs
+of_endless zero piece rs = map (followed_by (Repeat 0 None piece)) rs
+of_endless (suc zero) piece rs = map (followed_by (Repeat 0 None piece)) rs
 of_endless (suc (suc least)) piece rs =
-    map (and_then (Repeat (suc least) None piece)) rs ++ of_endless (suc least) piece rs
+    map (followed_by (Repeat (suc least) None piece)) rs ++ of_endless (suc least) piece rs
 
--- the byte sets of a pattern from left to right, repeats written out, each with its residual; a set that leads to no text is left out
+-- the byte sets of a pattern from left to right, repeats written out, each with its residual; a set
+-- that leads to no text is left out
 abbrev pub residuals : Tree → List Residual
 residuals (Set []) = []
 residuals (Set (b ∷ bs)) = (b ∷ bs, Nothing) ∷ []
 residuals Nothing = []
 residuals (Both first second) =
     if has_texts first && has_texts second
-    then map (and_then second) (residuals first) ++ residuals second
+    then map (followed_by second) (residuals first) ++ residuals second
     else []
 residuals (Either left right) = residuals left ++ residuals right
 residuals (Repeat least None piece) = of_endless least piece (residuals piece)
 residuals (Repeat least (Some most) piece) =
     if nat_le least most then of_copies least most piece (residuals piece) else []
 
--- with the whole pattern at the end, which is what is left before the first byte: there the byte 0 leads, which is in no text
+-- with the whole pattern at the end, which is what is left before the first byte: there the byte 0
+-- leads, which is in no text
 abbrev pub all_residuals : Tree → List Residual
 all_residuals tree = if has_texts tree then residuals tree ++ (0 ∷ [], tree) ∷ [] else []

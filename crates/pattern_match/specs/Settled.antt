@@ -1,5 +1,5 @@
--- Settled states: those behind which every text may follow, and those that every byte leaves as they are, as far as single
--- places of the automaton behind the literal start show it.
+-- Settled states: those behind which every text may follow, and those that every byte leaves as
+-- they are, as far as single places of the automaton behind the literal start show it.
 use Rattle.std.specs.Prelude.{◌≡◌, ℕ, ◌<◌, ◌⊎◌, true, false, List, length, slice_get}
 use Rattle.pattern_syntax.specs.Tree.{Tree}
 use Rattle.pattern_syntax.specs.Literal.{literal_start_of}
@@ -43,7 +43,8 @@ pub record MarksStay (tree : Tree) (marks : List ℕ) : Type 0 where
   pub some : is_bare tree ≡ false
   pub each : (p : ℕ) → bit marks p ≡ true → IsSteadyPlace (all_places (automaton tree)) marks p
 
--- another byte was met, so that nothing is left; or the whole literal start was read, and the marks behind it stay
+-- another byte was met, so that nothing is left; or the whole literal start was read, and the marks
+-- behind it stay
 abbrev pub StatesStay : Tree → Progress → Type 0
 StatesStay tree states =
     (length (literal_start_of tree) < states.seen)

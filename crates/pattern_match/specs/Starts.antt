@@ -1,7 +1,7 @@
 -- A pattern cut behind the bytes that it begins with.
 use Rattle.std.specs.Prelude.{◌≡◌, ℕ, List, Option, Some, None}
 use Rattle.pattern_syntax.specs.Tree.{Tree, Set, Nothing, Both, Either, Repeat}
-use Rattle.pattern_syntax.specs.Literal.{single_byte, single_bytes, joined}
+use Rattle.pattern_syntax.specs.Literal.{single_byte, single_bytes, start_joined}
 use Rattle.pattern_syntax.specs.Parts.{bytes_tree}
 
 -- nothing is left of a sequence of single bytes alone
@@ -12,7 +12,7 @@ unless_literal (Some bytes) tree = Nothing
 -- the sequence without its literal start; a choice of several has none
 abbrev pub behind_start : Tree → Tree
 behind_start (Both first second) =
-    unless_literal (joined (single_bytes first) (single_byte second))
+    unless_literal (start_joined (single_bytes first) (single_byte second))
     (Both (behind_start first) second)
 behind_start (Set bytes) = Set bytes
 behind_start Nothing = Nothing
@@ -20,18 +20,18 @@ behind_start (Either left right) = Either left right
 behind_start (Repeat least most piece) = Repeat least most piece
 
 -- a tree in place of the first leaf of another, where that is an empty sequence
-abbrev pub in_front : Tree → Tree → Tree
-in_front front (Set bytes) = Set bytes
-in_front front Nothing = front
-in_front front (Both first second) = Both (in_front front first) second
-in_front front (Either left right) = Either (in_front front left) right
-in_front front (Repeat least most piece) = Repeat least most (in_front front piece)
+abbrev pub set_in_front : Tree → Tree → Tree
+set_in_front front (Set bytes) = Set bytes
+set_in_front front Nothing = front
+set_in_front front (Both first second) = Both (set_in_front front first) second
+set_in_front front (Either left right) = Either (set_in_front front left) right
+set_in_front front (Repeat least most piece) = Repeat least most (set_in_front front piece)
 
 -- what stands behind single bytes, with them
 abbrev pub with_start : List ℕ → Tree → Tree
-with_start start tree = in_front (bytes_tree start) tree
+with_start start tree = set_in_front (bytes_tree start) tree
 
 -- a pattern is its start and what stands behind it
-pub record Parts (tree : Tree) (start : List ℕ) (rest : Tree) : Type 0 where
+pub record StartParts (tree : Tree) (start : List ℕ) (rest : Tree) : Type 0 where
   pub whole : with_start start rest ≡ tree
   pub behind : rest ≡ behind_start tree

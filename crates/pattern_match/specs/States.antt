@@ -1,5 +1,7 @@
 -- Sets of states, as bits of words, and the texts that they stand for.
-use Rattle.std.specs.Prelude.{◌≡◌, ℕ, ◌+◌, ◌/◌, ◌%◌, ◌≤◌, ◌==◌, ◌&&◌, ◌⊎◌, not, Bool, true, false, List, [], ◌∷◌, ◌++◌, drop, length, Some, slice_get, slice_index}
+use Rattle.std.specs.Prelude.{codes, ◌≡◌, ℕ, ◌+◌, ◌/◌, ◌%◌, ◌≤◌, ◌==◌, ◌&&◌, ◌⊎◌, not, Bool, true}
+use Rattle.std.specs.Prelude.{false}
+use Rattle.std.specs.Prelude.{List, [], ◌∷◌, ◌++◌, drop, length, Some, slice_get, slice_index}
 use Rattle.std.specs.Int.{bit_at}
 use Rattle.file_paths.specs.Path.{Path, path_text}
 use Rattle.pattern_syntax.specs.Tree.{Tree}
@@ -54,8 +56,8 @@ IsRead tree marks text =
     (rest : List ℕ) → (IsBehind tree marks rest → In tree (text ++ rest))
     × (In tree (text ++ rest) → IsBehind tree marks rest)
 
--- how many bytes of the literal start were read, more than it has where another byte was met; and marks of what stands
--- behind it
+-- how many bytes of the literal start were read, more than it has where another byte was met; and
+-- marks of what stands behind it
 pub record Progress : Type 0 where
   pub seen : ℕ
   pub marks : List ℕ
@@ -67,7 +69,8 @@ progress seen marks = record { seen = seen; marks = marks }
 pub record AreStatesOf (tree : Tree) (states : Progress) : Type 0 where
   pub marks : AreMarksOf (behind_start tree) states.marks
 
--- the text is in what the states leave: what the start still lacks, and then what is left behind the marks
+-- the text is in what the states leave: what the start still lacks, and then what is left behind
+-- the marks
 abbrev pub IsLeft : Tree → Progress → List ℕ → Type 0
 IsLeft tree states rest =
     (states.seen ≤ length (literal_start_of tree)) × (text : List ℕ)
@@ -81,6 +84,6 @@ pub record StandsFor (tree : Tree) (states : Progress) (text : List ℕ) : Type 
 
 -- the language holds the path or something below it
 abbrev pub Below : Tree → Path → Type 0
-Below tree [] = Opens tree (47 ∷ [])
+Below tree [] = Opens tree (codes "/")
 Below tree (name ∷ names) =
-    In tree (path_text (name ∷ names)) ⊎ Opens tree (path_text (name ∷ names) ++ 47 ∷ [])
+    In tree (path_text (name ∷ names)) ⊎ Opens tree (path_text (name ∷ names) ++ codes "/")

@@ -1,5 +1,6 @@
 -- The tables of a matcher: what its automaton says, as bits.
-use Rattle.std.specs.Prelude.{◌≡◌, ℕ, zero, suc, ◌||◌, ◌+◌, ◌*◌, ◌/◌, ◌<◌, ◌==◌, Bool, false, List, length, map, Option, Some, None, slice_get}
+use Rattle.std.specs.Prelude.{◌≡◌, ℕ, zero, suc, ◌||◌, ◌+◌, ◌*◌, ◌/◌, ◌<◌, ◌==◌, Bool, false, List}
+use Rattle.std.specs.Prelude.{length, map, Option, Some, None, slice_get}
 use Rattle.std.specs.List.{list_any}
 use Rattle.pattern_match.specs.Automaton.{Place}
 use Rattle.pattern_match.specs.Class.{class_bytes}
@@ -22,8 +23,8 @@ has (Some place) b = list_any (λ c. c == b) place.bytes
 abbrev pub bytes_in : Place → List ℕ
 bytes_in place = place.bytes
 
--- a row of so many words for each place, with the places that may follow it; the places that end a text; and the class of
--- each place
+-- a row of so many words for each place, with the places that may follow it; the places that end a
+-- text; and the class of each place
 pub record AreTables (width : ℕ) (follow accept : List ℕ) (classes : List Class)
     (places : List Place) : Type 0 where
   pub wide : width ≡ (length places + 63) / 64
@@ -35,10 +36,10 @@ pub record AreTables (width : ℕ) (follow accept : List ℕ) (classes : List Cl
   pub bytes : map class_bytes classes ≡ map bytes_in places
 
 -- some number below passes
-abbrev pub any_below : (ℕ → Bool) → ℕ → Bool
-any_below test zero = false
-any_below test (suc n) = any_below test n || test n
+abbrev pub any_under : (ℕ → Bool) → ℕ → Bool
+any_under test zero = false
+any_under test (suc n) = any_under test n || test n
 
 -- some bit of a word passes
 unfoldable pub any_bit : (ℕ → Bool) → Bool
-any_bit test = any_below test 64
+any_bit test = any_under test 64

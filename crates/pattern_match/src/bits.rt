@@ -1,8 +1,9 @@
-ghost use Rattle.std.specs.Prelude.{◌≡◌, ◌↔◌, true, false, ◌+◌, ◌*◌, ◌/◌, ◌<◌, ◌≤◌, ◌==◌, ◌||◌, ◌&&◌, ℕ, IfOk, IsTrue, length, replicate, slice_index};
+ghost use Rattle.std.specs.Prelude.{◌≡◌, ◌↔◌, true, false, ◌+◌, ◌*◌, ◌/◌, ◌<◌, ◌≤◌, ◌==◌, ◌||◌};
+ghost use Rattle.std.specs.Prelude.{◌&&◌, ℕ, IfOk, IsTrue, length, replicate, slice_index};
 ghost use Rattle.pattern_match.specs.Loops.{IsRow};
 ghost use Rattle.pattern_match.specs.States.{bit};
 ghost use Rattle.std.specs.Int.{bit_at};
-ghost use Rattle.pattern_match.specs.Tables.{any_below, any_bit};
+ghost use Rattle.pattern_match.specs.Tables.{any_under, any_bit};
 
 use label_base::OutOfMemory;
 use std::alloc::Global;
@@ -107,7 +108,7 @@ pub fn gather(to: &mut Vec<u64>, marks: &[u64], table: &[u64])
         → p * length to.old.items + length to.old.items ≤ length table.now }
     ensures bits { (k : ℕ) → k < 64 * length to.old.items
         → bit to.new.items k
-        ≡ any_below (λ p. bit marks.now p
+        ≡ any_under (λ p. bit marks.now p
         && bit table.now (64 * (p * length to.old.items) + k)) (64 * length to.old.items) }
     ensures words { length to.new.items ≡ length to.old.items }
 {

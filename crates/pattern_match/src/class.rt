@@ -5,7 +5,8 @@ ghost use Rattle.pattern_match.specs.Residuals.{is_some_list};
 
 use pattern_syntax::ByteSet;
 
-/// The bytes that one position of a pattern takes. Of a set, the byte 0 is left out: no text has it.
+/// The bytes that one position of a pattern takes. Of a set, the byte 0 is left out: no text has
+/// it.
 #[derive(Clone, Copy)]
 pub enum Class {
     Byte(u8),
@@ -57,7 +58,8 @@ fn has_text_byte(set: &ByteSet) -> bool
     false
 }
 
-// Whether the set has every byte other than 0. Whether it has that one is left out of the first word.
+// Whether the set has every byte other than 0. Whether it has that one is left out of the first
+// word.
 fn has_each_text_byte(set: &ByteSet) -> bool
     ensures { IsTrue result ↔ HasEachByte (has_byte set.now) }
 {

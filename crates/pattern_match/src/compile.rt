@@ -1,10 +1,10 @@
 ghost use Rattle.std.specs.Prelude.{◌≡◌, ◌∷◌, ◌<◌, List, Some, IfOk, OnOk, length};
-ghost use Rattle.pattern_syntax.specs.Nodes.{tree_of};
+ghost use Rattle.pattern_syntax.specs.Nodes.{nodes_tree};
 ghost use Rattle.pattern_syntax.specs.declared.node.Node.TheVariants as nodes;
 ghost use Rattle.pattern_match.specs.Automaton.{automaton};
 ghost use Rattle.pattern_syntax.specs.Tree as tree;
 ghost use Rattle.pattern_syntax.specs.Tree.{Tree};
-ghost use Rattle.pattern_match.specs.Building.{Builds, HoldsTrees, IsPut};
+ghost use Rattle.pattern_match.specs.Building.{Builds, HoldsTrees, IsNodePut};
 ghost use Rattle.pattern_match.specs.Skipping.{AreSkips, trees_before};
 
 use crate::class::Class;
@@ -100,7 +100,8 @@ fn put_none(alloc: Global, stack: &mut Vec<Fragment>) -> Result<(), OutOfMemory>
     Ok(())
 }
 
-// Puts the node at a place, or in place of a part that is repeated zero times nothing, and gives the place behind it.
+// Puts the node at a place, or in place of a part that is repeated zero times nothing, and gives
+// the place behind it.
 fn put_next(
     alloc: Global,
     stack: &mut Vec<Fragment>,
@@ -111,7 +112,7 @@ fn put_next(
     requires within { at < length nodes.now }
     requires skips { AreSkips nodes.now skips.now }
     requires holds { HoldsTrees stack.old.items (trees_before nodes.now at) }
-    ensures { IfOk result (λ next. IsPut nodes.now stack.new.items at next) }
+    ensures { IfOk result (λ next. IsNodePut nodes.now stack.new.items at next) }
 {
     let end = skip_at(skips, at);
     if at < end {
@@ -124,7 +125,7 @@ fn put_next(
 
 /// The automaton of a pattern, given as its nodes in postfix order.
 pub fn compiled(alloc: Global, nodes: &[Node]) -> Result<Fragment, OutOfMemory>
-    ensures { IfOk result (λ fragment. fragment ≡ automaton (tree_of nodes.now)) }
+    ensures { IfOk result (λ fragment. fragment ≡ automaton (nodes_tree nodes.now)) }
 {
     let skips = skips_of(alloc, nodes)?;
     let mut stack = Vec::new(alloc);

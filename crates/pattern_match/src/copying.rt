@@ -2,16 +2,17 @@ ghost use Rattle.std.specs.Prelude.{◌≡◌, ◌+◌, ◌-◌, ◌*◌, ◌<�
 ghost use Rattle.std.specs.Prelude.{IfOk, Some, None, length};
 ghost use Rattle.pattern_match.specs.Automaton.{Automaton, repeat_places};
 ghost use Rattle.pattern_match.specs.Residuals.{is_count};
-ghost use Rattle.pattern_match.specs.Layouts.{AreRepeated, CanCopy, IsLast, SameBelow, StandCopies};
-ghost use Rattle.pattern_match.specs.Layouts.{Stands, before_rest, copies_of};
+ghost use Rattle.pattern_match.specs.Layouts.{AreRepeated, CanCopy, IsLastPiece, SameBelow};
+ghost use Rattle.pattern_match.specs.Layouts.{StandCopies};
+ghost use Rattle.pattern_match.specs.Layouts.{IsSegmentOf, before_rest, copies_of};
 ghost use Rattle.pattern_match.specs.declared.class.Class as kind;
 
 use crate::class::Class;
 use crate::segment::{Segment, grow};
 use label_base::OutOfMemory;
 
-// How many copies of a piece a repeat is written as. Where there is no upper number, the last one is
-// entered again.
+// How many copies of a piece a repeat is written as. Where there is no upper number, the last one
+// is entered again.
 fn copies_of(least: u32, most: Option<u32>) -> u32
     ensures { result ≡ copies_of least most }
 {
@@ -33,7 +34,8 @@ fn may_stop(least: u32, holds_empty: bool) -> bool
     least == 0 || holds_empty
 }
 
-/// Whether the piece has places and the repeat has copies, no fewer than the least number, and they are few.
+/// Whether the piece has places and the repeat has copies, no fewer than the least number, and they
+/// are few.
 pub fn can_repeat(start: usize, places: usize, least: u32, most: Option<u32>) -> bool
     requires { start + places ≤ 63 }
     ensures some { result ≡ true → 0 < places }
@@ -70,8 +72,8 @@ fn joined(
     ensures below { SameBelow rows.old.items rows.new.items piece.now.start }
     ensures stands { (classes : List kind.Class) (a b : Automaton) → places ≡ length a.places
         → StandCopies rows.old.items classes piece.now copies a
-        → Stands rows.old.items classes rest b
-        → Stands rows.new.items classes result (before_rest least copies a b) }
+        → IsSegmentOf rows.old.items classes rest b
+        → IsSegmentOf rows.new.items classes result (before_rest least copies a b) }
 {
     let mut made = rest;
     let mut left = copies;
@@ -92,7 +94,7 @@ fn counted(rows: &mut Vec<u64>, piece: &Segment, places: usize, least: u32, copi
     ensures below { SameBelow rows.old.items rows.new.items piece.now.start }
     ensures stands { (classes : List kind.Class) (a : Automaton) → places ≡ length a.places
         → StandCopies rows.old.items classes piece.now copies a
-        → Stands rows.new.items classes result (repeat_places least (Some copies) a) }
+        → IsSegmentOf rows.new.items classes result (repeat_places least (Some copies) a) }
 {
     let end = Segment::bare(piece.start + copies as usize * places, true);
     joined(rows, piece, places, least, copies, end)
@@ -107,7 +109,7 @@ fn endless(rows: &mut Vec<u64>, piece: &Segment, places: usize, least: u32, copi
     ensures below { SameBelow rows.old.items rows.new.items piece.now.start }
     ensures stands { (classes : List kind.Class) (a : Automaton) → places ≡ length a.places
         → StandCopies rows.old.items classes piece.now copies a
-        → Stands rows.new.items classes result (repeat_places least None a) }
+        → IsSegmentOf rows.new.items classes result (repeat_places least None a) }
 {
     let last = piece.moved_up((copies - 1) as usize * places);
     let end = last.looped(rows, may_stop(least, piece.holds_empty));
@@ -123,14 +125,14 @@ pub fn repeated(
     least: u32,
     most: Option<u32>,
 ) -> Result<Segment, OutOfMemory>
-    requires last { IsLast rows.old.items classes.old.items piece.now places }
+    requires last { IsLastPiece rows.old.items classes.old.items piece.now places }
     requires copies { 0 < copies_of least most }
     requires few { piece.now.start + copies_of least most * places ≤ 63 }
     ensures places { IfOk result (λ whole. AreRepeated rows.old.items rows.new.items
         classes.old.items classes.new.items piece.now whole (copies_of least most * places)) }
     ensures stands { IfOk result (λ whole. (a : Automaton) → places ≡ length a.places
-        → Stands rows.old.items classes.old.items piece.now a
-        → Stands rows.new.items classes.new.items whole (repeat_places least most a)) }
+        → IsSegmentOf rows.old.items classes.old.items piece.now a
+        → IsSegmentOf rows.new.items classes.new.items whole (repeat_places least most a)) }
 {
     let copies = copies_of(least, most);
     grow(rows, classes, places, (copies - 1) as usize * places)?;

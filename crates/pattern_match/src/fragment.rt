@@ -1,5 +1,8 @@
-ghost use Rattle.std.specs.Prelude.{◌≡◌, ◌++◌, ◌&&◌, ◌||◌, ◌==◌, not, true, IfOk, OnOk, [], map, length, if◌then◌else◌};
-ghost use Rattle.pattern_match.specs.Automaton.{moved, followed, bare, single, both, both_live, either, looped, up, copies, endless, repeated, all_places};
+ghost use Rattle.std.specs.Prelude.{◌≡◌, ◌++◌, ◌&&◌, ◌||◌, ◌==◌, not, true, IfOk, OnOk, [], map};
+ghost use Rattle.std.specs.Prelude.{length, if◌then◌else◌};
+ghost use Rattle.pattern_match.specs.Automaton.{moved, followed, bare, single_place, both};
+ghost use Rattle.pattern_match.specs.Automaton.{both_live, either_automaton, looped, up, copies};
+ghost use Rattle.pattern_match.specs.Automaton.{endless, repeated_automaton, all_places};
 ghost use Rattle.pattern_match.specs.Residuals.{is_count, is_some_list};
 
 use crate::class::Class;
@@ -140,7 +143,7 @@ impl Fragment {
 
     /// One byte of a class.
     pub fn single(alloc: Global, class: Class) -> Result<Fragment, OutOfMemory>
-        ensures { IfOk result (λ fragment. fragment ≡ single (class_bytes class)) }
+        ensures { IfOk result (λ fragment. fragment ≡ single_place (class_bytes class)) }
     {
         if !class.is_some() {
             return Ok(Fragment::bare(alloc, false));
@@ -217,7 +220,7 @@ impl Fragment {
 
     /// The one or the other.
     pub fn either(self, alloc: Global, right: Fragment) -> Result<Fragment, OutOfMemory>
-        ensures { IfOk result (λ fragment. fragment ≡ either self right) }
+        ensures { IfOk result (λ fragment. fragment ≡ either_automaton self right) }
     {
         let Fragment {
             positions,
@@ -345,7 +348,7 @@ impl Fragment {
         least: u32,
         most: Option<u32>,
     ) -> Result<Fragment, OutOfMemory>
-        ensures { IfOk result (λ fragment. fragment ≡ repeated least most self) }
+        ensures { IfOk result (λ fragment. fragment ≡ repeated_automaton least most self) }
     {
         if !is_count(least, most) {
             return Ok(Fragment::bare(alloc, false));

@@ -1,5 +1,6 @@
-//! Matchers of the patterns of file_contexts, which match a whole path (selabel_file(5)): Glushkov's position automaton, run by
-//! sets of states, without going back in the text and without memory taken while it reads.
+//! Matchers of the patterns of file_contexts, which match a whole path (selabel_file(5)):
+//! Glushkov's position automaton, run by sets of states, without going back in the text and without
+//! memory taken while it reads.
 #![tactic(auto)]
 
 mod bits;

@@ -1,5 +1,6 @@
 ghost use Rattle.std.specs.Prelude.{◌≡◌, ◌+◌, ◌*◌, ◌<◌, ◌≤◌, ◌↔◌, IsTrue, length};
-ghost use Rattle.pattern_match.specs.Loops.{EndsBeforeLoop, HasLoop, HaveRows, IsLoop, IsLoopIn, LeadsToLoop, SomeInWord};
+ghost use Rattle.pattern_match.specs.Loops.{EndsBeforeLoop, HasLoop, HaveRows, IsLoop, IsLoopIn};
+ghost use Rattle.pattern_match.specs.Loops.{LeadsToLoop, SomeInWord};
 
 use crate::bits::has_bit;
 use crate::class::Class;
@@ -75,8 +76,8 @@ fn has_loop_in(marks: &[u64], accept: &[u64], follow: &[u64], classes: &[Class],
     false
 }
 
-/// Whether behind some marked state a text may end, and it leads to a loop, behind which one may end too. A loop leads to
-/// itself.
+/// Whether behind some marked state a text may end, and it leads to a loop, behind which one may
+/// end too. A loop leads to itself.
 pub fn has_loop(marks: &[u64], accept: &[u64], follow: &[u64], classes: &[Class]) -> bool
     requires accept { length accept.now ≡ length marks.now }
     requires rows { HaveRows accept.now follow.now }

@@ -1,6 +1,7 @@
-ghost use Rattle.std.specs.Prelude.{◌≡◌, ◌∷◌, ◌+◌, ◌/◌, ◌<◌, ◌↔◌, ℕ, List, [], true, false, IfOk, IsTrue};
+ghost use Rattle.std.specs.Prelude.{◌≡◌, ◌∷◌, ◌+◌, ◌/◌, ◌<◌, ◌↔◌, ℕ, List, [], true, false, IfOk};
+ghost use Rattle.std.specs.Prelude.{IsTrue};
 ghost use Rattle.pattern_syntax.specs.Language.{In};
-ghost use Rattle.pattern_syntax.specs.Nodes.{tree_of};
+ghost use Rattle.pattern_syntax.specs.Nodes.{nodes_tree};
 ghost use Rattle.pattern_match.specs.Onwards.{AreTextBytes};
 ghost use Rattle.pattern_match.specs.Settled.{MarksLeadOnward, MarksStay};
 ghost use Rattle.pattern_match.specs.States.{AreMarksOf, IsBehind, IsRead, is_bare};
@@ -15,7 +16,8 @@ use pattern_syntax::Node;
 use std::alloc::Global;
 use std::marker::Model;
 
-/// The automaton of a pattern, seen as the pattern. One that holds the empty text alone takes no memory for tables.
+/// The automaton of a pattern, seen as the pattern. One that holds the empty text alone takes no
+/// memory for tables.
 #[derive(Drop)]
 pub struct Machine {
     nodes: Vec<Node>,
@@ -32,7 +34,7 @@ impl Model for Machine {
     ghost use Rattle.pattern_syntax.specs.Nodes.{tree_of};
     ghost use Rattle.pattern_match.specs.Compiled.{IsCompiled};
 
-    ghost view = { λ m. tree_of m.nodes.items };
+    ghost view = { λ m. nodes_tree m.nodes.items };
 
     ghost invariant = { IsCompiled };
 }
@@ -40,7 +42,7 @@ impl Model for Machine {
 impl Machine {
     /// The automaton of nodes in postfix order. There may be too little memory for its tables.
     pub fn new(alloc: Global, nodes: Vec<Node>) -> Result<Machine, OutOfMemory>
-        ensures { IfOk result (λ machine. machine ≡ tree_of nodes.items) }
+        ensures { IfOk result (λ machine. machine ≡ nodes_tree nodes.items) }
     {
         let ready = made_ready(alloc, nodes.as_slice())?;
         Ok(Machine { nodes, ready })
@@ -99,8 +101,8 @@ impl Machine {
         have_common(marks.as_slice(), self.ready.accept.as_slice())
     }
 
-    /// Whether a text may end in some marked state that leads to a loop, in which one may end too. Then every text of bytes
-    /// other than 0 is left.
+    /// Whether a text may end in some marked state that leads to a loop, in which one may end too.
+    /// Then every text of bytes other than 0 is left.
     pub fn takes_all(&self, marks: &Marks) -> bool
         requires { AreMarksOf self.now marks.now }
         ensures exact { IsTrue result ↔ MarksLeadOnward self.now marks.now }
@@ -118,8 +120,8 @@ impl Machine {
         )
     }
 
-    /// Whether it holds more than the empty text, and each byte other than 0 leads from each marked state to all of these
-    /// and no other. Then every such byte leaves what was left before.
+    /// Whether it holds more than the empty text, and each byte other than 0 leads from each marked
+    /// state to all of these and no other. Then every such byte leaves what was left before.
     pub fn stays(&self, marks: &Marks) -> bool
         requires { AreMarksOf self.now marks.now }
         ensures exact { IsTrue result ↔ MarksStay self.now marks.now }

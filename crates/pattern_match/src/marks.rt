@@ -1,7 +1,8 @@
-ghost use Rattle.std.specs.Prelude.{◌≡◌, ◌+◌, ◌-◌, ◌*◌, ◌<◌, ◌≤◌, ◌==◌, ◌&&◌, true, ℕ, IfOk, length, nat_lt};
+ghost use Rattle.std.specs.Prelude.{◌≡◌, ◌+◌, ◌-◌, ◌*◌, ◌<◌, ◌≤◌, ◌==◌, ◌&&◌, true, ℕ, IfOk};
+ghost use Rattle.std.specs.Prelude.{length, nat_lt};
 ghost use Rattle.pattern_match.specs.Class.{takes_at};
 ghost use Rattle.pattern_match.specs.States.{bit};
-ghost use Rattle.pattern_match.specs.Tables.{any_below};
+ghost use Rattle.pattern_match.specs.Tables.{any_under};
 
 use crate::bits::{clear, gather, gathered, no_bits, set_if};
 use crate::class::Class;
@@ -72,7 +73,7 @@ impl Marks {
         requires room { 64 * length self.old < length classes.now + 64 }
         ensures bits { (k : ℕ) → k < 64 * length self.old
             → bit self.new k
-            ≡ (any_below (λ p. bit self.old p
+            ≡ (any_under (λ p. bit self.old p
             && bit follow.now (64 * (p * length self.old) + k)) (64 * length self.old)
             && takes_at classes.now k byte) }
         ensures words { length self.new ≡ length self.old }

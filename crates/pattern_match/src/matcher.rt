@@ -1,15 +1,16 @@
-ghost use Rattle.std.specs.Prelude.{◌≡◌, ◌++◌, ◌∷◌, ◌+◌, ◌/◌, ◌^◌, ◌<◌, ◌≤◌, ◌↔◌, nat_eq, ℕ, List, [], true, false, IfOk, IsTrue, length};
+ghost use Rattle.std.specs.Prelude.{◌≡◌, ◌++◌, ◌∷◌, ◌+◌, ◌/◌, ◌^◌, ◌<◌, ◌≤◌, ◌↔◌, nat_eq, ℕ, List};
+ghost use Rattle.std.specs.Prelude.{[], true, false, IfOk, IsTrue, length};
 ghost use Rattle.std.specs.List.{starts_with};
 ghost use Rattle.pattern_syntax.specs.Tree.{Tree};
 ghost use Rattle.pattern_syntax.specs.Language.{In, Opens, holds};
 ghost use Rattle.pattern_syntax.specs.Literal.{literal_start_of};
-ghost use Rattle.pattern_syntax.specs.Nodes.{tree_of};
+ghost use Rattle.pattern_syntax.specs.Nodes.{nodes_tree};
 ghost use Rattle.pattern_syntax.specs.declared.node.Node.TheVariants as node;
 ghost use Rattle.file_paths.specs.Path.{Path};
 ghost use Rattle.pattern_match.specs.Quotients.{holds_below};
 ghost use Rattle.pattern_match.specs.Onwards.{TakesAll};
 ghost use Rattle.pattern_match.specs.Settled.{StatesLeadOnward, StatesStay};
-ghost use Rattle.pattern_match.specs.Starts.{Parts};
+ghost use Rattle.pattern_match.specs.Starts.{StartParts};
 ghost use Rattle.pattern_match.specs.States.{AreStatesOf, StandsFor, Below};
 
 use crate::machine::Machine;
@@ -58,7 +59,7 @@ impl Model for Matcher {
 
 // The nodes behind a start, as a sequence of their own.
 fn sequence(alloc: Global, rest: &[Node]) -> Result<Vec<Node>, OutOfMemory>
-    ensures { IfOk result (λ nodes. tree_of nodes.items ≡ tree_of (node.Nothing ∷ rest.now)) }
+    ensures { IfOk result (λ nodes. nodes_tree nodes.items ≡ nodes_tree (node.Nothing ∷ rest.now)) }
 {
     let mut nodes = Vec::new(alloc);
     if rest.is_empty() {
@@ -73,14 +74,15 @@ fn sequence(alloc: Global, rest: &[Node]) -> Result<Vec<Node>, OutOfMemory>
 // The nodes of what stands behind the literal start.
 fn nodes_behind(alloc: Global, pattern: &Pattern) -> Result<Vec<Node>, OutOfMemory>
     ensures { IfOk result (λ nodes.
-        Parts pattern.now (literal_start_of pattern.now) (tree_of nodes.items)) }
+        StartParts pattern.now (literal_start_of pattern.now) (nodes_tree nodes.items)) }
 {
     pattern.has_no_empty_set();
     let nodes = sequence(alloc, pattern.rest())?;
     Ok(nodes)
 }
 
-// Whether the text begins with the start. Most texts differ within a few bytes, where std's test for long slices is slow.
+// Whether the text begins with the start. Most texts differ within a few bytes, where std's test
+// for long slices is slow.
 fn begins_with(text: &[u8], start: &[u8]) -> bool
     ensures bound { result ≡ true → length start.now ≤ length text.now }
     ensures value { result ≡ starts_with nat_eq text.now start.now }
@@ -96,7 +98,8 @@ fn begins_with(text: &[u8], start: &[u8]) -> bool
     true
 }
 
-/// Whether the text begins with the pattern's literal start. Where it doesn't, it isn't in the language.
+/// Whether the text begins with the pattern's literal start. Where it doesn't, it isn't in the
+/// language.
 pub fn may_hold(pattern: &Pattern, text: &[u8]) -> bool
     ensures { result ≡ false → holds pattern.now text.now ≡ false }
 {
@@ -117,7 +120,8 @@ impl Matcher {
         })
     }
 
-    /// The states before the first byte of a text. Only they take memory, so later calls can't fail.
+    /// The states before the first byte of a text. Only they take memory, so later calls can't
+    /// fail.
     pub fn states(&self, alloc: Global) -> Result<States, OutOfMemory>
         ensures made { IfOk result (λ states. AreStatesOf self.now states) }
         ensures stands { IfOk result (λ states. StandsFor self.now states []) }
@@ -179,9 +183,10 @@ impl Matcher {
         self.machine.accepts(&states.marks)
     }
 
-    /// Whether a text may end in a state of now that leads to a loop: one that follows itself by every byte other than 0,
-    /// and in which a text may end too. Then the language holds the text that was read and each text of such bytes that
-    /// begins with it. It may hold them, and this be false, where that takes several states together.
+    /// Whether a text may end in a state of now that leads to a loop: one that follows itself by
+    /// every byte other than 0, and in which a text may end too. Then the language holds the text
+    /// that was read and each text of such bytes that begins with it. It may hold them, and this be
+    /// false, where that takes several states together.
     pub fn takes_all(&self, states: &States) -> bool
         requires { AreStatesOf self.now states.now }
         ensures exact { IsTrue result ↔ StatesLeadOnward self.now states.now }
@@ -194,10 +199,11 @@ impl Matcher {
         self.machine.takes_all(&states.marks)
     }
 
-    /// Whether nothing is left, since a byte was met that isn't the literal start's; or the whole start was read, the
-    /// pattern isn't that one text, and each byte other than 0 leads from each state of now to all of these and no other.
-    /// Then the states stand as well for the text with one more such byte, whichever it is. They may, and this be false,
-    /// where other states leave the same.
+    /// Whether nothing is left, since a byte was met that isn't the literal start's; or the whole
+    /// start was read, the pattern isn't that one text, and each byte other than 0 leads from each
+    /// state of now to all of these and no other. Then the states stand as well for the text with
+    /// one more such byte, whichever it is. They may, and this be false, where other states leave
+    /// the same.
     pub fn stays(&self, states: &States) -> bool
         requires { AreStatesOf self.now states.now }
         ensures exact { IsTrue result ↔ StatesStay self.now states.now }
@@ -238,7 +244,8 @@ impl Matcher {
         to.marks.copy_from(&from.marks);
     }
 
-    // Starts anew and reads a text. Where no text of the language begins so, it may stop early and say false.
+    // Starts anew and reads a text. Where no text of the language begins so, it may stop early and
+    // say false.
     fn read(&self, states: &mut States, text: &[u8]) -> bool
         requires { AreStatesOf self.now states.old }
         ensures made { AreStatesOf self.now states.new }
@@ -270,8 +277,8 @@ impl Matcher {
             .matches(&mut states.marks, &text[start.len()..])
     }
 
-    /// Whether the language holds the path's text or a text below it: one that begins with the path and a slash, or for
-    /// `/` one that begins with a slash. The states are used anew.
+    /// Whether the language holds the path's text or a text below it: one that begins with the path
+    /// and a slash, or for `/` one that begins with a slash. The states are used anew.
     pub fn alive_below(&self, states: &mut States, path: &NormPath) -> bool
         requires { AreStatesOf self.now states.old }
         ensures made { AreStatesOf self.now states.new }
@@ -297,8 +304,8 @@ pub fn every_cut_is_membership()
     ensures { (tree : Tree) (text : List ℕ) → IsTrue (holds tree text) ↔ In tree text }
 {}
 
-/// The law that the test by left quotients, by which clauses compute, tells whether the language holds the path or
-/// something below it.
+/// The law that the test by left quotients, by which clauses compute, tells whether the language
+/// holds the path or something below it.
 pub fn quotients_tell_what_is_below()
     ensures { (tree : Tree) (path : Path) → IsTrue (holds_below tree path) ↔ Below tree path }
 {}
@@ -348,7 +355,8 @@ mod tests {
         Ok((matcher.takes_all(&states), matcher.stays(&states)))
     }
 
-    // Whether the pattern is told to hold whatever begins with the text, and whether its states are told to stay.
+    // Whether the pattern is told to hold whatever begins with the text, and whether its states are
+    // told to stay.
     fn goes_on(alloc: Global, pattern: &[u8], text: &[u8]) -> Option<(bool, bool)>
         requires { length pattern.now < 2 ^ 32 }
     {

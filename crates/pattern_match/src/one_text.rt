@@ -9,7 +9,8 @@ ghost use Rattle.pattern_match.specs.States.{AreStatesOf, StandsFor};
 use crate::states::States;
 use pattern_syntax::Pattern;
 
-/// Whether the pattern's language is one text, its literal start, so that a comparison does for a [`Matcher`](crate::Matcher).
+/// Whether the pattern's language is one text, its literal start, so that a comparison does for a
+/// [`Matcher`](crate::Matcher).
 pub fn is_one_text(pattern: &Pattern) -> bool
     ensures rest { result ≡ true → behind_start pattern.now ≡ Nothing }
     ensures text { result ≡ true → (text : List ℕ)
@@ -75,7 +76,8 @@ mod tests {
     use std::alloc::Global;
     use std::test::Fail;
 
-    // Whether the pattern is alive behind a slash, and behind a byte more, and whether it then holds what was read.
+    // Whether the pattern is alive behind a slash, and behind a byte more, and whether it then
+    // holds what was read.
     fn read_on(alloc: Global, pattern: &Pattern, byte: u8) -> Option<(bool, bool, bool)> {
         if !is_one_text(pattern) {
             return None;

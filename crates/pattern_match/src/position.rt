@@ -6,8 +6,8 @@ use label_base::OutOfMemory;
 use std::alloc::Global;
 use std::marker::Model;
 
-/// A state of an automaton under construction: the bytes that lead into it, whether a text may end behind it, and the
-/// numbers of the positions that may take the next byte.
+/// A state of an automaton under construction: the bytes that lead into it, whether a text may end
+/// behind it, and the numbers of the positions that may take the next byte.
 #[derive(Drop)]
 pub struct Position {
     class: Class,

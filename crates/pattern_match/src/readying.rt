@@ -1,10 +1,10 @@
 ghost use Rattle.std.specs.Prelude.{◌≡◌, ◌+◌, ◌<◌, ◌≤◌, ◌==◌, ◌&&◌, ◌||◌, ◌/◌, ◌∷◌, true, ℕ, []};
 ghost use Rattle.std.specs.Prelude.{IfOk, IfSome, length};
-ghost use Rattle.pattern_syntax.specs.Nodes.{tree_of};
+ghost use Rattle.pattern_syntax.specs.Nodes.{nodes_tree};
 ghost use Rattle.pattern_syntax.specs.Tree.{Tree};
 ghost use Rattle.pattern_match.specs.Compiled.{IsReadyFor};
 ghost use Rattle.pattern_match.specs.Segments.{in_word};
-ghost use Rattle.pattern_match.specs.Whole.{IsWhole};
+ghost use Rattle.pattern_match.specs.Whole.{IsWholeSegment};
 
 use crate::bits::with_bit_if;
 use crate::class::Class;
@@ -73,7 +73,7 @@ fn closed(
 ) -> Result<Ready, OutOfMemory>
     requires { length rows.items ≤ 63 }
     ensures { IfOk result (λ ready. (tree : Tree)
-        → IsWhole rows.items classes.items whole.now tree → IsReadyFor tree ready) }
+        → IsWholeSegment rows.items classes.items whole.now tree → IsReadyFor tree ready) }
 {
     let places = rows.len();
     if is_bare(places, whole.holds_empty) {
@@ -104,7 +104,7 @@ fn laid(
     requires rows { rows.old.items ≡ [] }
     requires classes { classes.old.items ≡ [] }
     ensures { IfOk result (λ found. IfSome found (λ whole.
-        IsWhole rows.new.items classes.new.items whole (tree_of nodes.now))) }
+        IsWholeSegment rows.new.items classes.new.items whole (nodes_tree nodes.now))) }
 {
     let mut segments = Vec::new(alloc);
     if !lay(rows, classes, &mut segments, nodes)? {
@@ -124,7 +124,7 @@ fn laid(
 
 // The tables of the nodes' automaton, where its places are few.
 fn of_few(alloc: Global, nodes: &[Node]) -> Result<Option<Ready>, OutOfMemory>
-    ensures { IfOk result (λ found. IfSome found (IsReadyFor (tree_of nodes.now))) }
+    ensures { IfOk result (λ found. IfSome found (IsReadyFor (nodes_tree nodes.now))) }
 {
     let mut rows = Vec::with_capacity(alloc, nodes.len() / 2 + 2)?;
     let mut classes = Vec::with_capacity(alloc, nodes.len() / 2 + 2)?;
@@ -146,7 +146,7 @@ fn words_for(bits: usize) -> Result<usize, OutOfMemory>
 
 // The tables of the nodes' automaton, however many places it has.
 fn of_many(alloc: Global, nodes: &[Node]) -> Result<Ready, OutOfMemory>
-    ensures { IfOk result (IsReadyFor (tree_of nodes.now)) }
+    ensures { IfOk result (IsReadyFor (nodes_tree nodes.now)) }
 {
     let fragment = compiled(alloc, nodes)?;
     if fragment.is_bare() {
@@ -166,7 +166,7 @@ fn of_many(alloc: Global, nodes: &[Node]) -> Result<Ready, OutOfMemory>
 
 /// The tables of the automaton of nodes in postfix order.
 pub fn made_ready(alloc: Global, nodes: &[Node]) -> Result<Ready, OutOfMemory>
-    ensures { IfOk result (IsReadyFor (tree_of nodes.now)) }
+    ensures { IfOk result (IsReadyFor (nodes_tree nodes.now)) }
 {
     match of_few(alloc, nodes)? {
         Some(ready) => Ok(ready),

@@ -1,15 +1,16 @@
 ghost use Rattle.std.specs.Prelude.{◌≡◌, ◌+◌, ◌*◌, ◌^◌, ◌%◌, ◌<◌, ◌≤◌, ◌==◌, ◌&&◌, ◌||◌, true};
 ghost use Rattle.std.specs.Prelude.{false, ℕ, List, OnOk, length};
-ghost use Rattle.pattern_match.specs.Automaton.{Automaton, copy_before, looped, both_live, either};
+ghost use Rattle.pattern_match.specs.Automaton.{Automaton, copy_before, looped, both_live};
+ghost use Rattle.pattern_match.specs.Automaton.{either_automaton};
 ghost use Rattle.pattern_match.specs.declared.class.Class as kind;
 ghost use Rattle.pattern_match.specs.Segments.{in_word};
-ghost use Rattle.pattern_match.specs.Layouts.{AreGrown, AreLinked, Stands, further};
+ghost use Rattle.pattern_match.specs.Layouts.{AreGrown, AreLinked, IsSegmentOf, further};
 
 use crate::class::Class;
 use label_base::OutOfMemory;
 
-/// A part of a pattern, whose places stand one behind the other from a place on: those that may take
-/// a first byte and those behind which a text may end, as bits.
+/// A part of a pattern, whose places stand one behind the other from a place on: those that may
+/// take a first byte and those behind which a text may end, as bits.
 #[derive(Clone, Copy)]
 pub struct Segment {
     pub start: usize,
@@ -140,8 +141,8 @@ impl Segment {
         ensures words { length rows.new.items ≡ length rows.old.items }
         ensures start { result.start ≡ self.now.start }
         ensures stands { (classes : List kind.Class) (a : Automaton)
-            → Stands rows.old.items classes self.now a
-            → Stands rows.new.items classes result (looped holds_empty a) }
+            → IsSegmentOf rows.old.items classes self.now a
+            → IsSegmentOf rows.new.items classes result (looped holds_empty a) }
     {
         link(rows, self.last, self.first);
         Segment {
@@ -161,8 +162,9 @@ impl Segment {
         ensures start { result.start ≡ self.now.start }
         ensures stands { (classes : List kind.Class) (a b : Automaton)
             → rest.now.start ≡ self.now.start + length a.places
-            → Stands rows.old.items classes self.now a → Stands rows.old.items classes rest.now b
-            → Stands rows.new.items classes result (copy_before holds_empty a b) }
+            → IsSegmentOf rows.old.items classes self.now a → IsSegmentOf rows.old.items classes
+            rest.now b
+            → IsSegmentOf rows.new.items classes result (copy_before holds_empty a b) }
     {
         link(rows, self.last, rest.first);
         Segment {
@@ -182,8 +184,9 @@ impl Segment {
         ensures start { result.start ≡ self.now.start }
         ensures stands { (classes : List kind.Class) (a b : Automaton)
             → second.now.start ≡ self.now.start + length a.places
-            → Stands rows.old.items classes self.now a → Stands rows.old.items classes second.now b
-            → Stands rows.new.items classes result (both_live a b) }
+            → IsSegmentOf rows.old.items classes self.now a → IsSegmentOf rows.old.items classes
+            second.now b
+            → IsSegmentOf rows.new.items classes result (both_live a b) }
     {
         link(rows, self.last, second.first);
         Segment {
@@ -200,8 +203,8 @@ impl Segment {
         ensures start { result.start ≡ self.now.start }
         ensures stands { (rows : List ℕ) (classes : List kind.Class) (a b : Automaton)
             → right.now.start ≡ self.now.start + length a.places
-            → Stands rows classes self.now a → Stands rows classes right.now b
-            → Stands rows classes result (either a b) }
+            → IsSegmentOf rows classes self.now a → IsSegmentOf rows classes right.now b
+            → IsSegmentOf rows classes result (either_automaton a b) }
     {
         Segment {
             start: self.start,

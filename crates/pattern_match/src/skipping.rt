@@ -1,7 +1,8 @@
-ghost use Rattle.std.specs.Prelude.{◌≡◌, ◌++◌, ◌∷◌, ◌+◌, ◌<◌, [], true, IfOk, OnOk, length, slice_index};
+ghost use Rattle.std.specs.Prelude.{◌≡◌, ◌++◌, ◌∷◌, ◌+◌, ◌<◌, [], true, IfOk, OnOk, length};
+ghost use Rattle.std.specs.Prelude.{slice_index};
 ghost use Rattle.std.specs.List.{slice_index_or};
 ghost use Rattle.pattern_syntax.specs.declared.node.Node.TheVariants as node;
-ghost use Rattle.pattern_match.specs.Skipping.{is_zero_repeat, AreSkips, IsNoted};
+ghost use Rattle.pattern_match.specs.Skipping.{is_zero_repeat, AreSkips, IsSkipNoted};
 
 use label_base::OutOfMemory;
 use pattern_syntax::Node;
@@ -41,9 +42,9 @@ fn note_leaf(starts: &mut Vec<usize>, at: usize) -> Result<(), OutOfMemory>
 // The last tree ends at a repeat of zero times.
 fn note_repeat(starts: &[usize], skips: &mut Vec<usize>, nodes: &[Node], at: usize)
     requires within { at < length nodes.now }
-    requires noted { IsNoted nodes.now starts.now skips.old.items at }
+    requires noted { IsSkipNoted nodes.now starts.now skips.old.items at }
     requires zero { is_zero_repeat (slice_index_or nodes.now at node.Nothing) ≡ true }
-    ensures { IsNoted nodes.now starts.now skips.new.items (at + 1) }
+    ensures { IsSkipNoted nodes.now starts.now skips.new.items (at + 1) }
 {
     if let Some(start) = starts.last() {
         skips[*start] = at;
@@ -58,8 +59,8 @@ fn note(
     at: usize,
 ) -> Result<(), OutOfMemory>
     requires within { at < length nodes.now }
-    requires noted { IsNoted nodes.now starts.old.items skips.old.items at }
-    ensures { OnOk result (IsNoted nodes.now starts.new.items skips.new.items (at + 1)) }
+    requires noted { IsSkipNoted nodes.now starts.old.items skips.old.items at }
+    ensures { OnOk result (IsSkipNoted nodes.now starts.new.items skips.new.items (at + 1)) }
 {
     match &nodes[at] {
         Node::Byte(_) => {
@@ -91,8 +92,9 @@ fn note(
     }
 }
 
-/// For each node the index of the repeat of zero times whose piece begins there, of several the last one. Such a piece is
-/// nothing, however long it is. Where there is no such repeat the list is empty.
+/// For each node the index of the repeat of zero times whose piece begins there, of several the
+/// last one. Such a piece is nothing, however long it is. Where there is no such repeat the list is
+/// empty.
 pub fn skips_of(alloc: Global, nodes: &[Node]) -> Result<Vec<usize>, OutOfMemory>
     ensures { IfOk result (λ skips. AreSkips nodes.now skips.items) }
 {

@@ -7,7 +7,8 @@ use crate::marks::Marks;
 use std::alloc::Global;
 use std::marker::Model;
 
-/// What a matcher knows behind a text: how many bytes of the pattern's literal start were read, and then the marks of its automaton.
+/// What a matcher knows behind a text: how many bytes of the pattern's literal start were read, and
+/// then the marks of its automaton.
 #[derive(Drop)]
 pub struct States {
     pub(crate) seen: usize,
@@ -23,7 +24,8 @@ impl Model for States {
 }
 
 impl States {
-    /// What there is to know where the pattern is one text ([`is_one_text`](crate::is_one_text)). It takes no memory.
+    /// What there is to know where the pattern is one text ([`is_one_text`](crate::is_one_text)).
+    /// It takes no memory.
     pub fn of_one_text(alloc: Global) -> States
         ensures { (tree : Tree) → behind_start tree ≡ Nothing → AreStatesOf tree result }
     {

@@ -37,7 +37,8 @@ fn are_steady_in(marks: &[u64], follow: &[u64], classes: &[Class], i: usize) -> 
     true
 }
 
-/// Whether the states that follow each marked one are those that are marked, and each has every byte but 0.
+/// Whether the states that follow each marked one are those that are marked, and each has every
+/// byte but 0.
 pub fn are_steady(marks: &[u64], follow: &[u64], classes: &[Class]) -> bool
     requires { (p : ℕ) → bit marks.now p ≡ true
         → p * length marks.now + length marks.now ≤ length follow.now }

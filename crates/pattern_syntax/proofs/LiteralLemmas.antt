@@ -1,5 +1,7 @@
 -- The nodes of a pattern begin with its literal start, and so does each text of its language.
-use Rattle.std.proofs.Common.{◌≡◌, ◌∙◌, sym, refl, ap, subst, ℕ, suc, zero, ◌+◌, ◌==◌, ◌<◌, ◌≤◌, Bool, true, false, ◌&&◌, ◌||◌, List, [], ◌∷◌, ◌++◌, length, map, drop, get_or, append_assoc, append-nil, arith}
+use Rattle.std.proofs.Common.{◌≡◌, ◌∙◌, sym, refl, ap, subst, ℕ, suc, zero, ◌+◌, ◌==◌, ◌<◌, ◌≤◌}
+use Rattle.std.proofs.Common.{Bool, true, false, ◌&&◌, ◌||◌, List, [], ◌∷◌, ◌++◌, length, map, drop}
+use Rattle.std.proofs.Common.{get_or, append_assoc, append-nil, arith}
 use Rattle.std.specs.Prelude.{Option, Some, None, unwrap_or}
 use Rattle.std.specs.List.{list_any}
 use Rattle.std.proofs.lemmas.List.{drop_more, length-drop, length-map, length_push, get_or_push}
@@ -11,8 +13,9 @@ use Rattle.pattern_syntax.specs.Tree.{Tree, TreeNode, tree_nodes}
 use Rattle.pattern_syntax.specs.Language.{In}
 use Rattle.pattern_syntax.specs.Nodes.{after_node, after_nodes, rest_tree}
 use Rattle.pattern_syntax.specs.Shape.{is_proper, is_sequence, is_choice, tree_size, stack_size}
-use Rattle.pattern_syntax.specs.Literal.{single_byte, joined, single_bytes, literal_start_of, node_code, code_byte, led_byte, is_several}
-use Rattle.pattern_syntax.specs.Parts.{IsWhole}
+use Rattle.pattern_syntax.specs.Literal.{single_byte, start_joined, single_bytes, literal_start_of}
+use Rattle.pattern_syntax.specs.Literal.{node_code, code_byte, led_byte, is_several}
+use Rattle.pattern_syntax.specs.Parts.{AreWholeNodes}
 use Rattle.pattern_syntax.specs.declared.node.Node.{Node}
 use Rattle.pattern_syntax.specs.declared.node.Node.TheVariants as node
 
@@ -35,11 +38,14 @@ node_adds node.Either (a ∷ b ∷ stack) = omega arith
 node_adds (node.Repeat least most) [] = omega arith
 node_adds (node.Repeat least most) (a ∷ stack) = omega arith
 
-nodes_add : (ns : List Node) (stack : List Tree) → stack_size (after_nodes ns stack) ≤ stack_size stack + length ns
+nodes_add : (ns : List Node) (stack : List Tree) → stack_size (after_nodes ns stack)
+    ≤ stack_size stack + length ns
 nodes_add [] stack = omega arith
-nodes_add (n ∷ ns) stack = let a = node_adds n stack in let b = nodes_add ns (after_node n stack) in omega (arith, a, b)
+nodes_add (n ∷ ns) stack = let a = node_adds n stack in let b = nodes_add ns (after_node n stack) in
+    omega (arith, a, b)
 
-node_exact : (n : Node) (stack : List Tree) → stack_size stack + 1 ≤ stack_size (after_node n stack) → stack_nodes (after_node n stack) ≡ stack_nodes stack ++ node_code n ∷ []
+node_exact : (n : Node) (stack : List Tree) → stack_size stack + 1 ≤ stack_size (after_node n stack)
+    → stack_nodes (after_node n stack) ≡ stack_nodes stack ++ node_code n ∷ []
 node_exact (node.Byte b) stack h = refl
 node_exact (node.Set set) stack h = refl
 node_exact node.Nothing stack h = refl
@@ -52,15 +58,20 @@ node_exact node.Either (a ∷ b ∷ stack) h = simp append_assoc
 node_exact (node.Repeat least most) [] h = absurd (omega arith)
 node_exact (node.Repeat least most) (a ∷ stack) h = simp append_assoc
 
-nodes_exact : (ns : List Node) (stack : List Tree) → stack_size stack + length ns ≤ stack_size (after_nodes ns stack) → stack_nodes (after_nodes ns stack) ≡ stack_nodes stack ++ map node_code ns
+nodes_exact : (ns : List Node) (stack : List Tree) → stack_size stack + length ns
+    ≤ stack_size (after_nodes ns stack) → stack_nodes (after_nodes ns stack) ≡ stack_nodes stack
+    ++ map node_code ns
 nodes_exact [] stack h = sym (append-nil (stack_nodes stack))
 nodes_exact (n ∷ ns) stack h =
     let a = nodes_add ns (after_node n stack) in
     let b = node_adds n stack in
-    nodes_exact ns (after_node n stack) (omega (arith, a, b, h)) ∙ ap (λ (l : List TreeNode). l ++ map node_code ns) (node_exact n stack (omega (arith, a, b, h)))
+    nodes_exact ns (after_node n stack) (omega (arith, a, b, h))
+    ∙ ap (λ (l : List TreeNode). l ++ map node_code ns)
+    (node_exact n stack (omega (arith, a, b, h)))
     ∙ append_assoc (stack_nodes stack) (node_code n ∷ []) (map node_code ns)
 
-whole_nodes : (ns : List Node) (t : Tree) → after_nodes ns [] ≡ t ∷ [] → length ns ≡ tree_size t → map node_code ns ≡ tree_nodes t
+whole_nodes : (ns : List Node) (t : Tree) → after_nodes ns [] ≡ t ∷ [] → length ns ≡ tree_size t
+    → map node_code ns ≡ tree_nodes t
 whole_nodes ns t e h =
     let s = ap stack_size e in
     sym (nodes_exact ns [] (omega (arith, s, h))) ∙ ap stack_nodes e
@@ -84,25 +95,38 @@ Begins nodes = (n : TreeNode) × (ns : List TreeNode) × (nodes ≡ n ∷ ns) ×
 begins : (t : Tree) (rest : List TreeNode) → Begins (tree_nodes t ++ rest)
 begins (tree.Set bytes) rest = ((0, (bytes, (0, None))), rest, refl, refl)
 begins tree.Nothing rest = ((1, ([], (0, None))), rest, refl, refl)
-begins (tree.Both first second) rest = subst Begins (sym (append_assoc (tree_nodes first) _ rest)) (begins first _)
-begins (tree.Either left right) rest = subst Begins (sym (append_assoc (tree_nodes left) _ rest)) (begins left _)
-begins (tree.Repeat least most piece) rest = subst Begins (sym (append_assoc (tree_nodes piece) _ rest)) (begins piece _)
+begins (tree.Both first second) rest = subst Begins (sym (append_assoc (tree_nodes first) _ rest))
+    (begins first _)
+begins (tree.Either left right) rest = subst Begins (sym (append_assoc (tree_nodes left) _ rest))
+    (begins left _)
+begins (tree.Repeat least most piece) rest =
+    subst Begins (sym (append_assoc (tree_nodes piece) _ rest)) (begins piece _)
 
 no_lead : (o : Option ℕ) (rest : List ℕ) → leads o false rest ≡ []
 no_lead None rest = refl
 no_lead (Some b) rest = refl
 
 -- behind a whole tree comes a node that joins it to nothing
-cut_short : (t : Tree) (rest : List TreeNode) → Begins rest → leading_bytes (tree_nodes t ++ rest) ≡ []
+cut_short : (t : Tree) (rest : List TreeNode) → Begins rest → leading_bytes (tree_nodes t ++ rest)
+    ≡ []
 cut_short (tree.Set bytes) rest h =
-    ap (λ (l : List TreeNode). leading_bytes ((0, (bytes, (0, None))) ∷ l)) h.2 ∙ ap (λ (t : Bool). leads (only_of bytes) t (leading_bytes h.1)) h.3 ∙ no_lead (only_of bytes) (leading_bytes h.1)
-cut_short tree.Nothing rest h = ap (λ (l : List TreeNode). leading_bytes ((1, ([], (0, None))) ∷ l)) h.2
+    ap (λ (l : List TreeNode). leading_bytes ((0, (bytes, (0, None))) ∷ l)) h.2
+    ∙ ap (λ (t : Bool). leads (only_of bytes) t (leading_bytes h.1)) h.3
+    ∙ no_lead (only_of bytes) (leading_bytes h.1)
+cut_short tree.Nothing rest h = ap (λ (l : List TreeNode). leading_bytes ((1, ([], (0, None))) ∷ l))
+    h.2
 cut_short (tree.Both first second) rest h =
-    ap leading_bytes (append_assoc (tree_nodes first) (tree_nodes second ++ (2, ([], (0, None))) ∷ []) rest)
-    ∙ cut_short first ((tree_nodes second ++ (2, ([], (0, None))) ∷ []) ++ rest) (subst Begins (sym (append_assoc (tree_nodes second) ((2, ([], (0, None))) ∷ []) rest)) (begins second _))
+    ap leading_bytes
+    (append_assoc (tree_nodes first) (tree_nodes second ++ (2, ([], (0, None))) ∷ []) rest)
+    ∙ cut_short first ((tree_nodes second ++ (2, ([], (0, None))) ∷ []) ++ rest)
+    (subst Begins (sym (append_assoc (tree_nodes second) ((2, ([], (0, None))) ∷ []) rest))
+    (begins second _))
 cut_short (tree.Either left right) rest h =
-    ap leading_bytes (append_assoc (tree_nodes left) (tree_nodes right ++ (3, ([], (0, None))) ∷ []) rest)
-    ∙ cut_short left ((tree_nodes right ++ (3, ([], (0, None))) ∷ []) ++ rest) (subst Begins (sym (append_assoc (tree_nodes right) ((3, ([], (0, None))) ∷ []) rest)) (begins right _))
+    ap leading_bytes (append_assoc (tree_nodes left) (tree_nodes right ++ (3, ([], (0, None))) ∷ [])
+    rest)
+    ∙ cut_short left ((tree_nodes right ++ (3, ([], (0, None))) ∷ []) ++ rest)
+    (subst Begins (sym (append_assoc (tree_nodes right) ((3, ([], (0, None))) ∷ []) rest))
+    (begins right _))
 cut_short (tree.Repeat least most piece) rest h =
     ap leading_bytes (append_assoc (tree_nodes piece) ((4, ([], (least, most))) ∷ []) rest)
     ∙ cut_short piece ((4, ([], (least, most))) ∷ rest) ((4, ([], (least, most))), rest, refl, refl)
@@ -111,15 +135,22 @@ alone : (b : TreeNode) (rest : List TreeNode) → code_byte b ≡ None → leadi
 alone b [] h = refl
 alone b (n ∷ rest) h = ap (λ (o : Option ℕ). leads o (n.0 == 2) (leading_bytes rest)) h
 
-not_single : (t : Tree) (rest : List TreeNode) → single_byte t ≡ None → leading_bytes (tree_nodes t ++ rest) ≡ []
+not_single : (t : Tree) (rest : List TreeNode) → single_byte t ≡ None
+    → leading_bytes (tree_nodes t ++ rest) ≡ []
 not_single (tree.Set bytes) rest h = alone (0, (bytes, (0, None))) rest h
 not_single tree.Nothing rest h = alone (1, ([], (0, None))) rest refl
 not_single (tree.Both first second) rest h =
-    ap leading_bytes (append_assoc (tree_nodes first) (tree_nodes second ++ (2, ([], (0, None))) ∷ []) rest)
-    ∙ cut_short first ((tree_nodes second ++ (2, ([], (0, None))) ∷ []) ++ rest) (subst Begins (sym (append_assoc (tree_nodes second) ((2, ([], (0, None))) ∷ []) rest)) (begins second _))
+    ap leading_bytes
+    (append_assoc (tree_nodes first) (tree_nodes second ++ (2, ([], (0, None))) ∷ []) rest)
+    ∙ cut_short first ((tree_nodes second ++ (2, ([], (0, None))) ∷ []) ++ rest)
+    (subst Begins (sym (append_assoc (tree_nodes second) ((2, ([], (0, None))) ∷ []) rest))
+    (begins second _))
 not_single (tree.Either left right) rest h =
-    ap leading_bytes (append_assoc (tree_nodes left) (tree_nodes right ++ (3, ([], (0, None))) ∷ []) rest)
-    ∙ cut_short left ((tree_nodes right ++ (3, ([], (0, None))) ∷ []) ++ rest) (subst Begins (sym (append_assoc (tree_nodes right) ((3, ([], (0, None))) ∷ []) rest)) (begins right _))
+    ap leading_bytes (append_assoc (tree_nodes left) (tree_nodes right ++ (3, ([], (0, None))) ∷ [])
+    rest)
+    ∙ cut_short left ((tree_nodes right ++ (3, ([], (0, None))) ∷ []) ++ rest)
+    (subst Begins (sym (append_assoc (tree_nodes right) ((3, ([], (0, None))) ∷ []) rest))
+    (begins right _))
 not_single (tree.Repeat least most piece) rest h =
     ap leading_bytes (append_assoc (tree_nodes piece) ((4, ([], (least, most))) ∷ []) rest)
     ∙ cut_short piece ((4, ([], (least, most))) ∷ rest) ((4, ([], (least, most))), rest, refl, refl)
@@ -128,29 +159,41 @@ abbrev started : Option (List ℕ) → List ℕ → List ℕ → List ℕ
 started None start rest = start
 started (Some bytes) start rest = bytes ++ rest
 
-single_is_start : (t : Tree) (bytes : List ℕ) → single_bytes t ≡ Some bytes → literal_start_of t ≡ bytes
+single_is_start : (t : Tree) (bytes : List ℕ) → single_bytes t ≡ Some bytes
+    → literal_start_of t ≡ bytes
 single_is_start (tree.Set bs) bytes h = absurd (let f : None ≡ Some bytes = h in cc)
 single_is_start tree.Nothing bytes h = let f : Some [] ≡ Some bytes = h in cc
-single_is_start (tree.Both first second) bytes h = ap (λ (o : Option (List ℕ)). unwrap_or o (literal_start_of first)) h
+single_is_start (tree.Both first second) bytes h =
+    ap (λ (o : Option (List ℕ)). unwrap_or o (literal_start_of first)) h
 single_is_start (tree.Either left right) bytes h = absurd (let f : None ≡ Some bytes = h in cc)
-single_is_start (tree.Repeat least most piece) bytes h = absurd (let f : None ≡ Some bytes = h in cc)
+single_is_start (tree.Repeat least most piece) bytes h =
+    absurd (let f : None ≡ Some bytes = h in cc)
 
 abbrev IsStarted : Tree → List TreeNode → Type 0
-IsStarted t tail = (rest : List TreeNode) → leading_bytes (tail ++ rest) ≡ started (single_bytes t) (literal_start_of t) (leading_bytes rest)
+IsStarted t tail = (rest : List TreeNode) → leading_bytes (tail ++ rest) ≡ started (single_bytes t)
+    (literal_start_of t) (leading_bytes rest)
 
-single_set : (t : Tree) (b : ℕ) (rest : List TreeNode) → single_byte t ≡ Some b → leading_bytes (tree_nodes t ++ (2, ([], (0, None))) ∷ rest) ≡ b ∷ leading_bytes rest
+single_set : (t : Tree) (b : ℕ) (rest : List TreeNode) → single_byte t ≡ Some b
+    → leading_bytes (tree_nodes t ++ (2, ([], (0, None))) ∷ rest) ≡ b ∷ leading_bytes rest
 single_set (tree.Set bytes) b rest h = ap (λ (o : Option ℕ). leads o true (leading_bytes rest)) h
 single_set tree.Nothing b rest h = absurd (let f : None ≡ Some b = h in cc)
 single_set (tree.Both first second) b rest h = absurd (let f : None ≡ Some b = h in cc)
 single_set (tree.Either left right) b rest h = absurd (let f : None ≡ Some b = h in cc)
 single_set (tree.Repeat least most piece) b rest h = absurd (let f : None ≡ Some b = h in cc)
 
-joined_started : (first second : Tree) (rest : List TreeNode) (before : Option (List ℕ)) (last : Option ℕ) → single_bytes first ≡ before → single_byte second ≡ last
-    → started before (literal_start_of first) (leading_bytes (tree_nodes second ++ (2, ([], (0, None))) ∷ rest)) ≡ started (joined before last) (unwrap_or (joined before last) (literal_start_of first)) (leading_bytes rest)
+joined_started : (first second : Tree) (rest : List TreeNode) (before : Option (List ℕ))
+    (last : Option ℕ) → single_bytes first ≡ before → single_byte second ≡ last
+    → started before (literal_start_of first)
+    (leading_bytes (tree_nodes second ++ (2, ([], (0, None))) ∷ rest))
+    ≡ started (start_joined before last)
+    (unwrap_or (start_joined before last) (literal_start_of first)) (leading_bytes rest)
 joined_started first second rest None last e f = refl
 joined_started first second rest (Some bytes) None e f =
-    ap (λ (l : List ℕ). bytes ++ l) (not_single second ((2, ([], (0, None))) ∷ rest) f) ∙ append-nil bytes ∙ sym (single_is_start first bytes e)
-joined_started first second rest (Some bytes) (Some b) e f = ap (λ (l : List ℕ). bytes ++ l) (single_set second b rest f) ∙ sym (append_assoc bytes (b ∷ []) (leading_bytes rest))
+    ap (λ (l : List ℕ). bytes ++ l) (not_single second ((2, ([], (0, None))) ∷ rest) f)
+    ∙ append-nil bytes ∙ sym (single_is_start first bytes e)
+joined_started first second rest (Some bytes) (Some b) e f =
+    ap (λ (l : List ℕ). bytes ++ l) (single_set second b rest f)
+    ∙ sym (append_assoc bytes (b ∷ []) (leading_bytes rest))
 
 abbrev Tail : Tree → Type 0
 Tail t = (tail : List TreeNode) × (tree_nodes t ≡ (1, ([], (0, None))) ∷ tail) × IsStarted t tail
@@ -160,72 +203,101 @@ tail_of (tree.Set bytes) h k = absurd (let f : false ≡ true = k in cc)
 tail_of tree.Nothing h k = ([], refl, λ rest. refl)
 tail_of (tree.Both first second) h k =
     let p = second_so (is_sequence first) (is_proper first && is_proper second) h in
-    let a = tail_of first (first_so (is_proper first) (is_proper second) p) (first_so (is_sequence first) (is_proper first && is_proper second) h) in
+    let a = tail_of first (first_so (is_proper first) (is_proper second) p)
+    (first_so (is_sequence first) (is_proper first && is_proper second) h) in
     let back = tree_nodes second ++ (2, ([], (0, None))) ∷ [] in (
       a.0 ++ back,
       ap (λ (l : List TreeNode). l ++ back) a.1,
       λ (rest : List TreeNode).
           ap leading_bytes (append_assoc a.0 back rest) ∙ a.2 (back ++ rest)
-          ∙ ap (λ (l : List TreeNode). started (single_bytes first) (literal_start_of first) (leading_bytes l)) (append_assoc (tree_nodes second) ((2, ([], (0, None))) ∷ []) rest)
+          ∙ ap (λ (l : List TreeNode). started (single_bytes first) (literal_start_of first)
+          (leading_bytes l)) (append_assoc (tree_nodes second) ((2, ([], (0, None))) ∷ []) rest)
           ∙ joined_started first second rest (single_bytes first) (single_byte second) refl refl,
     )
 tail_of (tree.Either left right) h k = absurd (let f : false ≡ true = k in cc)
 tail_of (tree.Repeat least most piece) h k = absurd (let f : false ≡ true = k in cc)
 
-started_whole : (t : Tree) (o : Option (List ℕ)) → single_bytes t ≡ o → started o (literal_start_of t) [] ≡ literal_start_of t
+started_whole : (t : Tree) (o : Option (List ℕ)) → single_bytes t ≡ o
+    → started o (literal_start_of t) [] ≡ literal_start_of t
 started_whole t None e = refl
 started_whole t (Some bytes) e = append-nil bytes ∙ sym (single_is_start t bytes e)
 
 -- behind the first node stand the bytes of the literal start
-pub start_of_nodes : (ns : List Node) (t : Tree) → map node_code ns ≡ tree_nodes t → is_proper t ≡ true → is_sequence t ≡ true → leading_bytes (drop 1 (map node_code ns)) ≡ literal_start_of t
+pub start_of_nodes : (ns : List Node) (t : Tree) → map node_code ns ≡ tree_nodes t
+    → is_proper t ≡ true → is_sequence t ≡ true → leading_bytes (drop 1 (map node_code ns))
+    ≡ literal_start_of t
 start_of_nodes ns t e h k =
     let a = tail_of t h k in
-    ap (λ (l : List TreeNode). leading_bytes (drop 1 l)) (e ∙ a.1) ∙ ap leading_bytes (sym (append-nil a.0)) ∙ a.2 [] ∙ started_whole t (single_bytes t) refl
+    ap (λ (l : List TreeNode). leading_bytes (drop 1 l)) (e ∙ a.1)
+    ∙ ap leading_bytes (sym (append-nil a.0)) ∙ a.2 [] ∙ started_whole t (single_bytes t) refl
 
 -- ---- each text begins with it
 
 same_member : (x b c : ℕ) → (x == c || false) ≡ true → x ≡ b → b ≡ c
 same_member x b c k g = grind (arith, nat_tests)
 
-only_member : (bytes : List ℕ) (b c : ℕ) → only_of bytes ≡ Some b → list_any (λ x. x == c) bytes ≡ true → b ≡ c
+only_member : (bytes : List ℕ) (b c : ℕ) → only_of bytes ≡ Some b → list_any (λ x. x == c) bytes
+    ≡ true → b ≡ c
 only_member [] b c h k = absurd (let f : None ≡ Some b = h in cc)
-only_member (x ∷ []) b c h k = let f : Some x ≡ Some b = h in let g : x ≡ b = cc in same_member x b c k g
+only_member (x ∷ []) b c h k = let f : Some x ≡ Some b = h in let g : x ≡ b = cc in
+    same_member x b c k g
 only_member (x ∷ y ∷ bytes) b c h k = absurd (let f : None ≡ Some b = h in cc)
 
-pub single_text : (t : Tree) (b : ℕ) (text : List ℕ) → single_byte t ≡ Some b → In t text → text ≡ b ∷ []
-single_text (tree.Set bytes) b text h k = k.1 ∙ ap (λ (c : ℕ). c ∷ []) (sym (only_member bytes b k.0 h k.2))
+pub single_text : (t : Tree) (b : ℕ) (text : List ℕ) → single_byte t ≡ Some b → In t text
+    → text ≡ b ∷ []
+single_text (tree.Set bytes) b text h k =
+    k.1 ∙ ap (λ (c : ℕ). c ∷ []) (sym (only_member bytes b k.0 h k.2))
 single_text tree.Nothing b text h k = absurd (let f : None ≡ Some b = h in cc)
 single_text (tree.Both first second) b text h k = absurd (let f : None ≡ Some b = h in cc)
 single_text (tree.Either left right) b text h k = absurd (let f : None ≡ Some b = h in cc)
 single_text (tree.Repeat least most piece) b text h k = absurd (let f : None ≡ Some b = h in cc)
 
-joined_texts : (first second : Tree) (bytes text front rest : List ℕ) (a : Option (List ℕ)) (b : Option ℕ) → text ≡ front ++ rest → ((bs : List ℕ) → a ≡ Some bs → front ≡ bs) → single_byte second ≡ b → In second rest → joined a b ≡ Some bytes → text ≡ bytes
-joined_texts first second bytes text front rest None b e f g k h = absurd (let q : None ≡ Some bytes = h in cc)
-joined_texts first second bytes text front rest (Some bs) None e f g k h = absurd (let q : None ≡ Some bytes = h in cc)
+joined_texts : (first second : Tree) (bytes text front rest : List ℕ) (a : Option (List ℕ))
+    (b : Option ℕ) → text ≡ front ++ rest → ((bs : List ℕ) → a ≡ Some bs → front ≡ bs)
+    → single_byte second ≡ b → In second rest → start_joined a b ≡ Some bytes → text ≡ bytes
+joined_texts first second bytes text front rest None b e f g k h =
+    absurd (let q : None ≡ Some bytes = h in cc)
+joined_texts first second bytes text front rest (Some bs) None e f g k h =
+    absurd (let q : None ≡ Some bytes = h in cc)
 joined_texts first second bytes text front rest (Some bs) (Some b) e f g k h =
-    e ∙ ap (λ (l : List ℕ). l ++ rest) (f bs refl) ∙ ap (λ (l : List ℕ). bs ++ l) (single_text second b rest g k) ∙ (let q : Some (bs ++ b ∷ []) ≡ Some bytes = h in cc)
+    e ∙ ap (λ (l : List ℕ). l ++ rest) (f bs refl)
+    ∙ ap (λ (l : List ℕ). bs ++ l) (single_text second b rest g k)
+    ∙ (let q : Some (bs ++ b ∷ []) ≡ Some bytes = h in cc)
 
-single_texts : (t : Tree) (bytes text : List ℕ) → single_bytes t ≡ Some bytes → In t text → text ≡ bytes
+single_texts : (t : Tree) (bytes text : List ℕ) → single_bytes t ≡ Some bytes → In t text
+    → text ≡ bytes
 single_texts (tree.Set bs) bytes text h k = absurd (let f : None ≡ Some bytes = h in cc)
 single_texts tree.Nothing bytes text h k = k ∙ (let f : Some [] ≡ Some bytes = h in cc)
 single_texts (tree.Both first second) bytes text h k =
-    joined_texts first second bytes text k.0 k.1 (single_bytes first) (single_byte second) k.2 (λ (bs : List ℕ) (e : single_bytes first ≡ Some bs). single_texts first bs k.0 e k.3) refl k.4 h
+    joined_texts first second bytes text k.0 k.1 (single_bytes first) (single_byte second) k.2
+    (λ (bs : List ℕ) (e : single_bytes first ≡ Some bs). single_texts first bs k.0 e k.3) refl
+    k.4 h
 single_texts (tree.Either left right) bytes text h k = absurd (let f : None ≡ Some bytes = h in cc)
-single_texts (tree.Repeat least most piece) bytes text h k = absurd (let f : None ≡ Some bytes = h in cc)
+single_texts (tree.Repeat least most piece) bytes text h k =
+    absurd (let f : None ≡ Some bytes = h in cc)
 
 abbrev HasStart : List ℕ → List ℕ → Type 0
 HasStart start text = (rest : List ℕ) × (text ≡ start ++ rest)
 
-start_or_first : (first second : Tree) (text front rest : List ℕ) (o : Option (List ℕ)) → joined (single_bytes first) (single_byte second) ≡ o → In (tree.Both first second) text → text ≡ front ++ rest → HasStart (literal_start_of first) front
+start_or_first : (first second : Tree) (text front rest : List ℕ) (o : Option (List ℕ))
+    → start_joined (single_bytes first) (single_byte second) ≡ o → In (tree.Both first second) text
+    → text ≡ front ++ rest → HasStart (literal_start_of first) front
     → HasStart (unwrap_or o (literal_start_of first)) text
-start_or_first first second text front rest None e k f h = (h.0 ++ rest, f ∙ ap (λ (l : List ℕ). l ++ rest) h.1 ∙ append_assoc (literal_start_of first) h.0 rest)
-start_or_first first second text front rest (Some bytes) e k f h = ([], single_texts (tree.Both first second) bytes text e k ∙ sym (append-nil bytes))
+start_or_first first second text front rest None e k f h = (
+  h.0 ++ rest,
+  f ∙ ap (λ (l : List ℕ). l ++ rest) h.1 ∙ append_assoc (literal_start_of first) h.0
+      rest,
+)
+start_or_first first second text front rest (Some bytes) e k f h =
+    ([], single_texts (tree.Both first second) bytes text e k ∙ sym (append-nil bytes))
 
 pub begins_with_start : (t : Tree) (text : List ℕ) → In t text → HasStart (literal_start_of t) text
 begins_with_start (tree.Set bytes) text k = (text, refl)
 begins_with_start tree.Nothing text k = (text, refl)
 begins_with_start (tree.Both first second) text k =
-    start_or_first first second text k.0 k.1 (joined (single_bytes first) (single_byte second)) refl k k.2 (begins_with_start first k.0 k.3)
+    start_or_first first second text k.0 k.1
+    (start_joined (single_bytes first) (single_byte second)) refl k k.2
+    (begins_with_start first k.0 k.3)
 begins_with_start (tree.Either left right) text k = (text, refl)
 begins_with_start (tree.Repeat least most piece) text k = (text, refl)
 
@@ -241,22 +313,30 @@ root_code (tree.Repeat least most piece) = (4, ([], (least, most)))
 root_last : (t : Tree) → (front : List TreeNode) × (tree_nodes t ≡ front ++ root_code t ∷ [])
 root_last (tree.Set bytes) = ([], refl)
 root_last tree.Nothing = ([], refl)
-root_last (tree.Both first second) = (tree_nodes first ++ tree_nodes second, sym (append_assoc (tree_nodes first) (tree_nodes second) _))
-root_last (tree.Either left right) = (tree_nodes left ++ tree_nodes right, sym (append_assoc (tree_nodes left) (tree_nodes right) _))
+root_last (tree.Both first second) = (
+  tree_nodes first ++ tree_nodes second,
+  sym
+      (append_assoc (tree_nodes first) (tree_nodes second) _),
+)
+root_last (tree.Either left right) =
+    (tree_nodes left ++ tree_nodes right, sym (append_assoc (tree_nodes left) (tree_nodes right) _))
 root_last (tree.Repeat least most piece) = (tree_nodes piece, refl)
 
-code_at : (ns : List Node) (i : ℕ) (d : Node) → get_or (map node_code ns) i (node_code d) ≡ node_code (get_or ns i d)
+code_at : (ns : List Node) (i : ℕ) (d : Node) → get_or (map node_code ns) i (node_code d)
+    ≡ node_code (get_or ns i d)
 code_at [] i d = refl
 code_at (n ∷ ns) zero d = refl
 code_at (n ∷ ns) (suc i) d = code_at ns i d
 
-pub last_code : (ns : List Node) (t : Tree) (i : ℕ) (d : Node) → map node_code ns ≡ tree_nodes t → i + 1 ≡ length ns → node_code (get_or ns i d) ≡ root_code t
+pub last_code : (ns : List Node) (t : Tree) (i : ℕ) (d : Node) → map node_code ns ≡ tree_nodes t
+    → i + 1 ≡ length ns → node_code (get_or ns i d) ≡ root_code t
 last_code ns t i d e h =
     let r = root_last t in
     let l = ap length (e ∙ r.1) in
     let m : length (r.0 ++ root_code t ∷ []) ≡ length r.0 + 1 = length_push r.0 (root_code t) in
     let n = length-map ns node_code in
-    sym (code_at ns i d) ∙ ap (λ (l : List TreeNode). get_or l i (node_code d)) (e ∙ r.1) ∙ get_or_push r.0 (root_code t) (node_code d) i (omega (arith, l, m, n, h))
+    sym (code_at ns i d) ∙ ap (λ (l : List TreeNode). get_or l i (node_code d)) (e ∙ r.1)
+    ∙ get_or_push r.0 (root_code t) (node_code d) i (omega (arith, l, m, n, h))
 
 root_several : (t : Tree) → ((root_code t).0 == 3) ≡ is_several t
 root_several (tree.Set bytes) = refl
@@ -265,8 +345,10 @@ root_several (tree.Both first second) = refl
 root_several (tree.Either left right) = refl
 root_several (tree.Repeat least most piece) = refl
 
-pub last_several : (ns : List Node) (t : Tree) (i : ℕ) (d : Node) → map node_code ns ≡ tree_nodes t → i + 1 ≡ length ns → ((node_code (get_or ns i d)).0 == 3) ≡ is_several t
-last_several ns t i d e h = ap (λ (n : TreeNode). n.0 == 3) (last_code ns t i d e h) ∙ root_several t
+pub last_several : (ns : List Node) (t : Tree) (i : ℕ) (d : Node) → map node_code ns ≡ tree_nodes t
+    → i + 1 ≡ length ns → ((node_code (get_or ns i d)).0 == 3) ≡ is_several t
+last_several ns t i d e h = ap (λ (n : TreeNode). n.0 == 3) (last_code ns t i d e h)
+    ∙ root_several t
 
 pub several_start : (t : Tree) → is_several t ≡ true → literal_start_of t ≡ []
 several_start (tree.Set bytes) h = refl
@@ -291,32 +373,43 @@ drop_codes (suc n) (m ∷ ns) = drop_codes n ns
 abbrev pub leading_from : ℕ → List Node → List ℕ
 leading_from at ns = leading_bytes (map node_code (drop at ns))
 
-pub leading_start : (ns : List Node) (t : Tree) → map node_code ns ≡ tree_nodes t → is_proper t ≡ true → is_sequence t ≡ true → leading_from 1 ns ≡ literal_start_of t
+pub leading_start : (ns : List Node) (t : Tree) → map node_code ns ≡ tree_nodes t
+    → is_proper t ≡ true → is_sequence t ≡ true → leading_from 1 ns ≡ literal_start_of t
 leading_start ns t e h k = ap leading_bytes (sym (drop_codes 1 ns)) ∙ start_of_nodes ns t e h k
 
-pub two_nodes : (ns : List Node) (at : ℕ) (d : Node) → at + 1 < length ns → drop at ns ≡ get_or ns at d ∷ (get_or ns (at + 1) d ∷ drop (at + 2) ns)
+pub two_nodes : (ns : List Node) (at : ℕ) (d : Node) → at + 1 < length ns
+    → drop at ns ≡ get_or ns at d ∷ (get_or ns (at + 1) d ∷ drop (at + 2) ns)
 two_nodes ns at d h =
     let e : at + 1 + 1 ≡ at + 2 = omega arith in
-    drop_more ns at d (omega arith) ∙ ap (λ (l : List Node). get_or ns at d ∷ l) (drop_more ns (at + 1) d h ∙ ap (λ (n : ℕ). get_or ns (at + 1) d ∷ drop n ns) e)
+    drop_more ns at d (omega arith) ∙ ap (λ (l : List Node). get_or ns at d ∷ l)
+    (drop_more ns (at + 1) d h ∙ ap (λ (n : ℕ). get_or ns (at + 1) d ∷ drop n ns) e)
 
-lead_none : (o : Option ℕ) (joins : Bool) (rest : List ℕ) → led_byte o joins ≡ None → leads o joins rest ≡ []
+lead_none : (o : Option ℕ) (joins : Bool) (rest : List ℕ) → led_byte o joins ≡ None
+    → leads o joins rest ≡ []
 lead_none (Some b) true rest h = absurd (let f : Some b ≡ None = h in cc)
 lead_none (Some b) false rest h = refl
 lead_none None joins rest h = refl
 
-lead_some : (o : Option ℕ) (joins : Bool) (rest : List ℕ) (b : ℕ) → led_byte o joins ≡ Some b → leads o joins rest ≡ b ∷ rest
-lead_some (Some c) true rest b h = let f : Some c ≡ Some b = h in let g : c ≡ b = cc in ap (λ (x : ℕ). x ∷ rest) g
+lead_some : (o : Option ℕ) (joins : Bool) (rest : List ℕ) (b : ℕ) → led_byte o joins ≡ Some b
+    → leads o joins rest ≡ b ∷ rest
+lead_some (Some c) true rest b h = let f : Some c ≡ Some b = h in let g : c ≡ b = cc in
+    ap (λ (x : ℕ). x ∷ rest) g
 lead_some (Some c) false rest b h = absurd (let f : None ≡ Some b = h in cc)
 lead_some None joins rest b h = absurd (let f : None ≡ Some b = h in cc)
 
 abbrev pub led_at : List Node → ℕ → Node → Option ℕ
-led_at ns at d = led_byte (code_byte (node_code (get_or ns at d))) ((node_code (get_or ns (at + 1) d)).0 == 2)
+led_at ns at d = led_byte (code_byte (node_code (get_or ns at d)))
+    ((node_code (get_or ns (at + 1) d)).0 == 2)
 
-pub leading_none : (ns : List Node) (at : ℕ) (d : Node) → at + 1 < length ns → led_at ns at d ≡ None → leading_from at ns ≡ []
-leading_none ns at d h e = ap (λ (l : List Node). leading_bytes (map node_code l)) (two_nodes ns at d h) ∙ lead_none _ _ (leading_from (at + 2) ns) e
+pub leading_none : (ns : List Node) (at : ℕ) (d : Node) → at + 1 < length ns → led_at ns at d ≡ None
+    → leading_from at ns ≡ []
+leading_none ns at d h e = ap (λ (l : List Node). leading_bytes (map node_code l))
+    (two_nodes ns at d h) ∙ lead_none _ _ (leading_from (at + 2) ns) e
 
-pub leading_some : (ns : List Node) (at b : ℕ) (d : Node) → at + 1 < length ns → led_at ns at d ≡ Some b → leading_from at ns ≡ b ∷ leading_from (at + 2) ns
-leading_some ns at b d h e = ap (λ (l : List Node). leading_bytes (map node_code l)) (two_nodes ns at d h) ∙ lead_some _ _ (leading_from (at + 2) ns) b e
+pub leading_some : (ns : List Node) (at b : ℕ) (d : Node) → at + 1 < length ns
+    → led_at ns at d ≡ Some b → leading_from at ns ≡ b ∷ leading_from (at + 2) ns
+leading_some ns at b d h e = ap (λ (l : List Node). leading_bytes (map node_code l))
+    (two_nodes ns at d h) ∙ lead_some _ _ (leading_from (at + 2) ns) b e
 
 short_leads : (ns : List Node) → length ns ≤ 1 → leading_bytes (map node_code ns) ≡ []
 short_leads [] h = refl
@@ -326,23 +419,38 @@ short_leads (n ∷ m ∷ ns) h = absurd (omega arith)
 pub leading_end : (ns : List Node) (at : ℕ) → length ns ≤ at + 1 → leading_from at ns ≡ []
 leading_end ns at h = short_leads (drop at ns) (let l = length-drop at ns in omega (arith, l))
 
--- behind the first node stand nodes that lead with the literal start, or the last says that there are several sides
-pub whole_codes : (ns : List Node) → IsWhole ns → map node_code (node.Nothing ∷ ns) ≡ tree_nodes (rest_tree ns)
-whole_codes ns w = whole_nodes (node.Nothing ∷ ns) (rest_tree ns) w.builds (let s = w.size in omega (arith, s))
+-- behind the first node stand nodes that lead with the literal start, or the last says that there
+-- are several sides
+pub whole_codes : (ns : List Node) → AreWholeNodes ns → map node_code (node.Nothing ∷ ns)
+    ≡ tree_nodes (rest_tree ns)
+whole_codes ns w = whole_nodes (node.Nothing ∷ ns) (rest_tree ns) w.builds (let s = w.size in
+    omega (arith, s))
 
-one_behind : (n : Node) (ns : List Node) (i : ℕ) (d : Node) → get_or (n ∷ ns) (i + 1) d ≡ get_or ns i d
+one_behind : (n : Node) (ns : List Node) (i : ℕ) (d : Node) → get_or (n ∷ ns) (i + 1) d
+    ≡ get_or ns i d
 one_behind n ns i d = let e : i + 1 ≡ suc i = omega arith in ap (λ (k : ℕ). get_or (n ∷ ns) k d) e
 
-pub whole_several : (ns : List Node) (i : ℕ) (d : Node) → IsWhole ns → i + 1 ≡ length ns → ((node_code (get_or ns i d)).0 == 3) ≡ is_several (rest_tree ns)
+pub whole_several : (ns : List Node) (i : ℕ) (d : Node) → AreWholeNodes ns → i + 1 ≡ length ns
+    → ((node_code (get_or ns i d)).0 == 3) ≡ is_several (rest_tree ns)
 whole_several ns i d w h =
-    ap (λ (n : Node). (node_code n).0 == 3) (sym (one_behind node.Nothing ns i d)) ∙ last_several (node.Nothing ∷ ns) (rest_tree ns) (i + 1) d (whole_codes ns w) (omega (arith, h))
+    ap (λ (n : Node). (node_code n).0 == 3) (sym (one_behind node.Nothing ns i d))
+    ∙ last_several (node.Nothing ∷ ns) (rest_tree ns) (i + 1) d (whole_codes ns w)
+    (omega (arith, h))
 
-pub whole_leads : (ns : List Node) → IsWhole ns → is_several (rest_tree ns) ≡ false → leading_from 0 ns ≡ literal_start_of (rest_tree ns)
-whole_leads ns w s = leading_start (node.Nothing ∷ ns) (rest_tree ns) (whole_codes ns w) w.proper (not_several (rest_tree ns) s w.choice)
+pub whole_leads : (ns : List Node) → AreWholeNodes ns → is_several (rest_tree ns) ≡ false
+    → leading_from 0 ns ≡ literal_start_of (rest_tree ns)
+whole_leads ns w s = leading_start (node.Nothing ∷ ns) (rest_tree ns) (whole_codes ns w) w.proper
+    (not_several (rest_tree ns) s w.choice)
 
-pub text_begins : (t : Tree) (start : List ℕ) → start ≡ literal_start_of t → (text : List ℕ) → In t text → (rest : List ℕ) × (text ≡ start ++ rest)
-text_begins t start e text h = let r = begins_with_start t text h in (r.0, r.1 ∙ ap (λ (l : List ℕ). l ++ r.0) (sym e))
+pub text_begins : (t : Tree) (start : List ℕ) → start ≡ literal_start_of t → (text : List ℕ)
+    → In t text → (rest : List ℕ) × (text ≡ start ++ rest)
+text_begins t start e text h = let r = begins_with_start t text h in
+    (r.0, r.1 ∙ ap (λ (l : List ℕ). l ++ r.0) (sym e))
 
-pub one_more : (ns : List Node) (start new : List ℕ) (at b : ℕ) (d : Node) → at + 1 < length ns → led_at ns at d ≡ Some b → leading_from 0 ns ≡ start ++ leading_from at ns → new ≡ start ++ b ∷ [] → leading_from 0 ns ≡ new ++ leading_from (at + 2) ns
+pub one_more : (ns : List Node) (start new : List ℕ) (at b : ℕ) (d : Node) → at + 1 < length ns
+    → led_at ns at d ≡ Some b → leading_from 0 ns ≡ start ++ leading_from at ns
+    → new ≡ start ++ b ∷ [] → leading_from 0 ns ≡ new ++ leading_from (at + 2) ns
 one_more ns start new at b d h e k f =
-    k ∙ ap (λ (l : List ℕ). start ++ l) (leading_some ns at b d h e) ∙ sym (append_assoc start (b ∷ []) (leading_from (at + 2) ns)) ∙ ap (λ (l : List ℕ). l ++ leading_from (at + 2) ns) (sym f)
+    k ∙ ap (λ (l : List ℕ). start ++ l) (leading_some ns at b d h e)
+    ∙ sym (append_assoc start (b ∷ []) (leading_from (at + 2) ns))
+    ∙ ap (λ (l : List ℕ). l ++ leading_from (at + 2) ns) (sym f)

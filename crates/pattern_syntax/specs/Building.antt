@@ -1,11 +1,12 @@
 -- What a builder of a pattern stands for.
-use Rattle.std.specs.Prelude.{◌≡◌, ℕ, ◌+◌, min, true, List, [], ◌∷◌, ◌++◌, length, Option, Some, None, option_map, is_some, Result, Ok, Err}
+use Rattle.std.specs.Prelude.{◌≡◌, ℕ, ◌+◌, min, true, List, [], ◌∷◌, ◌++◌, length, Option, Some}
+use Rattle.std.specs.Prelude.{None, option_map, is_some, Result, Ok, Err}
 use Rattle.std.specs.Global.{Vec}
 use Rattle.label_base.specs.Answers.{Explains}
 use Rattle.pattern_syntax.specs.Tree.{Tree, Set}
 use Rattle.pattern_syntax.specs.Shape.{is_proper, is_proper_set, is_sequence, stack_size}
 use Rattle.pattern_syntax.specs.Nodes.{after_node, trees_behind, rest_tree}
-use Rattle.pattern_syntax.specs.Parts.{IsWhole}
+use Rattle.pattern_syntax.specs.Parts.{AreWholeNodes}
 use Rattle.pattern_syntax.specs.Tokens.{Token, Bytes, Open, Close, Bar, Anchor, Times}
 use Rattle.pattern_syntax.specs.Reading as reading
 use Rattle.pattern_syntax.specs.Reading.{Reading, positions, after_token, structure_fault, reads_as}
@@ -21,15 +22,15 @@ use Rattle.pattern_syntax.specs.declared.limits.TheConstants.{MOST_POSITIONS}
 abbrev pub capped : ℕ → ℕ
 capped n = min (MOST_POSITIONS + 1) n
 
-abbrev pub count_of : Tree → ℕ
-count_of tree = capped (positions tree)
+abbrev pub capped_positions : Tree → ℕ
+capped_positions tree = capped (positions tree)
 
 abbrev pub level_counts : reading.Level → Level
 level_counts level =
     record {
-      sides = option_map count_of level.sides;
-      sequence = count_of level.sequence;
-      piece = option_map count_of level.piece;
+      sides = option_map capped_positions level.sides;
+      sequence = capped_positions level.sequence;
+      piece = option_map capped_positions level.piece;
     }
 
 -- the trees of a level, the last on top of those before it
@@ -66,7 +67,7 @@ AreProperLevels (around ∷ outer) =
     (around.piece ≡ None) × IsProperLevel around × AreProperLevels outer
 
 -- the builder's nodes are the trees of what is read, and its counts are theirs
-pub record Stands (builder : Builder) (read : Reading) : Type 0 where
+pub record IsBuilderOf (builder : Builder) (read : Reading) : Type 0 where
   pub trees : trees_behind builder.nodes.items ≡ level_trees read.level (outer_trees read.outer)
   pub level : builder.level ≡ level_counts read.level
   pub outer : builder.outer.items ≡ outer_counts read.outer
@@ -78,7 +79,7 @@ pub record Stands (builder : Builder) (read : Reading) : Type 0 where
 -- the nodes end a tree that stands on these, and this is its count
 pub record Ends (builder : Builder) (stack : List Tree) (tree : Tree) (count : ℕ) : Type 0 where
   pub trees : trees_behind builder.nodes.items ≡ tree ∷ stack
-  pub counted : count ≡ count_of tree
+  pub counted : count ≡ capped_positions tree
   pub size : length builder.nodes.items + 1 ≡ stack_size (tree ∷ stack)
 
 abbrev pub IsProperToken : Token → Type 0
@@ -89,30 +90,33 @@ IsProperToken Bar = Unit {0}
 IsProperToken Anchor = Unit {0}
 IsProperToken (Times least most) = Unit {0}
 
-abbrev pub Explained : Option PatternWhy → Option PatternWhy → Type 0
-Explained None fault = Unit {0}
-Explained (Some why) fault = fault ≡ Some why
+abbrev pub ExplainedAs : Option PatternWhy → Option PatternWhy → Type 0
+ExplainedAs None fault = Unit {0}
+ExplainedAs (Some why) fault = fault ≡ Some why
 
 abbrev pub fault_of : Reading → ℕ → Token → Option PatternWhy
 fault_of read place token =
     structure_fault (length read.outer) (is_some read.level.piece) place token
 
--- the token has no fault, and the builder stands for what is read with it; or the error is its fault, or want of memory
+-- the token has no fault, and the builder stands for what is read with it; or the error is its
+-- fault, or want of memory
 abbrev pub Steps : {U : Type 0} → Result U PatternFault → Builder → Builder → ℕ → Token → Type 0
 Steps (Ok u) old new place token =
-    (read : Reading) → Stands old read → (fault_of read place token ≡ None)
-    × Stands new (after_token read token)
+    (read : Reading) → IsBuilderOf old read → (fault_of read place token ≡ None)
+    × IsBuilderOf new (after_token read token)
 Steps (Err e) old new place token =
-    (read : Reading) → Stands old read → Explained (pattern_cause e) (fault_of read place token)
+    (read : Reading) → IsBuilderOf old read
+    → ExplainedAs (pattern_cause e) (fault_of read place token)
 
 -- the node is that of a set of these bytes
 abbrev pub IsSetNode : Node → List ℕ → Type 0
 IsSetNode node bytes = (stack : List Tree) → after_node node stack ≡ Set bytes ∷ stack
 
--- what is read is whole, and the nodes are those of its tree; or the error is its fault, or want of memory
+-- what is read is whole, and the nodes are those of its tree; or the error is its fault, or want of
+-- memory
 abbrev pub Finishes : Result (Vec Node) PatternFault → Reading → ℕ → Type 0
 Finishes (Ok nodes) read end =
-    (reads_as end read [] ≡ Ok (rest_tree nodes.items)) × IsWhole nodes.items
+    (reads_as end read [] ≡ Ok (rest_tree nodes.items)) × AreWholeNodes nodes.items
 Finishes (Err e) read end = Explains (pattern_cause e) (reads_as end read [])
 
 abbrev pub side_positions : Option Tree → ℕ

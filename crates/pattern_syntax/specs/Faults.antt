@@ -1,11 +1,15 @@
--- Which texts are patterns within the limits, and what is amiss in the others at the first place where anything is.
-use Rattle.std.specs.Prelude.{◌≡◌, ℕ, ◌<◌, ◌≤◌, Bool, false, List, [], ◌∷◌, ◌++◌, length, map, fold, Ok, Err}
+-- Which texts are patterns within the limits, and what is amiss in the others at the first place
+-- where anything is.
+use Rattle.std.specs.Prelude.{◌≡◌, ℕ, ◌<◌, ◌≤◌, Bool, false, List, [], ◌∷◌, ◌++◌, length, map, fold}
+use Rattle.std.specs.Prelude.{Ok, Err}
 use Rattle.pattern_syntax.specs.Tree.{Tree}
-use Rattle.pattern_syntax.specs.Tokens.{Token, Bytes, Open, Close, Bar, Anchor, Times, Placed, tokens_from}
+use Rattle.pattern_syntax.specs.Tokens.{Token, Bytes, Open, Close, Bar, Anchor, Times, PlacedToken}
+use Rattle.pattern_syntax.specs.Tokens.{tokens_from}
 use Rattle.pattern_syntax.specs.Reading.{positions, depth_behind, ends_piece, refused_at}
 use Rattle.pattern_syntax.specs.Grammar.{Spells, Choice, cut_of}
 use Rattle.pattern_syntax.specs.declared.pattern_fault.PatternWhy.{PatternWhy}
-use Rattle.pattern_syntax.specs.declared.pattern_fault.PatternWhy.TheVariants.{Syntax, TooDeep, TooManyPositions}
+use Rattle.pattern_syntax.specs.declared.pattern_fault.PatternWhy.TheVariants.{Syntax, TooDeep}
+use Rattle.pattern_syntax.specs.declared.pattern_fault.PatternWhy.TheVariants.{TooManyPositions}
 use Rattle.pattern_syntax.specs.declared.limits.TheConstants.{MOST_GROUPS, MOST_POSITIONS}
 
 -- how many groups are open behind tokens, where so many were open before them
@@ -28,7 +32,8 @@ Begins tokens = (more : List Token) × (tree : Tree) × Spells Choice (tokens ++
 
 -- ---- patterns
 
--- the text is cut into tokens, none refused, that are a choice with this tree, and nowhere too many groups are open
+-- the text is cut into tokens, none refused, that are a choice with this tree, and nowhere too many
+-- groups are open
 pub record IsCutInto (text : List ℕ) (tree : Tree) : Type 0 where
   pub tokens : List Token
   pub cut : map cut_of (tokens_from 0 0 text) ≡ map Ok tokens
@@ -43,7 +48,8 @@ HasTooManyPositions text = (tree : Tree) × IsCutInto text tree × (MOST_POSITIO
 
 -- ---- faults
 
--- the token may not stand at this place, where so many groups are open, and a repeat may follow or not
+-- the token may not stand at this place, where so many groups are open, and a repeat may follow or
+-- not
 abbrev pub IsMisplaced : (depth : ℕ) (after_piece : Bool) (place : ℕ) → Token → PatternWhy → Type 0
 IsMisplaced depth after_piece place Close why = (depth ≡ 0) × (why ≡ Syntax place)
 IsMisplaced depth after_piece place Open why = (MOST_GROUPS ≤ depth) × (why ≡ TooDeep place)
@@ -53,17 +59,18 @@ IsMisplaced depth after_piece place (Bytes bytes) why = ⊥
 IsMisplaced depth after_piece place Bar why = ⊥
 IsMisplaced depth after_piece place Anchor why = ⊥
 
--- what stands behind these tokens is amiss at once: the text ends in a group, a token is refused, or it may not follow
-abbrev pub IsAmiss : (end : ℕ) (before : List Token) → List Placed → PatternWhy → Type 0
+-- what stands behind these tokens is amiss at once: the text ends in a group, a token is refused,
+-- or it may not follow
+abbrev pub IsAmiss : (end : ℕ) (before : List Token) → List PlacedToken → PatternWhy → Type 0
 IsAmiss end before [] why = (0 < open_behind 0 before) × (why ≡ Syntax end)
 IsAmiss end before ((place, Err refusal) ∷ rest) why = why ≡ refused_at place refusal
 IsAmiss end before ((place, Ok token) ∷ rest) why =
     IsMisplaced (open_behind 0 before) (takes_repeat false before) place token why
 
 -- the tokens before a place are the beginning of some pattern, and what stands there is amiss
-pub record HasFault (end : ℕ) (placed : List Placed) (why : PatternWhy) : Type 0 where
-  pub front : List Placed
-  pub rest : List Placed
+pub record HasFault (end : ℕ) (placed : List PlacedToken) (why : PatternWhy) : Type 0 where
+  pub front : List PlacedToken
+  pub rest : List PlacedToken
   pub tokens : List Token
   pub cut : placed ≡ front ++ rest
   pub read : map cut_of front ≡ map Ok tokens

@@ -1,8 +1,9 @@
--- The grammar of patterns over their tokens: a choice is sequences parted by bars; a sequence is a run of pieces, in which
--- anchors leave nothing; a piece is an item, which a repeat may follow; an item is a byte, a set or a group.
+-- The grammar of patterns over their tokens: a choice is sequences parted by bars; a sequence is a
+-- run of pieces, in which anchors leave nothing; a piece is an item, which a repeat may follow; an
+-- item is a byte, a set or a group.
 use Rattle.std.specs.Prelude.{ℕ, List, [], ◌∷◌, ◌++◌, Option, Result}
 use Rattle.pattern_syntax.specs.Tree.{Tree, Set, Nothing, Both, Either, Repeat}
-use Rattle.pattern_syntax.specs.Tokens.{Token, Bytes, Open, Close, Bar, Anchor, Times, Placed}
+use Rattle.pattern_syntax.specs.Tokens.{Token, Bytes, Open, Close, Bar, Anchor, Times, PlacedToken}
 use Rattle.pattern_syntax.specs.declared.refusal.Refusal.{Refusal}
 
 pub data Part : Type 0 where
@@ -30,5 +31,5 @@ pub data Spells : Part → List Token → Tree → Type 0 where
   or : (front back : List Token) (left right : Tree) → Spells Choice front left
       → Spells Sequence back right → Spells Choice (front ++ Bar ∷ back) (Either left right)
 
-abbrev pub cut_of : Placed → Result Token Refusal
+abbrev pub cut_of : PlacedToken → Result Token Refusal
 cut_of placed = placed.1

@@ -1,5 +1,6 @@
 -- The language of a pattern: the texts that it matches from their first byte to their last.
-use Rattle.std.specs.Prelude.{◌≡◌, ℕ, zero, suc, ◌+◌, ◌-◌, ◌≤◌, ◌==◌, Bool, true, false, ◌||◌, ◌&&◌, List, [], ◌∷◌, ◌++◌, length, Option, Some, None, ◌⊎◌}
+use Rattle.std.specs.Prelude.{◌≡◌, ℕ, zero, suc, ◌+◌, ◌-◌, ◌≤◌, ◌==◌, Bool, true, false, ◌||◌, ◌&&◌}
+use Rattle.std.specs.Prelude.{List, [], ◌∷◌, ◌++◌, length, Option, Some, None, ◌⊎◌}
 use Rattle.std.specs.List.{list_any}
 use Rattle.pattern_syntax.specs.Tree.{Tree, Set, Nothing, Both, Either, Repeat}
 
@@ -41,7 +42,8 @@ abbrev pub some_count : (ℕ → Bool) → ℕ → ℕ → Bool
 some_count p least zero = false
 some_count p least (suc more) = p least || some_count p (least + 1) more
 
--- how many counts of pieces matter: beyond least and one for each byte, more pieces add empty ones alone
+-- how many counts of pieces matter: beyond least and one for each byte, more pieces add empty ones
+-- alone
 abbrev pub counts_from : ℕ → Option ℕ → List ℕ → ℕ
 counts_from least None text = length text + 1
 counts_from least (Some most) text = (most + 1) - least

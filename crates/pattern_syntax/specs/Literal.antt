@@ -1,10 +1,12 @@
 -- The bytes that every text of a pattern begins with.
-use Rattle.std.specs.Prelude.{ℕ, Bool, true, false, ◌==◌, List, [], ◌∷◌, ◌++◌, Option, Some, None, unwrap_or, if◌then◌else◌}
+use Rattle.std.specs.Prelude.{ℕ, Bool, true, false, ◌==◌, List, [], ◌∷◌, ◌++◌, Option, Some, None}
+use Rattle.std.specs.Prelude.{unwrap_or, if◌then◌else◌}
 use Rattle.pattern_syntax.specs.ByteSet.{has_byte, bytes_with, only_of}
 use Rattle.pattern_syntax.specs.Tree as tree
 use Rattle.pattern_syntax.specs.Tree.{Tree, TreeNode}
 use Rattle.pattern_syntax.specs.declared.node.Node.{Node}
-use Rattle.pattern_syntax.specs.declared.node.Node.TheVariants.{Byte, Set, Nothing, Both, Either, Repeat}
+use Rattle.pattern_syntax.specs.declared.node.Node.TheVariants.{Byte, Set, Nothing, Both, Either}
+use Rattle.pattern_syntax.specs.declared.node.Node.TheVariants.{Repeat}
 
 -- the byte of a set of one
 abbrev pub single_byte : Tree → Option ℕ
@@ -14,23 +16,24 @@ single_byte (tree.Both first second) = None
 single_byte (tree.Either left right) = None
 single_byte (tree.Repeat least most piece) = None
 
-abbrev pub joined : Option (List ℕ) → Option ℕ → Option (List ℕ)
-joined None last = None
-joined (Some bytes) None = None
-joined (Some bytes) (Some b) = Some (bytes ++ b ∷ [])
+abbrev pub start_joined : Option (List ℕ) → Option ℕ → Option (List ℕ)
+start_joined None last = None
+start_joined (Some bytes) None = None
+start_joined (Some bytes) (Some b) = Some (bytes ++ b ∷ [])
 
 -- the bytes of a sequence of single bytes alone
 abbrev pub single_bytes : Tree → Option (List ℕ)
 single_bytes tree.Nothing = Some []
-single_bytes (tree.Both first second) = joined (single_bytes first) (single_byte second)
+single_bytes (tree.Both first second) = start_joined (single_bytes first) (single_byte second)
 single_bytes (tree.Set bytes) = None
 single_bytes (tree.Either left right) = None
 single_bytes (tree.Repeat least most piece) = None
 
--- the bytes of the longest run of single bytes that a sequence begins with; none where there are several sides
+-- the bytes of the longest run of single bytes that a sequence begins with; none where there are
+-- several sides
 abbrev pub literal_start_of : Tree → List ℕ
 literal_start_of (tree.Both first second) =
-    unwrap_or (joined (single_bytes first) (single_byte second)) (literal_start_of first)
+    unwrap_or (start_joined (single_bytes first) (single_byte second)) (literal_start_of first)
 literal_start_of tree.Nothing = []
 literal_start_of (tree.Set bytes) = []
 literal_start_of (tree.Either left right) = []

@@ -4,7 +4,8 @@ use Rattle.pattern_syntax.specs.Tree as tree
 use Rattle.pattern_syntax.specs.Tree.{Tree, tree_from}
 use Rattle.pattern_syntax.specs.ByteSet.{has_byte, bytes_with}
 use Rattle.pattern_syntax.specs.declared.node.Node.{Node}
-use Rattle.pattern_syntax.specs.declared.node.Node.TheVariants.{Byte, Set, Nothing, Both, Either, Repeat}
+use Rattle.pattern_syntax.specs.declared.node.Node.TheVariants.{Byte, Set, Nothing, Both, Either}
+use Rattle.pattern_syntax.specs.declared.node.Node.TheVariants.{Repeat}
 
 -- the stack of trees after a node
 abbrev pub after_node : Node → List Tree → List Tree
@@ -23,8 +24,8 @@ after_nodes [] stack = stack
 after_nodes (n ∷ ns) stack = after_nodes ns (after_node n stack)
 
 -- the tree of the nodes
-abbrev pub tree_of : List Node → Tree
-tree_of nodes = tree_from (after_nodes nodes [])
+abbrev pub nodes_tree : List Node → Tree
+nodes_tree nodes = tree_from (after_nodes nodes [])
 
 -- the trees of nodes that stand behind an empty sequence, the last on top
 abbrev pub trees_behind : List Node → List Tree

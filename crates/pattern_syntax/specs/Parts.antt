@@ -24,7 +24,7 @@ abbrev pub Follows : List ℕ → Tree → List ℕ → Type 0
 Follows start rest text = (t : List ℕ) × (text ≡ start ++ t) × In rest t
 
 -- behind an empty sequence the nodes build one tree, of a pattern's shape
-pub record IsWhole (nodes : List Node) : Type 0 where
+pub record AreWholeNodes (nodes : List Node) : Type 0 where
   pub builds : trees_behind nodes ≡ rest_tree nodes ∷ []
   pub proper : is_proper (rest_tree nodes) ≡ true
   pub choice : is_choice (rest_tree nodes) ≡ true

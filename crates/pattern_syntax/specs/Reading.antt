@@ -1,11 +1,17 @@
 -- What a text of a pattern reads as.
-use Rattle.std.specs.Prelude.{ℕ, ◌+◌, ◌-◌, ◌*◌, max, Bool, true, false, ◌==◌, nat_le, List, [], ◌∷◌, length, drop, fold, Option, Some, None, Result, Ok, Err, is_some, if◌then◌else◌}
+use Rattle.std.specs.Prelude.{ℕ, ◌+◌, ◌-◌, ◌*◌, max, Bool, true, false, ◌==◌, nat_le, List, [], ◌∷◌}
+use Rattle.std.specs.Prelude.{length, drop, fold, Option, Some, None, Result, Ok, Err, is_some}
+use Rattle.std.specs.Prelude.{if◌then◌else◌}
 use Rattle.pattern_syntax.specs.Tree.{Tree, Set, Nothing, Both, Either, Repeat}
-use Rattle.pattern_syntax.specs.Tokens.{Token, Bytes, Open, Close, Bar, Anchor, Times, Cut, Placed, tokens_from}
+use Rattle.pattern_syntax.specs.Tokens.{Token, Bytes, Open, Close, Bar, Anchor, Times, Cut}
+use Rattle.pattern_syntax.specs.Tokens.{PlacedToken, tokens_from}
 use Rattle.pattern_syntax.specs.declared.refusal.Refusal.{Refusal}
 use Rattle.pattern_syntax.specs.declared.refusal.Refusal.TheVariants as refusal
 use Rattle.pattern_syntax.specs.declared.pattern_fault.PatternWhy.{PatternWhy}
-use Rattle.pattern_syntax.specs.declared.pattern_fault.PatternWhy.TheVariants.{Syntax, UnsupportedPattern, TooDeep, TooManyPositions}
+use Rattle.pattern_syntax.specs.declared.pattern_fault.PatternWhy.TheVariants.{Syntax}
+use Rattle.pattern_syntax.specs.declared.pattern_fault.PatternWhy.TheVariants.{UnsupportedPattern}
+use Rattle.pattern_syntax.specs.declared.pattern_fault.PatternWhy.TheVariants.{TooDeep}
+use Rattle.pattern_syntax.specs.declared.pattern_fault.PatternWhy.TheVariants.{TooManyPositions}
 use Rattle.pattern_syntax.specs.declared.limits.TheConstants.{MOST_GROUPS, MOST_POSITIONS}
 
 -- ---- faults
@@ -36,7 +42,8 @@ depth_behind Bar depth = depth
 depth_behind Anchor depth = depth
 depth_behind (Times least most) depth = depth
 
--- the fault of structure of a token, where so many groups are open and a piece ends right before it, or doesn't
+-- the fault of structure of a token, where so many groups are open and a piece ends right before
+-- it, or doesn't
 abbrev pub structure_fault : (depth : ℕ) (after_piece : Bool) (place : ℕ) → Token
     → Option PatternWhy
 structure_fault depth after_piece place Close = if depth == 0 then Some (Syntax place) else None
@@ -53,7 +60,8 @@ first_fault_of (Some why) later = Some why
 first_fault_of None later = later
 
 -- the first fault of tokens; end is the length of the text
-unfoldable pub first_fault : (end depth : ℕ) (after_piece : Bool) → List Placed → Option PatternWhy
+unfoldable pub first_fault : (end depth : ℕ) (after_piece : Bool) → List PlacedToken
+    → Option PatternWhy
 first_fault end depth after_piece [] = if depth == 0 then None else Some (Syntax end)
 first_fault end depth after_piece ((place, Err refusal) ∷ tokens) = Some (refused_at place refusal)
 first_fault end depth after_piece ((place, Ok token) ∷ tokens) =
@@ -67,7 +75,8 @@ fault_from from after_piece text =
 
 -- ---- trees
 
--- what is read of a choice: its sides before the last bar, the sequence since, and the piece that a repeat may follow
+-- what is read of a choice: its sides before the last bar, the sequence since, and the piece that a
+-- repeat may follow
 pub record Level : Type 0 where
   pub sides : Option Tree
   pub sequence : Tree
@@ -88,8 +97,8 @@ with_side (Some sides) sequence = Either sides sequence
 abbrev pub sequence_of : Level → Tree
 sequence_of level = with_last level.sequence level.piece
 
-abbrev pub choice_of : Level → Tree
-choice_of level = with_side level.sides (sequence_of level)
+abbrev pub sides_of : Level → Tree
+sides_of level = with_side level.sides (sequence_of level)
 
 -- no repeat may follow
 abbrev pub settled : Level → Level
@@ -100,17 +109,17 @@ with_piece level piece =
     record { sides = level.sides; sequence = sequence_of level; piece = Some piece }
 
 abbrev pub with_bar : Level → Level
-with_bar level = record { sides = Some (choice_of level); sequence = Nothing; piece = None }
+with_bar level = record { sides = Some (sides_of level); sequence = Nothing; piece = None }
 
-abbrev pub repeated : ℕ → Option ℕ → Option Tree → Tree → Tree
-repeated least most None sequence = sequence
-repeated least most (Some piece) sequence = Both sequence (Repeat least most piece)
+abbrev pub repeated_piece : ℕ → Option ℕ → Option Tree → Tree → Tree
+repeated_piece least most None sequence = sequence
+repeated_piece least most (Some piece) sequence = Both sequence (Repeat least most piece)
 
 abbrev pub with_repeat : ℕ → Option ℕ → Level → Level
 with_repeat least most level =
     record {
       sides = level.sides;
-      sequence = repeated least most level.piece level.sequence;
+      sequence = repeated_piece least most level.piece level.sequence;
       piece = None;
     }
 
@@ -122,29 +131,29 @@ pub record Reading : Type 0 where
 abbrev pub new_reading : Reading
 new_reading = record { level = new_level; outer = [] }
 
-abbrev pub closed : Level → List Level → Reading
-closed level [] = record { level = level; outer = [] }
-closed level (around ∷ outer) =
-    record { level = with_piece around (choice_of level); outer = outer }
+abbrev pub group_closed : Level → List Level → Reading
+group_closed level [] = record { level = level; outer = [] }
+group_closed level (around ∷ outer) =
+    record { level = with_piece around (sides_of level); outer = outer }
 
 abbrev pub after_token : Reading → Token → Reading
 after_token reading (Bytes bytes) =
     record { level = with_piece reading.level (Set bytes); outer = reading.outer }
 after_token reading Open =
     record { level = new_level; outer = settled reading.level ∷ reading.outer }
-after_token reading Close = closed reading.level reading.outer
+after_token reading Close = group_closed reading.level reading.outer
 after_token reading Bar = record { level = with_bar reading.level; outer = reading.outer }
 after_token reading Anchor = record { level = settled reading.level; outer = reading.outer }
 after_token reading (Times least most) =
     record { level = with_repeat least most reading.level; outer = reading.outer }
 
-abbrev pub after_placed : Reading → Placed → Reading
+abbrev pub after_placed : Reading → PlacedToken → Reading
 after_placed reading (place, Ok token) = after_token reading token
 after_placed reading (place, Err refusal) = reading
 
 -- the tree of tokens that have no fault
-abbrev pub tree_after : Reading → List Placed → Tree
-tree_after reading tokens = choice_of (fold after_placed reading tokens).level
+abbrev pub tree_after : Reading → List PlacedToken → Tree
+tree_after reading tokens = sides_of (fold after_placed reading tokens).level
 
 -- ---- positions
 
@@ -161,14 +170,15 @@ positions (Either left right) = positions left + positions right
 positions (Repeat least most piece) = positions piece * factor least most
 
 -- the fault, or the tree where it has no more positions than it may
-abbrev pub read_as : Option PatternWhy → Tree → Result Tree PatternWhy
-read_as (Some why) tree = Err why
-read_as None tree = if nat_le (positions tree) MOST_POSITIONS then Ok tree else Err TooManyPositions
+abbrev pub fault_or_tree : Option PatternWhy → Tree → Result Tree PatternWhy
+fault_or_tree (Some why) tree = Err why
+fault_or_tree None tree = if nat_le (positions tree) MOST_POSITIONS then Ok tree else Err
+    TooManyPositions
 
 -- what tokens read as
-unfoldable pub reads_as : (end : ℕ) → Reading → List Placed → Result Tree PatternWhy
+unfoldable pub reads_as : (end : ℕ) → Reading → List PlacedToken → Result Tree PatternWhy
 reads_as end reading tokens =
-    read_as (first_fault end (length reading.outer) (is_some reading.level.piece) tokens)
+    fault_or_tree (first_fault end (length reading.outer) (is_some reading.level.piece) tokens)
     (tree_after reading tokens)
 
 -- the pattern that a text spells, or the fault at the least place

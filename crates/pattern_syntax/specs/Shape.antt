@@ -3,7 +3,7 @@ use Rattle.std.specs.Prelude.{◌≡◌, ℕ, ◌+◌, Bool, true, false, ◌&&�
 use Rattle.std.specs.List.{list_all}
 use Rattle.pattern_syntax.specs.Classes.{is_text_byte}
 use Rattle.pattern_syntax.specs.ByteSet.{bytes_with}
-use Rattle.pattern_syntax.specs.Escapes.{Item, One, Class}
+use Rattle.pattern_syntax.specs.Escapes.{EscapeItem, One, Class}
 use Rattle.pattern_syntax.specs.Tree.{Tree, Set, Nothing, Both, Either, Repeat}
 
 -- each set has a byte
@@ -35,7 +35,7 @@ is_proper (Both first second) = is_sequence first && (is_proper first && is_prop
 is_proper (Either left right) = is_proper left && is_proper right
 is_proper (Repeat least most piece) = is_proper piece
 
-abbrev pub IsProperItem : Item → Type 0
+abbrev pub IsProperItem : EscapeItem → Type 0
 IsProperItem (One b) = is_text_byte b ≡ true
 IsProperItem (Class has) = is_proper_set (bytes_with has) ≡ true
 

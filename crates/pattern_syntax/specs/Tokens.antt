@@ -1,9 +1,13 @@
 -- The tokens of a pattern and the cutting of its text.
-use Rattle.std.specs.Prelude.{ℕ, zero, suc, ◌+◌, ◌*◌, ◌-◌, min, Bool, true, false, ◌==◌, ◌||◌, nat_lt, List, [], ◌∷◌, length, drop, Option, Some, None, Result, Ok, Err, if◌then◌else◌}
+use Rattle.std.specs.Prelude.{codes, ℕ, zero, suc, ◌+◌, ◌*◌, ◌-◌, min, Bool, true, false, ◌==◌}
+use Rattle.std.specs.Prelude.{◌||◌}
+use Rattle.std.specs.Prelude.{nat_lt, List, [], ◌∷◌, length, drop, Option, Some, None, Result, Ok}
+use Rattle.std.specs.Prelude.{Err, if◌then◌else◌}
+use Rattle.label_base.specs.Spelling.{byte}
 use Rattle.label_base.specs.Number.{decimal}
 use Rattle.pattern_syntax.specs.ByteSet.{bytes_with}
-use Rattle.pattern_syntax.specs.Classes.{is_digit, is_text_byte}
-use Rattle.pattern_syntax.specs.Escapes.{Item, One, Class, escape_at}
+use Rattle.pattern_syntax.specs.Classes.{is_digit_class, is_text_byte}
+use Rattle.pattern_syntax.specs.Escapes.{EscapeItem, One, Class, escape_at}
 use Rattle.pattern_syntax.specs.Brackets.{set_at}
 use Rattle.pattern_syntax.specs.declared.refusal.Refusal.{Refusal}
 use Rattle.pattern_syntax.specs.declared.refusal.Refusal.TheVariants.{Syntax, Unsupported}
@@ -28,45 +32,45 @@ times_of digits = min (MOST_TIMES + 1) (decimal 0 digits)
 
 -- one digit more
 abbrev pub times_more : ℕ → ℕ → ℕ
-times_more value b = min (MOST_TIMES + 1) (value * 10 + (b - 48))
+times_more value b = min (MOST_TIMES + 1) (value * 10 + (b - byte "0"))
 
 -- the digits at the beginning of a text, and what stands behind them
 abbrev pub digits_at : List ℕ → List ℕ
 digits_at [] = []
-digits_at (b ∷ bs) = if is_digit b then b ∷ digits_at bs else []
+digits_at (b ∷ bs) = if is_digit_class b then b ∷ digits_at bs else []
 
 abbrev pub behind_digits : List ℕ → List ℕ
 behind_digits [] = []
-behind_digits (b ∷ bs) = if is_digit b then behind_digits bs else b ∷ bs
+behind_digits (b ∷ bs) = if is_digit_class b then behind_digits bs else b ∷ bs
 
 -- least, most and the length with the braces
-abbrev pub Counts : Type 0
-Counts = Option (ℕ × (Option ℕ × ℕ))
+abbrev pub RepeatCounts : Type 0
+RepeatCounts = Option (ℕ × (Option ℕ × ℕ))
 
 abbrev pub upper_number : List ℕ → Option ℕ
 upper_number [] = None
 upper_number (d ∷ ds) = Some (times_of (d ∷ ds))
 
 -- m, of so many digits, and a comma: what stands behind
-unfoldable pub upper_counts : (m digits : ℕ) → List ℕ → List ℕ → Counts
+unfoldable pub upper_counts : (m digits : ℕ) → List ℕ → List ℕ → RepeatCounts
 upper_counts m digits upper [] = None
 upper_counts m digits upper (b ∷ bs) =
-    if b == 125 then Some (m, (upper_number upper, digits + length upper + 3)) else None
+    if b == byte "}" then Some (m, (upper_number upper, digits + length upper + 3)) else None
 
 -- m, of so many digits: what stands behind
-unfoldable pub lower_counts : (m digits : ℕ) → List ℕ → Counts
+unfoldable pub lower_counts : (m digits : ℕ) → List ℕ → RepeatCounts
 lower_counts m digits [] = None
 lower_counts m digits (b ∷ bs) =
-    if b == 125 then Some (m, (Some m, digits + 2))
-    else if b == 44 then upper_counts m digits (digits_at bs) (behind_digits bs)
+    if b == byte "}" then Some (m, (Some m, digits + 2))
+    else if b == byte "," then upper_counts m digits (digits_at bs) (behind_digits bs)
     else None
 
-abbrev pub counts_after : List ℕ → List ℕ → Counts
+abbrev pub counts_after : List ℕ → List ℕ → RepeatCounts
 counts_after [] rest = None
 counts_after (d ∷ ds) rest = lower_counts (times_of (d ∷ ds)) (length (d ∷ ds)) rest
 
 -- {m}, {m,} or {m,n}: what stands behind the {
-unfoldable pub counts_at : List ℕ → Counts
+unfoldable pub counts_at : List ℕ → RepeatCounts
 counts_at text = counts_after (digits_at text) (behind_digits text)
 
 -- a number that is too great, or m above n
@@ -78,13 +82,13 @@ is_refused_count least (Some most) = nat_lt MOST_TIMES most || nat_lt most least
 unfoldable pub marked_repeat : (least : ℕ) (most : Option ℕ) (length : ℕ) → List ℕ → Cut
 marked_repeat least most length [] = Ok (Times least most, length)
 marked_repeat least most length (b ∷ bs) =
-    if b == 63 then Ok (Times least most, length + 1)
-    else if b == 43 then Err Unsupported
+    if b == byte "?" then Ok (Times least most, length + 1)
+    else if b == byte "+" then Err Unsupported
     else Ok (Times least most, length)
 
 -- the { is a byte where it begins no repeat; text is what stands behind it
-abbrev pub braced_repeat : List ℕ → Counts → Cut
-braced_repeat text None = Ok (Bytes (123 ∷ []), 1)
+abbrev pub braced_repeat : List ℕ → RepeatCounts → Cut
+braced_repeat text None = Ok (Bytes (codes "{"), 1)
 braced_repeat text (Some counts) =
     if is_refused_count counts.0 counts.1.0 then Err Syntax
     else marked_repeat counts.0 counts.1.0 counts.1.1 (drop (counts.1.1 - 1) text)
@@ -92,18 +96,19 @@ braced_repeat text (Some counts) =
 -- what stands behind a ( that a ? follows
 unfoldable pub special_group : List ℕ → Cut
 special_group [] = Err Unsupported
-special_group (b ∷ bs) = if b == 58 then Ok (Open, 3) else Err Unsupported
+special_group (b ∷ bs) = if b == byte ":" then Ok (Open, 3) else Err Unsupported
 
 -- what stands behind a (
 unfoldable pub group_at : List ℕ → Cut
 group_at [] = Ok (Open, 1)
 group_at (b ∷ bs) =
-    if b == 63 then special_group bs else if b == 42 then Err Unsupported else Ok (Open, 1)
+    if b == byte "?" then special_group bs else if b == byte "*" then Err Unsupported else Ok
+    (Open, 1)
 
-abbrev pub escaped : Result (Item × ℕ) Refusal → Cut
-escaped (Ok (One b, n)) = Ok (Bytes (b ∷ []), n)
-escaped (Ok (Class has, n)) = Ok (Bytes (bytes_with has), n)
-escaped (Err refusal) = Err refusal
+abbrev pub escape_cut : Result (EscapeItem × ℕ) Refusal → Cut
+escape_cut (Ok (One b, n)) = Ok (Bytes (b ∷ []), n)
+escape_cut (Ok (Class has, n)) = Ok (Bytes (bytes_with has), n)
+escape_cut (Err refusal) = Err refusal
 
 abbrev pub bracketed : Result (List ℕ × ℕ) Refusal → Cut
 bracketed (Ok set) = Ok (Bytes set.0, set.1)
@@ -120,37 +125,38 @@ end_anchor (b ∷ bs) = Err Unsupported
 
 unfoldable pub repeat_or_byte : ℕ → List ℕ → Cut
 repeat_or_byte b bs =
-    if b == 42 then marked_repeat 0 None 1 bs
-    else if b == 43 then marked_repeat 1 None 1 bs
-    else if b == 63 then marked_repeat 0 (Some 1) 1 bs
-    else if b == 123 then braced_repeat bs (counts_at bs)
-    else if b == 46 then Ok (Bytes (bytes_with is_text_byte), 1)
+    if b == byte "*" then marked_repeat 0 None 1 bs
+    else if b == byte "+" then marked_repeat 1 None 1 bs
+    else if b == byte "?" then marked_repeat 0 (Some 1) 1 bs
+    else if b == byte "{" then braced_repeat bs (counts_at bs)
+    else if b == byte "." then Ok (Bytes (bytes_with is_text_byte), 1)
     else if b == 0 then Err Syntax
     else Ok (Bytes (b ∷ []), 1)
 
--- the token at the beginning of a text, and its length; begins says that it is the beginning of the pattern
+-- the token at the beginning of a text, and its length; begins says that it is the beginning of the
+-- pattern
 unfoldable pub token_at : Bool → List ℕ → Cut
 token_at begins [] = Err Syntax
 token_at begins (b ∷ bs) =
-    if b == 92 then escaped (escape_at bs)
-    else if b == 91 then bracketed (set_at bs)
-    else if b == 40 then group_at bs
-    else if b == 41 then Ok (Close, 1)
-    else if b == 124 then Ok (Bar, 1)
-    else if b == 94 then start_anchor begins
-    else if b == 36 then end_anchor bs
+    if b == byte "\\" then escape_cut (escape_at bs)
+    else if b == byte "[" then bracketed (set_at bs)
+    else if b == byte "(" then group_at bs
+    else if b == byte ")" then Ok (Close, 1)
+    else if b == byte "|" then Ok (Bar, 1)
+    else if b == byte "^" then start_anchor begins
+    else if b == byte "$" then end_anchor bs
     else repeat_or_byte b bs
 
 -- a token, or a refusal, and its place
-abbrev pub Placed : Type 0
-Placed = ℕ × Result Token Refusal
+abbrev pub PlacedToken : Type 0
+PlacedToken = ℕ × Result Token Refusal
 
-abbrev pub with_place : ℕ → Cut → (ℕ → List Placed) → List Placed
+abbrev pub with_place : ℕ → Cut → (ℕ → List PlacedToken) → List PlacedToken
 with_place place (Ok cut) rest = (place, Ok cut.0) ∷ rest (cut.1 - 1)
 with_place place (Err refusal) rest = (place, Err refusal) ∷ []
 
 -- the tokens from a place on, to the first that is refused; skip bytes belong to the token before
-unfoldable pub tokens_from : (place skip : ℕ) → List ℕ → List Placed
+unfoldable pub tokens_from : (place skip : ℕ) → List ℕ → List PlacedToken
 tokens_from place skip [] = []
 tokens_from place (suc skip) (b ∷ bs) = tokens_from (place + 1) skip bs
 tokens_from place zero (b ∷ bs) =

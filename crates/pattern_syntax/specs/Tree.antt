@@ -1,5 +1,5 @@
--- Patterns as trees. A sequence is Nothing, or Both of a shorter sequence and its last piece; a choice is its only
--- side, or Either of a shorter choice and its last side.
+-- Patterns as trees. A sequence is Nothing, or Both of a shorter sequence and its last piece; a
+-- choice is its only side, or Either of a shorter choice and its last side.
 use Rattle.std.specs.Prelude.{◌≡◌, ℕ, zero, suc, List, [], ◌∷◌, ◌++◌, Option, None, refl}
 use Rattle.std.specs.Coded.{Coded, code_by, coded×, coded_ℕ, coded_list, coded_option}
 use Rattle.std.proofs.Common.{sym, ◌∙◌, ap, append_assoc, append-nil}
@@ -23,17 +23,18 @@ tree_nodes (Both first second) =
 tree_nodes (Either left right) = tree_nodes left ++ (tree_nodes right ++ (3, ([], (0, None))) ∷ [])
 tree_nodes (Repeat least most piece) = tree_nodes piece ++ (4, ([], (least, most))) ∷ []
 
-abbrev pub put : ℕ → List ℕ → ℕ → Option ℕ → List Tree → List Tree
-put zero bytes least most stack = Set bytes ∷ stack
-put (suc zero) bytes least most stack = Nothing ∷ stack
-put (suc (suc zero)) bytes least most (second ∷ first ∷ stack) = Both first second ∷ stack
-put (suc (suc (suc zero))) bytes least most (right ∷ left ∷ stack) = Either left right ∷ stack
-put (suc (suc (suc (suc n)))) bytes least most (piece ∷ stack) = Repeat least most piece ∷ stack
-put (suc (suc n)) bytes least most stack = stack
+abbrev pub node_put : ℕ → List ℕ → ℕ → Option ℕ → List Tree → List Tree
+node_put zero bytes least most stack = Set bytes ∷ stack
+node_put (suc zero) bytes least most stack = Nothing ∷ stack
+node_put (suc (suc zero)) bytes least most (second ∷ first ∷ stack) = Both first second ∷ stack
+node_put (suc (suc (suc zero))) bytes least most (right ∷ left ∷ stack) = Either left right ∷ stack
+node_put (suc (suc (suc (suc n)))) bytes least most (piece ∷ stack) =
+    Repeat least most piece ∷ stack
+node_put (suc (suc n)) bytes least most stack = stack
 
 abbrev pub built : List TreeNode → List Tree → List Tree
 built [] stack = stack
-built (n ∷ ns) stack = built ns (put n.0 n.1.0 n.1.1.0 n.1.1.1 stack)
+built (n ∷ ns) stack = built ns (node_put n.0 n.1.0 n.1.1.0 n.1.1.1 stack)
 
 abbrev pub tree_from : List Tree → Tree
 tree_from [] = Nothing

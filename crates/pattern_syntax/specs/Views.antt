@@ -5,7 +5,8 @@ use Rattle.pattern_syntax.specs.Brackets as brackets
 use Rattle.pattern_syntax.specs.Tokens as tokens
 use Rattle.pattern_syntax.specs.declared.counts.Counts.{Counts}
 use Rattle.pattern_syntax.specs.declared.token.Token.{Token}
-use Rattle.pattern_syntax.specs.declared.token.Token.TheVariants.{Byte, Set, Open, Close, Bar, Anchor, Times}
+use Rattle.pattern_syntax.specs.declared.token.Token.TheVariants.{Byte, Set, Open, Close, Bar}
+use Rattle.pattern_syntax.specs.declared.token.Token.TheVariants.{Anchor, Times}
 use Rattle.pattern_syntax.specs.declared.byte_set.ByteSet.{ByteSet}
 use Rattle.pattern_syntax.specs.declared.bracket.Part.{Part}
 use Rattle.pattern_syntax.specs.Escapes as escapes
@@ -13,19 +14,19 @@ use Rattle.pattern_syntax.specs.declared.item.Item.{Item}
 use Rattle.pattern_syntax.specs.declared.item.Item.TheVariants.{One, Class}
 use Rattle.pattern_syntax.specs.declared.refusal.Refusal.{Refusal}
 
-abbrev pub item_of : Item → escapes.Item
-item_of (One b) = escapes.One b
-item_of (Class set) = escapes.Class (has_byte set)
+abbrev pub escape_item : Item → escapes.EscapeItem
+escape_item (One b) = escapes.One b
+escape_item (Class set) = escapes.Class (has_byte set)
 
 -- an item and its length
-abbrev pub item_cut : Item × ℕ → escapes.Item × ℕ
-item_cut cut = (item_of cut.0, cut.1)
+abbrev pub item_cut : Item × ℕ → escapes.EscapeItem × ℕ
+item_cut cut = (escape_item cut.0, cut.1)
 
 -- a class and its length
 abbrev pub class_cut : ByteSet × ℕ → (ℕ → Bool) × ℕ
 class_cut cut = (has_byte cut.0, cut.1)
 
-abbrev pub part_of : Part → brackets.Part
+abbrev pub part_of : Part → brackets.ClassPart
 part_of part = record { has = has_byte part.set; low = part.low; length = part.length }
 
 -- a set, as its bytes, and its length

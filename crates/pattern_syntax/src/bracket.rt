@@ -1,12 +1,17 @@
 //! Bracket sets.
-ghost use Rattle.std.specs.Prelude.{◌≡◌, ◌==◌, ◌&&◌, not, ◌<◌, ◌≤◌, ◌+◌, length, option_map, IfSome, IfOk, Ok, None, true};
+ghost use Rattle.std.specs.Prelude.{◌≡◌, ◌==◌, ◌&&◌, not, ◌<◌, ◌≤◌, ◌+◌, length, option_map};
+ghost use Rattle.std.specs.Prelude.{IfSome, IfOk, Ok, None, true};
 ghost use Rattle.label_base.specs.Answers.{Answers};
+ghost use Rattle.label_base.specs.Spelling.{byte};
 ghost use Rattle.pattern_syntax.specs.ByteSet.{has_byte, bytes_with, no_bytes};
 ghost use Rattle.pattern_syntax.specs.Classes.{is_between};
 ghost use Rattle.pattern_syntax.specs.Shape.{is_proper_set};
 ghost use Rattle.pattern_syntax.specs.Views.{item_cut, class_cut, part_of, set_cut, why_refused};
 ghost use Rattle.pattern_syntax.specs.Brackets as brackets;
-ghost use Rattle.pattern_syntax.specs.Brackets.{named_class, number_class, printing_class, class_or_refusal, inner_bracket, item_at, single, lone_part, range_part, dash_part, part_at, parts_from, set_at};
+ghost use Rattle.pattern_syntax.specs.Brackets.{named_class, number_class, printing_class};
+ghost use Rattle.pattern_syntax.specs.Brackets.{class_or_refusal, inner_bracket, item_at};
+ghost use Rattle.pattern_syntax.specs.Brackets.{single_part, lone_part, range_part, dash_part};
+ghost use Rattle.pattern_syntax.specs.Brackets.{part_at, parts_from, set_at};
 
 use crate::byte_set::ByteSet;
 use crate::classes::{
@@ -129,7 +134,7 @@ fn between(low: u8, high: u8) -> ByteSet
 }
 
 fn single_part(b: u8, length: usize) -> Part
-    ensures { part_of result ≡ single b length }
+    ensures { part_of result ≡ single_part b length }
 {
     Part {
         set: between(b, b),
@@ -199,7 +204,7 @@ fn read_part(low: Option<u8>, text: &[u8]) -> Result<Part, Refusal>
 
 /// Whether a byte ends the set; a `]` at the beginning is an item.
 fn ends_set(b: u8, at: usize) -> bool
-    ensures { result ≡ ((b == 93) && not (at == 0)) }
+    ensures { result ≡ ((b == byte "]") && not (at == 0)) }
 {
     b == b']' && at > 0
 }

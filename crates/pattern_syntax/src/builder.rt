@@ -1,11 +1,15 @@
 //! The nodes of a pattern, built as its tokens are read.
-ghost use Rattle.std.specs.Prelude.{◌≡◌, ◌+◌, ◌*◌, ◌∷◌, ◌++◌, [], length, ◌<◌, min, IfOk, OnOk, Some, ℕ, List, true, is_some};
+ghost use Rattle.std.specs.Prelude.{◌≡◌, ◌+◌, ◌*◌, ◌∷◌, ◌++◌, [], length, ◌<◌, min, IfOk, OnOk};
+ghost use Rattle.std.specs.Prelude.{Some, ℕ, List, true, is_some};
 ghost use Rattle.std.specs.Bool.{OnTrue};
 ghost use Rattle.pattern_syntax.specs.Tokens as tokens;
 ghost use Rattle.pattern_syntax.specs.Nodes.{after_node, trees_behind};
-ghost use Rattle.pattern_syntax.specs.Reading.{Reading, new_level, new_reading, sequence_of, choice_of, after_token};
+ghost use Rattle.pattern_syntax.specs.Reading.{Reading, new_level, new_reading, sequence_of};
+ghost use Rattle.pattern_syntax.specs.Reading.{sides_of, after_token};
 ghost use Rattle.pattern_syntax.specs.Reading as reading;
-ghost use Rattle.pattern_syntax.specs.Building.{capped, level_counts, tree_on, outer_trees, Stands, Ends, Steps, Finishes, IsProperToken, IsSetNode, base_positions};
+ghost use Rattle.pattern_syntax.specs.Building.{capped, level_counts, tree_on, outer_trees};
+ghost use Rattle.pattern_syntax.specs.Building.{IsBuilderOf, Ends, Steps, Finishes, IsProperToken};
+ghost use Rattle.pattern_syntax.specs.Building.{IsSetNode, base_positions};
 ghost use Rattle.pattern_syntax.specs.Shape.{is_proper_set};
 ghost use Rattle.pattern_syntax.specs.Views.{token_of};
 ghost use Rattle.pattern_syntax.specs.declared.limits.TheConstants.{MOST_POSITIONS};
@@ -71,7 +75,7 @@ fn factor(least: u32, most: Option<u32>) -> u32
 impl Builder {
     /// Nothing read yet, with room for so many nodes.
     pub(crate) fn with_room(alloc: Global, room: usize) -> Result<Builder, OutOfMemory>
-        ensures { IfOk result (λ builder. Stands builder new_reading) }
+        ensures { IfOk result (λ builder. IsBuilderOf builder new_reading) }
     {
         Ok(Builder {
             nodes: Vec::with_capacity(alloc, room)?,
@@ -107,7 +111,7 @@ impl Builder {
     /// Ends the sequence of the level, and gives its positions.
     fn end_sequence(&mut self) -> Result<u32, OutOfMemory>
         ensures ends { IfOk result
-            (λ count. (read : Reading) → Stands self.old read
+            (λ count. (read : Reading) → IsBuilderOf self.old read
             → Ends self.new (tree_on read.level.sides (outer_trees read.outer))
             (sequence_of read.level) count) }
         ensures level { self.new.level ≡ self.old.level }
@@ -125,8 +129,8 @@ impl Builder {
     /// Ends the choice of the level, and gives its positions.
     fn end_choice(&mut self) -> Result<u32, OutOfMemory>
         ensures ends { IfOk result
-            (λ count. (read : Reading) → Stands self.old read
-            → Ends self.new (outer_trees read.outer) (choice_of read.level) count) }
+            (λ count. (read : Reading) → IsBuilderOf self.old read
+            → Ends self.new (outer_trees read.outer) (sides_of read.level) count) }
         ensures level { self.new.level ≡ self.old.level }
         ensures outer { self.new.outer ≡ self.old.outer }
     {
@@ -143,8 +147,9 @@ impl Builder {
     /// Adds a byte or set, of which `node` is the node.
     fn add_piece(&mut self, node: Node) -> Result<(), OutOfMemory>
         ensures { OnOk result
-            ((read : Reading) (bytes : List ℕ) → Stands self.old read → is_proper_set bytes ≡ true
-            → IsSetNode node bytes → Stands self.new (after_token read (tokens.Bytes bytes))) }
+            ((read : Reading) (bytes : List ℕ) → IsBuilderOf self.old read
+            → is_proper_set bytes ≡ true
+            → IsSetNode node bytes → IsBuilderOf self.new (after_token read (tokens.Bytes bytes))) }
     {
         let count = self.end_sequence()?;
         self.push(node)?;
@@ -159,8 +164,8 @@ impl Builder {
     /// Lets no repeat follow.
     fn settle(&mut self) -> Result<(), OutOfMemory>
         ensures { OnOk result
-            ((read : Reading) → Stands self.old read
-            → Stands self.new (after_token read tokens.Anchor)) }
+            ((read : Reading) → IsBuilderOf self.old read
+            → IsBuilderOf self.new (after_token read tokens.Anchor)) }
     {
         let count = self.end_sequence()?;
         self.level = Level {
@@ -206,8 +211,8 @@ impl Builder {
 
     fn begin_side(&mut self) -> Result<(), OutOfMemory>
         ensures { OnOk result
-            ((read : Reading) → Stands self.old read
-            → Stands self.new (after_token read tokens.Bar)) }
+            ((read : Reading) → IsBuilderOf self.old read
+            → IsBuilderOf self.new (after_token read tokens.Bar)) }
     {
         let count = self.end_choice()?;
         self.push(Node::Nothing)?;
@@ -256,7 +261,7 @@ impl Builder {
 
     /// The nodes, where the text ends here, which is at most 2^32 - 1.
     pub(crate) fn finish(mut self, at: u32) -> Result<Vec<Node>, PatternFault>
-        ensures { (read : Reading) → Stands self read → Finishes result read at }
+        ensures { (read : Reading) → IsBuilderOf self read → Finishes result read at }
     {
         let count = self.end_choice()?;
         let open_groups = self.outer.len();
@@ -276,7 +281,7 @@ impl Builder {
 
     /// Whether a repeat may follow.
     pub(crate) fn is_after_piece(&self) -> bool
-        ensures { (read : Reading) → Stands self.now read → result ≡ is_some read.level.piece }
+        ensures { (read : Reading) → IsBuilderOf self.now read → result ≡ is_some read.level.piece }
     {
         self.level.piece.is_some()
     }
@@ -284,7 +289,7 @@ impl Builder {
     /// Whether no group is open, and the positions are too many, whatever follows.
     pub(crate) fn is_full(&self) -> bool
         ensures { OnTrue result
-            ((read : Reading) → Stands self.now read → (length read.outer ≡ 0)
+            ((read : Reading) → IsBuilderOf self.now read → (length read.outer ≡ 0)
             × (MOST_POSITIONS < base_positions read.level)) }
     {
         let open_groups = self.outer.len();

@@ -1,6 +1,7 @@
 ghost use Rattle.std.specs.Prelude.{◌≡◌, ◌==◌, ◌||◌, ◌<◌, ◌≤◌, ◌+◌, ◌-◌, ◌∷◌, [], ℕ, MatchOption};
-ghost use Rattle.pattern_syntax.specs.ByteSet.{has_byte, bytes_from, bytes_with, only_of, is_none_of, no_bytes};
-ghost use Rattle.pattern_syntax.specs.Classes.{is_between, either, outside};
+ghost use Rattle.pattern_syntax.specs.ByteSet.{has_byte, bytes_from, bytes_with, only_of};
+ghost use Rattle.pattern_syntax.specs.ByteSet.{is_none_of, no_bytes};
+ghost use Rattle.pattern_syntax.specs.Classes.{is_between, either, all_but};
 
 /// A set of bytes, as four words of 64 bits: byte b is bit b % 64 of word b / 64.
 #[derive(Clone, Copy, Debug, PartialEq, Eq)]
@@ -58,7 +59,7 @@ impl ByteSet {
 
     /// The bytes from 0x01 to 0xff that the set lacks.
     pub fn complement(&self) -> ByteSet
-        ensures { has_byte result ≡ outside (has_byte self.now) }
+        ensures { has_byte result ≡ all_but (has_byte self.now) }
     {
         let [a, b, c, d] = self.words;
         ByteSet {

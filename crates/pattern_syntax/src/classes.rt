@@ -1,14 +1,18 @@
 //! The classes of bytes as sets, in the C locale: see isalpha(3).
 ghost use Rattle.std.specs.Prelude.{◌≡◌};
 ghost use Rattle.pattern_syntax.specs.ByteSet.{has_byte};
-ghost use Rattle.pattern_syntax.specs.Classes.{is_digit, is_word, is_space, is_alpha, is_lower, is_upper, is_alnum, is_hexadecimal, is_blank, is_control, is_graphic, is_printed, is_punctuation, is_text_byte};
+ghost use Rattle.pattern_syntax.specs.Classes.{is_digit_class, is_word_class, is_space_class};
+ghost use Rattle.pattern_syntax.specs.Classes.{is_alpha, is_lower, is_upper, is_alnum};
+ghost use Rattle.pattern_syntax.specs.Classes.{is_hexadecimal, is_blank_class, is_control};
+ghost use Rattle.pattern_syntax.specs.Classes.{is_graphic, is_printed, is_punctuation};
+ghost use Rattle.pattern_syntax.specs.Classes.{is_text_byte};
 
 use crate::byte_set::ByteSet;
 
 /// ASCII digits.
 #[tactic(auto, using(crate::proofs::ClassLemmas::digits_are))]
 pub(crate) fn digits() -> ByteSet
-    ensures { has_byte result ≡ is_digit }
+    ensures { has_byte result ≡ is_digit_class }
 {
     ByteSet {
         words: [0x03ff_0000_0000_0000, 0, 0, 0],
@@ -18,7 +22,7 @@ pub(crate) fn digits() -> ByteSet
 /// ASCII letters, digits and the underscore.
 #[tactic(auto, using(crate::proofs::ClassLemmas::words_are))]
 pub(crate) fn words() -> ByteSet
-    ensures { has_byte result ≡ is_word }
+    ensures { has_byte result ≡ is_word_class }
 {
     ByteSet {
         words: [0x03ff_0000_0000_0000, 0x07ff_fffe_87ff_fffe, 0, 0],
@@ -28,7 +32,7 @@ pub(crate) fn words() -> ByteSet
 /// 0x09 to 0x0d and the space.
 #[tactic(auto, using(crate::proofs::ClassLemmas::spaces_are))]
 pub(crate) fn spaces() -> ByteSet
-    ensures { has_byte result ≡ is_space }
+    ensures { has_byte result ≡ is_space_class }
 {
     ByteSet {
         words: [0x0000_0001_0000_3e00, 0, 0, 0],
@@ -88,7 +92,7 @@ pub(crate) fn hexadecimal_digits() -> ByteSet
 /// The space and the tab.
 #[tactic(auto, using(crate::proofs::ClassLemmas::blanks_are))]
 pub(crate) fn blanks() -> ByteSet
-    ensures { has_byte result ≡ is_blank }
+    ensures { has_byte result ≡ is_blank_class }
 {
     ByteSet {
         words: [0x0000_0001_0000_0200, 0, 0, 0],

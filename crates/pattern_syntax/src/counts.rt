@@ -1,7 +1,10 @@
 //! Repeats in braces.
-ghost use Rattle.std.specs.Prelude.{◌≡◌, ◌+◌, ◌*◌, ◌-◌, ◌<◌, ◌≤◌, ◌^◌, min, length, option_map, IfSome, Some};
-ghost use Rattle.pattern_syntax.specs.Tokens.{times_of, times_more, digits_at, behind_digits, counts_at, lower_counts, upper_counts, upper_number, is_refused_count};
-ghost use Rattle.pattern_syntax.specs.Classes.{is_digit};
+ghost use Rattle.std.specs.Prelude.{◌≡◌, ◌+◌, ◌*◌, ◌-◌, ◌<◌, ◌≤◌, ◌^◌, min, length, option_map};
+ghost use Rattle.std.specs.Prelude.{IfSome, Some};
+ghost use Rattle.pattern_syntax.specs.Tokens.{times_of, times_more, digits_at, behind_digits};
+ghost use Rattle.pattern_syntax.specs.Tokens.{counts_at, lower_counts, upper_counts, upper_number};
+ghost use Rattle.pattern_syntax.specs.Tokens.{is_refused_count};
+ghost use Rattle.pattern_syntax.specs.Classes.{is_digit_class};
 ghost use Rattle.pattern_syntax.specs.Views.{counts_of};
 
 use crate::limits::MOST_TIMES;
@@ -16,7 +19,7 @@ pub(crate) struct Counts {
 }
 
 fn is_ascii_digit(b: u8) -> bool
-    ensures { result ≡ is_digit b }
+    ensures { result ≡ is_digit_class b }
 {
     b >= b'0' && b <= b'9'
 }

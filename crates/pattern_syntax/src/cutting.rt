@@ -2,7 +2,9 @@
 ghost use Rattle.std.specs.Prelude.{◌≡◌, ◌+◌, ◌-◌, ◌<◌, ◌≤◌, ◌^◌, length, IfOk};
 ghost use Rattle.label_base.specs.Answers.{Answers};
 ghost use Rattle.pattern_syntax.specs.Views.{token_of, token_cut, why_refused};
-ghost use Rattle.pattern_syntax.specs.Tokens.{marked_repeat, braced_repeat, counts_at, special_group, group_at, escaped, bracketed, start_anchor, end_anchor, repeat_or_byte, token_at};
+ghost use Rattle.pattern_syntax.specs.Tokens.{marked_repeat, braced_repeat, counts_at};
+ghost use Rattle.pattern_syntax.specs.Tokens.{special_group, group_at, escape_cut, bracketed};
+ghost use Rattle.pattern_syntax.specs.Tokens.{start_anchor, end_anchor, repeat_or_byte, token_at};
 ghost use Rattle.pattern_syntax.specs.Building.{IsProperToken};
 ghost use Rattle.pattern_syntax.specs.Escapes.{escape_at};
 ghost use Rattle.pattern_syntax.specs.Brackets.{set_at};
@@ -84,7 +86,7 @@ fn read_group(text: &[u8]) -> Result<(Token, usize), Refusal>
 }
 
 fn read_escaped(text: &[u8]) -> Result<(Token, usize), Refusal>
-    ensures value { Answers token_cut why_refused result (escaped (escape_at text.now)) }
+    ensures value { Answers token_cut why_refused result (escape_cut (escape_at text.now)) }
     ensures within { IfOk result (λ cut. (0 < cut.1) × (cut.1 ≤ length text.now + 1)) }
     ensures proper { IfOk result (λ cut. IsProperToken (token_of cut.0)) }
 {

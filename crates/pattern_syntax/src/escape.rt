@@ -4,8 +4,10 @@ ghost use Rattle.label_base.specs.Answers.{Answers};
 ghost use Rattle.pattern_syntax.specs.ByteSet.{has_byte, bytes_with};
 ghost use Rattle.pattern_syntax.specs.Classes.{is_text_byte};
 ghost use Rattle.pattern_syntax.specs.Shape.{is_proper_set, IsProperItem};
-ghost use Rattle.pattern_syntax.specs.Views.{item_of, item_cut, why_refused};
-ghost use Rattle.pattern_syntax.specs.Escapes.{class_of_letter, control_of_letter, hexadecimal_digit, hexadecimal_at, escape_at, plain_escape, letter_escape, control_escape};
+ghost use Rattle.pattern_syntax.specs.Views.{escape_item, item_cut, why_refused};
+ghost use Rattle.pattern_syntax.specs.Escapes.{class_of_letter, control_of_letter};
+ghost use Rattle.pattern_syntax.specs.Escapes.{hexadecimal_digit, hexadecimal_at, escape_at};
+ghost use Rattle.pattern_syntax.specs.Escapes.{plain_escape, letter_escape, control_escape};
 
 use crate::byte_set::ByteSet;
 use crate::classes::{digits, spaces, words};
@@ -58,7 +60,7 @@ fn digit_value(b: u8) -> Option<u8>
 fn read_hexadecimal(text: &[u8]) -> Result<(Item, usize), Refusal>
     ensures value { Answers item_cut why_refused result (hexadecimal_at text.now) }
     ensures within { IfOk result (λ cut. (0 < cut.1) × (cut.1 ≤ length text.now + 2)) }
-    ensures proper { IfOk result (λ cut. IsProperItem (item_of cut.0)) }
+    ensures proper { IfOk result (λ cut. IsProperItem (escape_item cut.0)) }
 {
     match text {
         [high, low, ..] => match (digit_value(*high), digit_value(*low)) {
@@ -73,7 +75,7 @@ fn read_hexadecimal(text: &[u8]) -> Result<(Item, usize), Refusal>
 fn read_plain(b: u8) -> Result<(Item, usize), Refusal>
     ensures value { Answers item_cut why_refused result (plain_escape b) }
     ensures within { IfOk result (λ cut. (0 < cut.1) × (cut.1 ≤ 2)) }
-    ensures proper { IfOk result (λ cut. IsProperItem (item_of cut.0)) }
+    ensures proper { IfOk result (λ cut. IsProperItem (escape_item cut.0)) }
 {
     match b {
         0 => Err(Refusal::Syntax),
@@ -87,7 +89,7 @@ fn read_plain(b: u8) -> Result<(Item, usize), Refusal>
 pub(crate) fn read_escape(text: &[u8]) -> Result<(Item, usize), Refusal>
     ensures value { Answers item_cut why_refused result (escape_at text.now) }
     ensures within { IfOk result (λ cut. (0 < cut.1) × (cut.1 ≤ length text.now + 1)) }
-    ensures proper { IfOk result (λ cut. IsProperItem (item_of cut.0)) }
+    ensures proper { IfOk result (λ cut. IsProperItem (escape_item cut.0)) }
 {
     match text {
         [] => Err(Refusal::Syntax),
@@ -99,7 +101,7 @@ pub(crate) fn read_escape(text: &[u8]) -> Result<(Item, usize), Refusal>
 fn read_letter(b: u8) -> Result<(Item, usize), Refusal>
     ensures value { Answers item_cut why_refused result (letter_escape b (class_of_letter b)) }
     ensures within { IfOk result (λ cut. (0 < cut.1) × (cut.1 ≤ 2)) }
-    ensures proper { IfOk result (λ cut. IsProperItem (item_of cut.0)) }
+    ensures proper { IfOk result (λ cut. IsProperItem (escape_item cut.0)) }
 {
     match letter_class(b) {
         Some(set) => Ok((Item::Class(set), 2)),
@@ -110,7 +112,7 @@ fn read_letter(b: u8) -> Result<(Item, usize), Refusal>
 fn read_control(b: u8) -> Result<(Item, usize), Refusal>
     ensures value { Answers item_cut why_refused result (control_escape b (control_of_letter b)) }
     ensures within { IfOk result (λ cut. (0 < cut.1) × (cut.1 ≤ 2)) }
-    ensures proper { IfOk result (λ cut. IsProperItem (item_of cut.0)) }
+    ensures proper { IfOk result (λ cut. IsProperItem (escape_item cut.0)) }
 {
     match control_byte(b) {
         Some(byte) => Ok((Item::One(byte), 2)),

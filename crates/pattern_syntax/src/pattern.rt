@@ -1,8 +1,9 @@
-ghost use Rattle.std.specs.Prelude.{◌≡◌, ◌==◌, ◌∷◌, [], ◌<◌, ◌^◌, length, IfOk, Ok, Err, true, ℕ, List, ◌↔◌};
+ghost use Rattle.std.specs.Prelude.{◌≡◌, ◌==◌, ◌∷◌, [], ◌<◌, ◌^◌, length, IfOk, Ok, Err, true, ℕ};
+ghost use Rattle.std.specs.Prelude.{List, ◌↔◌};
 ghost use Rattle.label_base.specs.Answers.{Answers};
 ghost use Rattle.pattern_syntax.specs.Nodes.{after_nodes, trees_behind, rest_tree};
 ghost use Rattle.pattern_syntax.specs.Literal.{node_code, code_byte, led_byte, is_several};
-ghost use Rattle.pattern_syntax.specs.Parts.{IsWhole, IsStart, IsPattern};
+ghost use Rattle.pattern_syntax.specs.Parts.{AreWholeNodes, IsStart, IsPattern};
 
 use crate::builder::Builder;
 use crate::limits::MOST_POSITIONS;
@@ -65,7 +66,7 @@ fn joined_byte(node: &Node, next: &Node) -> Option<u8>
 
 /// Whether the nodes behind an empty sequence make a choice of several sides.
 fn have_sides(nodes: &[Node]) -> bool
-    requires { IsWhole nodes.now }
+    requires { AreWholeNodes nodes.now }
     ensures { result ≡ is_several (rest_tree nodes.now) }
 {
     nodes.len() > 0 && is_either(&nodes[nodes.len() - 1])
@@ -73,7 +74,7 @@ fn have_sides(nodes: &[Node]) -> bool
 
 /// The literal start of the nodes behind an empty sequence.
 fn leading_bytes(alloc: Global, nodes: &[Node]) -> Result<Bytes, OutOfMemory>
-    requires { IsWhole nodes.now }
+    requires { AreWholeNodes nodes.now }
     ensures { IfOk result (λ start. IsStart nodes.now start) }
 {
     let mut start = Bytes::with_capacity(alloc, nodes.len() / 2)?;
@@ -136,7 +137,7 @@ impl Pattern {
 
     /// The pattern of these nodes behind an empty sequence.
     fn of_nodes(alloc: Global, nodes: &[Node]) -> Result<Pattern, OutOfMemory>
-        requires { IsWhole nodes.now }
+        requires { AreWholeNodes nodes.now }
         ensures { IfOk result (λ pattern. pattern ≡ rest_tree nodes.now) }
     {
         let start = leading_bytes(alloc, nodes)?;

@@ -1,7 +1,9 @@
 //! The rest of a pattern that has too many positions, whatever follows.
-ghost use Rattle.std.specs.Prelude.{◌≡◌, ◌+◌, ◌<◌, ◌≤◌, ◌^◌, length, unwrap_or, Some, MatchOption, None, is_some, true};
+ghost use Rattle.std.specs.Prelude.{◌≡◌, ◌+◌, ◌<◌, ◌≤◌, ◌^◌, length, unwrap_or, Some, MatchOption};
+ghost use Rattle.std.specs.Prelude.{None, is_some, true};
 ghost use Rattle.pattern_syntax.specs.PatternCause.{pattern_cause};
-ghost use Rattle.pattern_syntax.specs.Reading.{structure_fault, depth_behind, ends_piece, fault_from};
+ghost use Rattle.pattern_syntax.specs.Reading.{structure_fault, depth_behind, ends_piece};
+ghost use Rattle.pattern_syntax.specs.Reading.{fault_from};
 ghost use Rattle.pattern_syntax.specs.Views.{token_of};
 ghost use Rattle.pattern_syntax.specs.declared.limits.TheConstants.{MOST_GROUPS};
 ghost use Rattle.pattern_syntax.specs.declared.pattern_fault.PatternWhy.TheVariants.{TooManyPositions};

@@ -1,7 +1,8 @@
 -- What the files of a policy say.
 use Rattle.std.specs.Prelude.{ℕ, ◌-◌, List, ◌++◌, length, Result, Ok, Err}
 use Rattle.input_output.specs.Store.{Files}
-use Rattle.file_roles.specs.declared.role.Part.TheVariants.{Base, Homedirs, Local, Subs, SubsDist, Customizable}
+use Rattle.file_roles.specs.declared.role.Part.TheVariants.{Base, Homedirs, Local, Subs, SubsDist}
+use Rattle.file_roles.specs.declared.role.Part.TheVariants.{Customizable}
 use Rattle.label_base.specs.declared.lines.LinesWhy.{LinesWhy}
 use Rattle.label_base.specs.declared.lines.LinesWhy.TheVariants.{Refused, TooMany}
 use Rattle.label_base.specs.declared.lines.RefusedLine.{RefusedLine}
@@ -19,7 +20,8 @@ use Rattle.path_subs.specs.SubLines.{subs_of}
 use Rattle.path_subs.specs.declared.sub_fault.NoSub.{NoSub}
 use Rattle.path_subs.specs.declared.subs.Subs as both
 use Rattle.run_faults.specs.declared.cause.Cause.{Cause}
-use Rattle.run_faults.specs.declared.cause.Cause.TheVariants.{SpecRefused, SubRefused, CustomRefused, Limit}
+use Rattle.run_faults.specs.declared.cause.Cause.TheVariants.{SpecRefused, SubRefused}
+use Rattle.run_faults.specs.declared.cause.Cause.TheVariants.{CustomRefused, Limit}
 use Rattle.run_faults.specs.declared.cause.LimitKind.TheVariants.{Specs}
 use Rattle.run_input.specs.Files.{FilesSay, just, part_says, read_on}
 use Rattle.policy_files.specs.declared.reading.TheConstants.{MOST_SPECS}
@@ -60,8 +62,8 @@ customizable_types list files =
     just (types_from (types_read bytes)))
 
 -- the specifications of a policy's three files, in the order in which the last match decides
-unfoldable pub list_of : List NamedFile → (version : ℕ) → Files → FilesSay (List SpecValue)
-list_of list version files =
+unfoldable pub version_specs : List NamedFile → (version : ℕ) → Files → FilesSay (List SpecValue)
+version_specs list version files =
     read_on (part_specs list (role Base version) MOST_SPECS files) (λ first.
     read_on (part_specs list (role Homedirs version) (MOST_SPECS - length first) files) (λ home.
     read_on (part_specs list (role Local version) (MOST_SPECS - length first - length home) files)

@@ -7,7 +7,7 @@ use Rattle.spec_reader.specs.SpecValue.{SpecValue}
 use Rattle.path_subs.specs.declared.subs.Subs as both
 use Rattle.label_rules.specs.declared.rules.Rules.{Rules}
 use Rattle.run_input.specs.Files.{FilesSay, just, read_on}
-use Rattle.policy_files.specs.Files.{customizable_types, list_of, subs_for}
+use Rattle.policy_files.specs.Files.{customizable_types, version_specs, subs_for}
 
 -- specifications, both lists of substitutions, and the customizable types
 abbrev pub rules_with : List SpecValue → both.Subs → NameSet → Rules
@@ -22,5 +22,5 @@ rest_for list files =
 -- the rules of the only policy of a run; each file's refusals come before those of the next
 unfoldable pub rules_for : List NamedFile → Files → FilesSay Rules
 rules_for list files =
-    read_on (list_of list 0 files) (λ specs.
+    read_on (version_specs list 0 files) (λ specs.
     read_on (rest_for list files) (λ rest. just (Ok (rules_with specs rest.0 rest.1))))

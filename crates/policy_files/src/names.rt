@@ -1,5 +1,5 @@
 ghost use Rattle.std.specs.Prelude.{◌≡◌, ◌++◌, ◌∷◌, [], IfOk, OnOk};
-ghost use Rattle.file_roles.specs.Roles.{named, role};
+ghost use Rattle.file_roles.specs.Roles.{file_named, role};
 ghost use Rattle.policy_files.specs.Names.{policy_names, types_name};
 
 use file_roles::{FileList, FileRole, Part};
@@ -38,7 +38,7 @@ fn add_beside(
     list: &mut FileList,
 ) -> Result<(), OutOfMemory>
     ensures { OnOk result
-        (list.new ≡ list.old ++ named (role part version) (base.now ++ suffix.now) ∷ []) }
+        (list.new ≡ list.old ++ file_named (role part version) (base.now ++ suffix.now) ∷ []) }
 {
     let name = joined(alloc, base, suffix)?;
     list.add(FileRole { part, version }, name)

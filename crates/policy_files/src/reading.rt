@@ -4,7 +4,8 @@ ghost use Rattle.path_subs.specs.SubLines.{subs_of};
 ghost use Rattle.spec_reader.specs.SpecLines.{specs_of};
 ghost use Rattle.run_faults.specs.Causes.{Counts, Gives, IsFileCause};
 ghost use Rattle.run_input.specs.Files.{Reads};
-ghost use Rattle.policy_files.specs.Files.{customizable_types, list_of, part_specs, part_subs, specs_from, subs_for, subs_from, types_from};
+ghost use Rattle.policy_files.specs.Files.{customizable_types, version_specs, part_specs};
+ghost use Rattle.policy_files.specs.Files.{part_subs, specs_from, subs_for, subs_from, types_from};
 
 use context_syntax::{TypeNames, read_customizable};
 use file_roles::{FileList, FileRole, Part};
@@ -51,7 +52,8 @@ fn read_specs_part<S: Store>(
     store: &mut S,
 ) -> Result<Row<Spec>, Cause>
     ensures within { IfOk result (λ specs. length specs ≤ room) }
-    ensures read { Reads S.files S.calls S.read_faults S.write_faults (part_specs list.now role room)
+    ensures read { Reads S.files S.calls S.read_faults S.write_faults
+        (part_specs list.now role room)
         store.old store.new result }
 {
     let bytes = read_part(alloc, list, role, store)?;
@@ -158,7 +160,7 @@ pub fn read_specifications<S: Store>(
     version: u32,
     store: &mut S,
 ) -> Result<RuleSet, Cause>
-    ensures { Reads S.files S.calls S.read_faults S.write_faults (list_of list.now version)
+    ensures { Reads S.files S.calls S.read_faults S.write_faults (version_specs list.now version)
         store.old store.new result }
 {
     let role = FileRole {

@@ -8,7 +8,7 @@ use Rattle.run_endings.specs.declared.ending.End.{End}
 use Rattle.run_endings.specs.declared.ending.End.TheVariants.{Done, WalkErrors}
 use Rattle.run_endings.specs.declared.ending.Ending.{Ending}
 use Rattle.policy_rehearsal.specs.Rehearsal.{TurnValue, rehearsed}
-use Rattle.policy_rehearsal.specs.Text.{text_of}
+use Rattle.policy_rehearsal.specs.Text.{rehearsal_text}
 use Rattle.policy_rehearsal.specs.declared.words.RehearseWords.{RehearseWords}
 
 -- the operands without an entry, unless they are ignored
@@ -20,15 +20,16 @@ abbrev pub end_by : ℕ → End
 end_by absent = if absent == 0 then Done else WalkErrors absent
 
 -- the lines of the operands without an entry, then the turns
-abbrev pub ending_of : RehearseWords → List Record → (absent : List ℕ) → List TurnValue → Ending
-ending_of words entries absent turns = record {
-  report = absent_text words.choice.operands absent ++ text_of entries words.bases turns;
+abbrev pub rehearse_ending : RehearseWords → List Record → (absent : List ℕ) → List TurnValue
+    → Ending
+rehearse_ending words entries absent turns = record {
+  report = absent_text words.choice.operands absent ++ rehearsal_text entries words.bases turns;
   end = end_by (length absent);
   saved = None;
 }
 
 -- what is written of the policies' turns over the entries of the input
-unfoldable pub answer_of : RehearseWords → List Rules → List Record → Ending
-answer_of words policies entries =
-    ending_of words entries (absent_by words (selected_by words.choice entries).absent)
+unfoldable pub rehearsal_of : RehearseWords → List Rules → List Record → Ending
+rehearsal_of words policies entries =
+    rehearse_ending words entries (absent_by words (selected_by words.choice entries).absent)
     (rehearsed entries words.choice words.options policies).turns

@@ -9,24 +9,25 @@ use Rattle.label_rules.specs.declared.rules.Rules.{Rules}
 use Rattle.run_faults.specs.Causes.{and_then}
 use Rattle.run_faults.specs.declared.cause.Cause.{Cause}
 use Rattle.run_input.specs.Files.{FilesSay, just, part_says, read_on}
-use Rattle.policy_files.specs.Files.{list_of, subs_for, types_from}
+use Rattle.policy_files.specs.Files.{version_specs, subs_for, types_from}
 use Rattle.policy_files.specs.Names.{policy_names, types_name}
 use Rattle.policy_files.specs.Rules.{rules_with}
 use Rattle.policy_rehearsal.specs.declared.files.Policy.{Policy}
 
 -- the files of each policy, which are numbered from this number on
-abbrev pub names_from : ℕ → (bases : List (List ℕ)) → List NamedFile
-names_from version [] = []
-names_from version (base ∷ bases) = policy_names version base ++ names_from (version + 1) bases
+abbrev pub version_names : ℕ → (bases : List (List ℕ)) → List NamedFile
+version_names version [] = []
+version_names version (base ∷ bases) = policy_names version base ++ version_names (version + 1)
+    bases
 
 -- behind them that of the customizable types, which all have in common
 abbrev pub files_named : (bases : List (List ℕ)) → List NamedFile
-files_named bases = names_from 0 bases ++ types_name ∷ []
+files_named bases = version_names 0 bases ++ types_name ∷ []
 
 -- what the files of one policy say
 unfoldable pub policy_for : List NamedFile → (version : ℕ) → Files → FilesSay Policy
 policy_for list version files =
-    read_on (list_of list version files) (λ specs.
+    read_on (version_specs list version files) (λ specs.
     read_on (subs_for list version files) (λ subs.
     just (Ok (record { specs = specs; subs = subs }))))
 

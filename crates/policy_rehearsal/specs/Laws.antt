@@ -3,7 +3,7 @@ use Rattle.std.specs.Prelude.{◌≡◌, ℕ, List, Ok}
 use Rattle.input_output.specs.Store.{Files}
 use Rattle.find_records.specs.Record.{Record}
 use Rattle.run_endings.specs.declared.ending.Ending.{Ending}
-use Rattle.relabel_runs.specs.Runs.{Run}
+use Rattle.relabel_runs.specs.Runs.{TreeRun}
 use Rattle.policy_rehearsal.specs.Plan.{rehearse_plan}
 use Rattle.policy_rehearsal.specs.Rehearsal.{rehearsed_by}
 use Rattle.policy_rehearsal.specs.Told.{TellsKept, labels_at_end}
@@ -12,7 +12,7 @@ use Rattle.policy_rehearsal.specs.declared.words.RehearseWords.{RehearseWords}
 -- the changes of the turns, made one after the other, leave the labels at the end
 abbrev pub ChangesLeadThere : Type 0
 ChangesLeadThere =
-    (entries : List Record) (runs : List Run)
+    (entries : List Record) (runs : List TreeRun)
     → labels_at_end entries (rehearsed_by entries runs).turns
     ≡ (rehearsed_by entries runs).labels
 

@@ -1,7 +1,7 @@
 -- What rehearse reads, and what it answers.
 use Rattle.std.specs.Prelude.{length, Some, None, Ok, false}
 use Rattle.tool_runs.specs.Plan.{Plan, plan_by}
-use Rattle.policy_rehearsal.specs.Answer.{answer_of}
+use Rattle.policy_rehearsal.specs.Answer.{rehearsal_of}
 use Rattle.policy_rehearsal.specs.Files.{files_named, rules_read}
 use Rattle.policy_rehearsal.specs.declared.words.RehearseWords.{RehearseWords}
 
@@ -9,4 +9,4 @@ use Rattle.policy_rehearsal.specs.declared.words.RehearseWords.{RehearseWords}
 abbrev pub rehearse_plan : RehearseWords → Plan
 rehearse_plan words = plan_by (files_named words.bases) (Some words.options.format) false None
     (rules_read (files_named words.bases) (length words.bases))
-    (λ policies entries. Ok (answer_of words policies entries))
+    (λ policies entries. Ok (rehearsal_of words policies entries))

@@ -12,9 +12,9 @@ use Rattle.label_rules.specs.declared.rules.Rules.{Rules}
 use Rattle.relabel_core.specs.declared.options.Options.{Options}
 use Rattle.relabel_core.specs.Changes.{change_at, label_before}
 use Rattle.relabel_core.specs.Stored.{no_digests}
-use Rattle.relabel_core.specs.Walk.{Walk, count, is_skipped_first}
-use Rattle.relabel_runs.specs.Premises.{AreRuns}
-use Rattle.relabel_runs.specs.Runs.{Run, State, after, end, end_off, walk_at}
+use Rattle.relabel_core.specs.Walk.{Walk, walk_count, is_skipped_first}
+use Rattle.relabel_runs.specs.Premises.{AreTreeRuns}
+use Rattle.relabel_runs.specs.Runs.{TreeRun, TreeState, state_after, end, end_off, walk_at}
 
 -- an entry whose label changes, which is the first name of its inode for which a context is decided
 pub record ChangeValue : Type 0 where
@@ -39,35 +39,35 @@ change_to w e (Some to) = Some (record { entry = e; from = label_before w e; to 
 
 -- the changes of a walk, in the order of the entries
 unfoldable pub changes_in : Walk → List ChangeValue
-changes_in w = filter_map (λ e. change_to w e (change_at w e)) (all_numbers (count w))
+changes_in w = filter_map (λ e. change_to w e (change_at w e)) (all_numbers (walk_count w))
 
 unfoldable pub skipped_in : Walk → ℕ
-skipped_in w = length (filter (is_skipped_first w) (all_numbers (count w)))
+skipped_in w = length (filter (is_skipped_first w) (all_numbers (walk_count w)))
 
 abbrev pub turn_in : Walk → TurnValue
 turn_in w = record { changes = changes_in w; skipped = skipped_in w }
 
 -- the tree as it is, without digests
-abbrev pub first_state : List Record → State
-first_state entries = record { labels = label_in entries; digests = no_digests }
+abbrev pub bare_state : List Record → TreeState
+bare_state entries = record { labels = label_in entries; digests = no_digests }
 
 -- all versions are asked for the same
-abbrev pub run_of : Choice → Options → Rules → Run
-run_of choice options rules = record { rules = rules; choice = choice; options = options }
+abbrev pub rehearsed_run : Choice → Options → Rules → TreeRun
+rehearsed_run choice options rules = record { rules = rules; choice = choice; options = options }
 
-abbrev pub runs_of : Choice → Options → List Rules → List Run
-runs_of choice options policies = map (run_of choice options) policies
+abbrev pub runs_of : Choice → Options → List Rules → List TreeRun
+runs_of choice options policies = map (rehearsed_run choice options) policies
 
 -- the turns of runs over a tree in this state, each over what the one before it leaves
-abbrev pub turns_from : List Record → State → List Run → List TurnValue
+abbrev pub turns_from : List Record → TreeState → List TreeRun → List TurnValue
 turns_from entries s [] = []
 turns_from entries s (run ∷ runs) =
-    turn_in (walk_at entries s run) ∷ turns_from entries (after entries s run) runs
+    turn_in (walk_at entries s run) ∷ turns_from entries (state_after entries s run) runs
 
-abbrev pub rehearsed_by : List Record → List Run → RehearsedValue
+abbrev pub rehearsed_by : List Record → List TreeRun → RehearsedValue
 rehearsed_by entries runs = record {
-  turns = turns_from entries (first_state entries) runs;
-  labels = map (end entries (first_state entries) runs).labels (all_numbers (groups_in entries));
+  turns = turns_from entries (bare_state entries) runs;
+  labels = map (end entries (bare_state entries) runs).labels (all_numbers (groups_in entries));
 }
 
 -- what these policies do to the entries that a choice means
@@ -75,10 +75,10 @@ abbrev pub rehearsed : List Record → Choice → Options → List Rules → Reh
 rehearsed entries choice options policies =
     rehearsed_by entries (runs_of choice options policies)
 
--- where the files were accepted and no listings clash, skipping directories by their digests changes
--- none of these labels
-abbrev pub KeepsLabels : List Record → List Run → List Label → Type 0
-KeepsLabels entries runs labels =
-    AreRuns entries runs
+-- where the files were accepted and no listings clash, skipping directories by their digests
+-- changes none of these labels
+abbrev pub RunsKeepLabels : List Record → List TreeRun → List Label → Type 0
+RunsKeepLabels entries runs labels =
+    AreTreeRuns entries runs
     → labels
-    ≡ map (end_off entries (first_state entries) runs).labels (all_numbers (groups_in entries))
+    ≡ map (end_off entries (bare_state entries) runs).labels (all_numbers (groups_in entries))

@@ -11,7 +11,7 @@ use Rattle.label_rules.specs.declared.label_after.LabelAfter.{LabelAfter}
 use Rattle.tree_model.specs.Groups.{groups_in}
 use Rattle.relabel_core.specs.Answer.{walk_in}
 use Rattle.relabel_core.specs.Walk.{Walk}
-use Rattle.relabel_runs.specs.Runs.{labelled}
+use Rattle.relabel_runs.specs.Runs.{tree_labelled}
 use Rattle.policy_rehearsal.specs.declared.seen.Seen.{Seen}
 
 abbrev pub label_or_none : Option LabelAfter → Label
@@ -24,7 +24,7 @@ labels_listed labels g = label_or_none (slice_get labels g)
 
 -- the same walk over the tree with other labels of its groups
 abbrev pub walk_over : Walk → (ℕ → Label) → Walk
-walk_over w labels = record w { entries = labelled w.entries labels }
+walk_over w labels = record w { entries = tree_labelled w.entries labels }
 
 -- the walk over the tree with the labels that its groups have by now
 abbrev pub walk_seen : Seen → Walk

@@ -10,7 +10,8 @@ use Rattle.report_text.specs.Message.{MessageValue, Relabel}
 use Rattle.report_text.specs.Texts.{report_of}
 use Rattle.std.specs.Prelude.{false}
 use Rattle.policy_rehearsal.specs.Rehearsal.{ChangeValue, TurnValue}
-use Rattle.policy_rehearsal.specs.declared.texts.TheConstants.{BEFORE_NAME, CHANGED, COLON, SKIPPED, VERSION}
+use Rattle.policy_rehearsal.specs.declared.texts.TheConstants.{BEFORE_NAME, CHANGED, COLON, SKIPPED}
+use Rattle.policy_rehearsal.specs.declared.texts.TheConstants.{VERSION}
 
 -- the version's number and name, and two counts
 unfoldable pub turn_head : (number : ℕ) → (name : List ℕ) → (changed skipped : ℕ) → List ℕ
@@ -36,5 +37,6 @@ text_at entries names turns k =
     turn_text entries (k + 1) (get_or names k []) (get_or turns k no_turn)
 
 -- those of all turns
-abbrev pub text_of : List Record → (names : List (List ℕ)) → List TurnValue → List ℕ
-text_of entries names turns = flat_map (text_at entries names turns) (all_numbers (length turns))
+abbrev pub rehearsal_text : List Record → (names : List (List ℕ)) → List TurnValue → List ℕ
+rehearsal_text entries names turns =
+    flat_map (text_at entries names turns) (all_numbers (length turns))

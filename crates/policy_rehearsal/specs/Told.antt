@@ -1,5 +1,6 @@
 -- What is told of a rehearsal: where its changes lead, and that skipping is none of the reasons.
-use Rattle.std.specs.Prelude.{◌≡◌, ℕ, ◌==◌, List, [], ◌∷◌, length, map, IfSome, Option, Ok, if◌then◌else◌}
+use Rattle.std.specs.Prelude.{◌≡◌, ℕ, ◌==◌, List, [], ◌∷◌, length, map, IfSome, Option, Ok}
+use Rattle.std.specs.Prelude.{if◌then◌else◌}
 use Rattle.std.specs.Io.KnownBytes.{Appends}
 use Rattle.label_base.specs.Bounded.{all_numbers}
 use Rattle.context_syntax.specs.declared.label.Label.{Label}
@@ -10,10 +11,11 @@ use Rattle.label_rules.specs.declared.rules.Rules.{Rules}
 use Rattle.input_output.specs.Store.{Files}
 use Rattle.run_faults.specs.Causes.{IsReported}
 use Rattle.run_faults.specs.declared.cause.Cause.{Cause}
-use Rattle.run_input.specs.Records.{entries_of}
-use Rattle.policy_rehearsal.specs.Answer.{answer_of}
+use Rattle.run_input.specs.Records.{records_read}
+use Rattle.policy_rehearsal.specs.Answer.{rehearsal_of}
 use Rattle.policy_rehearsal.specs.Files.{files_named, rules_read}
-use Rattle.policy_rehearsal.specs.Rehearsal.{ChangeValue, KeepsLabels, TurnValue, rehearsed, runs_of}
+use Rattle.policy_rehearsal.specs.Rehearsal.{ChangeValue, RunsKeepLabels, TurnValue, rehearsed}
+use Rattle.policy_rehearsal.specs.Rehearsal.{runs_of}
 use Rattle.policy_rehearsal.specs.declared.words.RehearseWords.{RehearseWords}
 
 -- the label of a group behind a change of an entry's label
@@ -38,17 +40,17 @@ abbrev pub labels_at_end : List Record → List TurnValue → List Label
 labels_at_end entries turns =
     map (λ g. label_at_end entries g turns (label_in entries g)) (all_numbers (groups_in entries))
 
--- The report of words that ask for rehearse, by their files and their input: where no listings clash,
--- the changes that it tells lead to the labels that the same runs leave with skipping off.
+-- The report of words that ask for rehearse, by their files and their input: where no listings
+-- clash, the changes that it tells lead to the labels that the same runs leave with skipping off.
 pub record TellsKept (words : RehearseWords) (known : Files) (input : List ℕ)
     (IsReport : List ℕ → Type 0) : Type 0 where
   pub policies : List Rules
   pub entries : List Record
   pub files_say : (rules_read (files_named words.bases) (length words.bases) known).says
       ≡ Ok policies
-  pub input_says : entries_of words.options.format input ≡ Ok entries
-  pub report : IsReport (answer_of words policies entries).report
-  pub keeps : KeepsLabels entries (runs_of words.choice words.options policies)
+  pub input_says : records_read words.options.format input ≡ Ok entries
+  pub report : IsReport (rehearsal_of words policies entries).report
+  pub keeps : RunsKeepLabels entries (runs_of words.choice words.options policies)
       (labels_at_end entries (rehearsed entries words.choice words.options policies).turns)
 
 -- so it is after a run by such words which wrote its report, where files, input and sink are known

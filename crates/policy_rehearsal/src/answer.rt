@@ -1,7 +1,7 @@
 ghost use Rattle.std.specs.Prelude.{◌≡◌, ◌<◌, ◌^◌, IfOk, length};
-ghost use Rattle.find_records.specs.Record.{AreOf};
+ghost use Rattle.find_records.specs.Record.{AreOfFormat};
 ghost use Rattle.tree_model.specs.Selection.{selected_by};
-ghost use Rattle.policy_rehearsal.specs.Answer.{absent_by, answer_of, end_by, ending_of};
+ghost use Rattle.policy_rehearsal.specs.Answer.{absent_by, rehearsal_of, end_by, rehearse_ending};
 ghost use Rattle.policy_rehearsal.specs.Lent.{rehearsed_lent};
 ghost use Rattle.policy_rehearsal.specs.Words.{AreFew};
 
@@ -45,7 +45,7 @@ fn ending_of(
     rehearsed: &Rehearsed<'_>,
 ) -> Result<Ending, OutOfMemory>
     requires { length absent.now < 2 ^ 32 }
-    ensures { IfOk result (λ ending. ending ≡ ending_of words.now tree.now absent.now
+    ensures { IfOk result (λ ending. ending ≡ rehearse_ending words.now tree.now absent.now
         (rehearsed_lent rehearsed.now).turns) }
 {
     let mut report = Bytes::new(alloc);
@@ -68,16 +68,16 @@ fn answer_chosen(
 ) -> Result<Ending, OutOfMemory>
     requires words { AreFew words.now }
     requires tree { length tree.now < 2 ^ 31 }
-    requires format { AreOf words.now.options.format tree.now }
+    requires format { AreOfFormat words.now.options.format tree.now }
     requires chosen { chosen.now ≡ selected_by words.now.choice tree.now }
-    ensures { IfOk result (λ ending. ending ≡ answer_of words.now policies.now tree.now) }
+    ensures { IfOk result (λ ending. ending ≡ rehearsal_of words.now policies.now tree.now) }
 {
     let rehearsed = rehearse(alloc, tree, &words.choice, chosen, policies, words.options)?;
     ending_of(alloc, words, tree, absent_in(words, chosen), &rehearsed)
 }
 
-/// What rehearse writes: the operands without an entry, and the text of what each version does. It fails for want of memory
-/// alone.
+/// What rehearse writes: the operands without an entry, and the text of what each version does. It
+/// fails for want of memory alone.
 pub fn answer_of(
     alloc: Global,
     words: &RehearseWords,
@@ -86,8 +86,8 @@ pub fn answer_of(
 ) -> Result<Ending, OutOfMemory>
     requires words { AreFew words.now }
     requires tree { length tree.now < 2 ^ 31 }
-    requires format { AreOf words.now.options.format tree.now }
-    ensures { IfOk result (λ ending. ending ≡ answer_of words.now policies.now tree.now) }
+    requires format { AreOfFormat words.now.options.format tree.now }
+    ensures { IfOk result (λ ending. ending ≡ rehearsal_of words.now policies.now tree.now) }
 {
     let chosen = tree.select(alloc, &words.choice)?;
     answer_chosen(alloc, words, policies, tree, &chosen)

@@ -1,7 +1,8 @@
 ghost use Rattle.std.specs.Prelude.{◌≡◌, ℕ, ◌<◌, ◌^◌, ◌++◌, IfErr, OnOk, length};
 ghost use Rattle.run_faults.specs.Causes.{Counts, Gives, IsFileCause};
 ghost use Rattle.run_input.specs.Files.{Reads};
-ghost use Rattle.policy_rehearsal.specs.Files.{names_from, policies_below, policy_for, rules_by, rules_read, with_types};
+ghost use Rattle.policy_rehearsal.specs.Files.{version_names, policies_below, policy_for, rules_by};
+ghost use Rattle.policy_rehearsal.specs.Files.{rules_read, with_types};
 
 use context_syntax::TypeNames;
 use file_roles::{FileList, FileRole, Part};
@@ -25,7 +26,7 @@ pub struct Policy {
 /// Adds the files of each policy, which are numbered from 0 on.
 pub fn add_policies(alloc: Global, bases: &[Name], list: &mut FileList) -> Result<(), OutOfMemory>
     requires { length bases.now < 2 ^ 32 }
-    ensures { OnOk result (list.new ≡ list.old ++ names_from 0 bases.now) }
+    ensures { OnOk result (list.new ≡ list.old ++ version_names 0 bases.now) }
 {
     let mut version = 0;
     'bases: for base in bases {
@@ -94,7 +95,8 @@ fn rules_with(alloc: Global, policies: Row<Policy>, bytes: &Bytes) -> Result<Row
     Ok(rules)
 }
 
-/// Reads the files of so many policies, each whole before the next, then the customizable types, which all have in common.
+/// Reads the files of so many policies, each whole before the next, then the customizable types,
+/// which all have in common.
 ///
 /// The error is a failed read, or the first refusal.
 pub fn read_found<S: Store>(

@@ -3,7 +3,8 @@ ghost use Rattle.label_base.specs.Bounded.{all_numbers};
 ghost use Rattle.context_syntax.specs.Context.{same_context, same_option};
 ghost use Rattle.context_syntax.specs.ContextRef.{context_lent};
 ghost use Rattle.tree_model.specs.Groups.{groups_in, label_in};
-ghost use Rattle.label_rules.specs.Decide.{label_by, type_verdict, verdict_for, verdict_on, whole_verdict};
+ghost use Rattle.label_rules.specs.Decide.{label_by, type_verdict, verdict_for, verdict_on};
+ghost use Rattle.label_rules.specs.Decide.{whole_verdict};
 ghost use Rattle.label_rules.specs.LabelAfter.{label_told};
 ghost use Rattle.label_rules.specs.Verdicts.{verdict_of};
 

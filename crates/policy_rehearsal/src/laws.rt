@@ -2,13 +2,15 @@
 ghost use Rattle.policy_rehearsal.specs.Constants.{ConstantsAreStated};
 ghost use Rattle.policy_rehearsal.specs.Laws.{AnswersKeepLabels, ChangesLeadThere};
 
-/// The changes that the turns of a rehearsal tell, made one after the other in the tree, leave the labels at its end.
+/// The changes that the turns of a rehearsal tell, made one after the other in the tree, leave the
+/// labels at its end.
 pub fn changes_lead_there()
     ensures { ChangesLeadThere }
 {}
 
-/// Whatever words ask of rehearse, and whatever its files and its input say: where no two listings of directories have one
-/// digest, the changes that its report tells lead to the labels that the same versions leave with skipping off.
+/// Whatever words ask of rehearse, and whatever its files and its input say: where no two listings
+/// of directories have one digest, the changes that its report tells lead to the labels that the
+/// same versions leave with skipping off.
 pub fn answers_keep_labels()
     ensures { AnswersKeepLabels }
 {}

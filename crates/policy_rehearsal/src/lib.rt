@@ -1,5 +1,5 @@
-//! The tool rehearse: what several versions of a policy change in one tree, one after the other. Each walks over the labels and
-//! digests that those before it leave, and nothing is written.
+//! The tool rehearse: what several versions of a policy change in one tree, one after the other.
+//! Each walks over the labels and digests that those before it leave, and nothing is written.
 #![tactic(auto)]
 
 mod answer;

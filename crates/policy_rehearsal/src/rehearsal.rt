@@ -1,5 +1,5 @@
 ghost use Rattle.std.specs.Prelude.{◌≡◌, ℕ, ◌<◌, ◌+◌, ◌^◌, false, IfOk, None, length, map};
-ghost use Rattle.find_records.specs.Record.{AreOf};
+ghost use Rattle.find_records.specs.Record.{AreOfFormat};
 ghost use Rattle.label_base.specs.Bounded.{all_numbers};
 ghost use Rattle.label_rules.specs.LabelAfter.{label_told};
 ghost use Rattle.tree_model.specs.Extents.{is_directory};
@@ -9,11 +9,13 @@ ghost use Rattle.relabel_core.specs.Answer.{walk_in};
 ghost use Rattle.relabel_core.specs.Stored.{digests_of};
 ghost use Rattle.relabel_core.specs.Walk.{digest_after, new_label};
 ghost use Rattle.relabel_core.specs.Walked.{IsFit, walk_of};
-ghost use Rattle.relabel_runs.specs.Runs.{State};
+ghost use Rattle.relabel_runs.specs.Runs.{TreeState};
 ghost use Rattle.policy_rehearsal.specs.Lent.{rehearsed_lent, turn_lent};
-ghost use Rattle.policy_rehearsal.specs.Rehearsal.{KeepsLabels, first_state, rehearsed, rehearsed_by, runs_of, turn_in};
+ghost use Rattle.policy_rehearsal.specs.Rehearsal.{RunsKeepLabels, bare_state, rehearsed};
+ghost use Rattle.policy_rehearsal.specs.Rehearsal.{rehearsed_by, runs_of, turn_in};
 ghost use Rattle.policy_rehearsal.specs.Seen.{IsSeen, walk_seen};
-ghost use Rattle.policy_rehearsal.specs.Standing.{IsAsked, IsAt, IsKept, IsTaken, run_asked};
+ghost use Rattle.policy_rehearsal.specs.Standing.{IsAsked, IsAt, IsStandingKept, IsRunTaken};
+ghost use Rattle.policy_rehearsal.specs.Standing.{run_asked};
 
 use crate::groups::first_labels;
 use crate::rehearsed::{Rehearsed, Turn};
@@ -101,10 +103,10 @@ fn take_turn<'a>(
     at: &Standing<'a>,
 ) -> Result<Taken<'a>, OutOfMemory>
     requires asked { IsAsked asked.now }
-    requires kept { IsKept asked.now.tree.now at.now }
-    ensures kept { IfOk result (λ taken. IsKept asked.now.tree.now taken.left) }
-    ensures taken { (s : State) → IsAt asked.now.tree.now s at.now
-        → IfOk result (IsTaken asked.now.tree.now s (run_asked asked.now rules.now)) }
+    requires kept { IsStandingKept asked.now.tree.now at.now }
+    ensures kept { IfOk result (λ taken. IsStandingKept asked.now.tree.now taken.left) }
+    ensures taken { (s : TreeState) → IsAt asked.now.tree.now s at.now
+        → IfOk result (IsRunTaken asked.now.tree.now s (run_asked asked.now rules.now)) }
 {
     let input = walk_input(
         asked.tree,
@@ -126,8 +128,8 @@ fn take_turn<'a>(
 }
 
 fn first_standing<'a>(alloc: Global, tree: &'a Tree) -> Result<Standing<'a>, OutOfMemory>
-    ensures kept { IfOk result (IsKept tree.now) }
-    ensures at { IfOk result (IsAt tree.now (first_state tree.now)) }
+    ensures kept { IfOk result (IsStandingKept tree.now) }
+    ensures at { IfOk result (IsAt tree.now (bare_state tree.now)) }
 {
     Ok(Standing {
         labels: first_labels(alloc, tree)?,
@@ -157,12 +159,13 @@ fn take_turns<'a>(
     Ok(Rehearsed { turns, labels })
 }
 
-/// What several versions of a policy do to a tree, one after the other: each walks over the labels and the digests that those
-/// before it leave, and the first over the labels of the tree, without digests. Each entry has to have
-/// a link count where the options' format has one, and none else; entries and operands together have to be fewer than 2^32. The tree isn't copied.
+/// What several versions of a policy do to a tree, one after the other: each walks over the labels
+/// and the digests that those before it leave, and the first over the labels of the tree, without
+/// digests. Each entry has to have a link count where the options' format has one, and none else;
+/// entries and operands together have to be fewer than 2^32. The tree isn't copied.
 ///
-/// Where no two listings of directories have one digest, the labels at the end are those that the same versions leave with
-/// skipping off.
+/// Where no two listings of directories have one digest, the labels at the end are those that the
+/// same versions leave with skipping off.
 pub fn rehearse<'a>(
     alloc: Global,
     tree: &'a Tree,
@@ -172,12 +175,12 @@ pub fn rehearse<'a>(
     options: Options,
 ) -> Result<Rehearsed<'a>, OutOfMemory>
     requires chosen { chosen.now ≡ selected_by choice.now tree.now }
-    requires format { AreOf options.format tree.now }
+    requires format { AreOfFormat options.format tree.now }
     requires few { length tree.now + length choice.now.operands < 2 ^ 32 }
     requires wet { options.dry ≡ false }
     ensures told { IfOk result (λ told.
         rehearsed_lent told ≡ rehearsed tree.now choice.now options policies.now) }
-    ensures keeps { IfOk result (λ told. KeepsLabels tree.now
+    ensures keeps { IfOk result (λ told. RunsKeepLabels tree.now
         (runs_of choice.now options policies.now) (rehearsed_lent told).labels) }
 {
     let asked = Asked {

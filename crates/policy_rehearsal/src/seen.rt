@@ -6,7 +6,8 @@ ghost use Rattle.label_rules.specs.Verdicts.{verdict_of};
 ghost use Rattle.tree_model.specs.Groups.{group_of, groups_in};
 ghost use Rattle.relabel_core.specs.Answer.{walk_in};
 ghost use Rattle.relabel_core.specs.Changes.{change_at};
-ghost use Rattle.relabel_core.specs.Walk.{group_winner, is_at, is_changed_name, new_label, verdict, wanted};
+ghost use Rattle.relabel_core.specs.Walk.{group_winner, is_found_at, is_changed_name, new_label};
+ghost use Rattle.relabel_core.specs.Walk.{verdict, wanted};
 ghost use Rattle.policy_rehearsal.specs.Seen.{IsSeen, labels_listed, verdict_wanted, walk_seen};
 
 use crate::groups::{decide_lent, label_by};
@@ -16,8 +17,9 @@ use label_rules::{LabelAfter, Rules, Verdict, given_at, given_in};
 use relabel_core::Walked;
 use tree_model::Tree;
 
-/// A walk over a tree whose groups have other labels by now. What decides an entry, what is skipped and which digests are made
-/// anew depend on no label, so a walk over the tree as it was tells them.
+/// A walk over a tree whose groups have other labels by now. What decides an entry, what is skipped
+/// and which digests are made anew depend on no label, so a walk over the tree as it was tells
+/// them.
 #[derive(Clone, Copy)]
 pub struct Seen<'w, 'a> {
     pub tree: &'a Tree,
@@ -29,7 +31,7 @@ pub struct Seen<'w, 'a> {
 }
 
 fn is_at(found: Option<u32>, e: u32) -> bool
-    ensures { result ≡ is_at found e }
+    ensures { result ≡ is_found_at found e }
 {
     match found {
         None => false,

@@ -1,5 +1,5 @@
 ghost use Rattle.std.specs.Prelude.{◌<◌, ◌^◌, IfOk, length};
-ghost use Rattle.find_records.specs.Record.{AreOf};
+ghost use Rattle.find_records.specs.Record.{AreOfFormat};
 ghost use Rattle.find_records.specs.declared.format.Format.TheVariants.{One};
 
 use crate::{RehearseWords, read_rehearse, rehearse, text};
@@ -93,7 +93,7 @@ const DIGESTING: Options = Options {
 };
 
 fn tree(alloc: Global) -> Result<Tree, Fail>
-    ensures { IfOk result (λ tree. AreOf One tree) }
+    ensures { IfOk result (λ tree. AreOfFormat One tree) }
 {
     let mut source = MemSource::new(Bytes::copy_of(alloc, RECORDS)?, 100, Row::new(alloc));
     let limits = RecordLimits {
@@ -161,7 +161,7 @@ fn is_told(
     policies: &Row<Rules>,
     names: &Row<Name>,
 ) -> Result<bool, OutOfMemory>
-    requires { AreOf One tree.now }
+    requires { AreOfFormat One tree.now }
 {
     let entries = tree.len();
     let operands = choice.operands.len();

@@ -4,9 +4,10 @@ ghost use Rattle.file_paths.specs.PathRef.{path_of};
 ghost use Rattle.tree_model.specs.Extents.{entry_at};
 ghost use Rattle.context_syntax.specs.ContextRef.{context_lent};
 ghost use Rattle.report_text.specs.Message as value;
-ghost use Rattle.report_text.specs.Texts.{line_of, report_of};
+ghost use Rattle.report_text.specs.Texts.{message_line, report_of};
 ghost use Rattle.policy_rehearsal.specs.Lent.{change_lent, rehearsed_lent, turn_lent};
-ghost use Rattle.policy_rehearsal.specs.Text.{change_message, text_at, text_of, turn_head, turn_text};
+ghost use Rattle.policy_rehearsal.specs.Text.{change_message, text_at, rehearsal_text, turn_head};
+ghost use Rattle.policy_rehearsal.specs.Text.{turn_text};
 
 use crate::rehearsed::{Change, Rehearsed, Turn};
 use context_syntax::{ContextRef, Label};
@@ -78,7 +79,7 @@ fn add_change_from(
     text: &mut Bytes,
 ) -> Result<(), OutOfMemory>
     ensures { OnOk result (text.new ≡ text.old
-        ++ line_of (value.Relabel (path_of path.now) from.now (context_lent to.now) false)) }
+        ++ message_line (value.Relabel (path_of path.now) from.now (context_lent to.now) false)) }
 {
     let message = Message::Relabel {
         path: *path,
@@ -96,7 +97,7 @@ fn add_change(
     text: &mut Bytes,
 ) -> Result<(), OutOfMemory>
     ensures { OnOk result (text.new ≡ text.old
-        ++ line_of (change_message tree.now (change_lent change.now))) }
+        ++ message_line (change_message tree.now (change_lent change.now))) }
 {
     let path = path_at(tree, change.entry);
     match change.from {
@@ -164,7 +165,7 @@ pub fn add_text(
     text: &mut Bytes,
 ) -> Result<(), OutOfMemory>
     ensures { OnOk result (text.new ≡ text.old
-        ++ text_of tree.now names.now (rehearsed_lent rehearsed.now).turns) }
+        ++ rehearsal_text tree.now names.now (rehearsed_lent rehearsed.now).turns) }
 {
     let turns = &rehearsed.turns;
     'versions: for k in 0..turns.len() {
@@ -174,8 +175,9 @@ pub fn add_text(
     Ok(())
 }
 
-/// The text of a rehearsal: for each version its number, from 1 on, its name, and how many labels it changes and directories
-/// it skips; behind that a line for each change. A name that lacks is no bytes, and an entry beyond the tree has the path `/`.
+/// The text of a rehearsal: for each version its number, from 1 on, its name, and how many labels
+/// it changes and directories it skips; behind that a line for each change. A name that lacks is no
+/// bytes, and an entry beyond the tree has the path `/`.
 pub fn text(
     alloc: Global,
     tree: &Tree,
@@ -183,7 +185,7 @@ pub fn text(
     rehearsed: &Rehearsed<'_>,
 ) -> Result<Bytes, OutOfMemory>
     ensures { IfOk result (λ text. text
-        ≡ text_of tree.now names.now (rehearsed_lent rehearsed.now).turns) }
+        ≡ rehearsal_text tree.now names.now (rehearsed_lent rehearsed.now).turns) }
 {
     let mut text = Bytes::new(alloc);
     add_text(alloc, tree, names, rehearsed, &mut text)?;

@@ -1,4 +1,6 @@
-ghost use Rattle.std.specs.Prelude.{◌≡◌, ◌++◌, ◌&&◌, ℕ, ◌<◌, ◌≤◌, ◌+◌, ◌^◌, [], false, IfOk, OnOk, None, Some, get_or, if◌then◌else◌, is_some, length, map, option_map};
+ghost use Rattle.std.specs.Prelude.{◌≡◌, ◌++◌, ◌&&◌, ℕ, ◌<◌, ◌≤◌, ◌+◌, ◌^◌, [], false, IfOk, OnOk};
+ghost use Rattle.std.specs.Prelude.{None, Some, get_or, if◌then◌else◌, is_some, length, map};
+ghost use Rattle.std.specs.Prelude.{option_map};
 ghost use Rattle.std.specs.List.{cons_option};
 ghost use Rattle.std.specs.Option.{option_copied};
 ghost use Rattle.dir_digest.specs.Digest.{void_digest};
@@ -8,9 +10,10 @@ ghost use Rattle.tree_model.specs.Extents.{is_directory};
 ghost use Rattle.tree_model.specs.Groups.{groups_in};
 ghost use Rattle.relabel_core.specs.Answer.{walk_in};
 ghost use Rattle.relabel_core.specs.Changes.{change_at};
-ghost use Rattle.relabel_core.specs.Counts.{AreCounted};
+ghost use Rattle.relabel_core.specs.Counts.{AreWalkCounts};
 ghost use Rattle.relabel_core.specs.Stored.{digests_listed, digests_of};
-ghost use Rattle.relabel_core.specs.Walk.{count, digest_after, digests, has_changed_name, new_label};
+ghost use Rattle.relabel_core.specs.Walk.{walk_count, digest_after, digests, has_changed_name};
+ghost use Rattle.relabel_core.specs.Walk.{new_label};
 ghost use Rattle.policy_rehearsal.specs.Lent.{change_lent, turn_lent};
 ghost use Rattle.policy_rehearsal.specs.Rehearsal.{change_to, changes_in, skipped_in, turn_in};
 ghost use Rattle.policy_rehearsal.specs.Seen.{IsSeen, walk_seen};
@@ -103,11 +106,12 @@ pub fn labels_after<'a>(
     Ok(labels)
 }
 
-// For each entry, and for the end, how many entries before it are names of a group whose label changes.
+// For each entry, and for the end, how many entries before it are names of a group whose label
+// changes.
 fn count_changed(alloc: Global, seen: &Seen<'_, '_>) -> Result<Vec<u32>, OutOfMemory>
     requires { IsSeen seen.now }
     ensures { IfOk result (λ counts.
-        AreCounted (walk_seen seen.now) (length seen.now.tree.now) counts.items) }
+        AreWalkCounts (walk_seen seen.now) (length seen.now.tree.now) counts.items) }
 {
     let mut counts = Vec::with_capacity(alloc, seen.tree.len() as usize)?;
     let mut changed = 0;
@@ -130,7 +134,7 @@ fn count_at(counts: &[u32], i: u32) -> u32
 
 // Whether the label of an entry at or below another changes.
 fn does_rise(seen: &Seen<'_, '_>, counts: &[u32], d: u32) -> bool
-    requires counted { AreCounted (walk_seen seen.now) (length seen.now.tree.now) counts.now }
+    requires counted { AreWalkCounts (walk_seen seen.now) (length seen.now.tree.now) counts.now }
     requires seen { IsSeen seen.now }
     requires entry { d < length seen.now.tree.now }
     ensures { result ≡ has_changed_name (walk_seen seen.now) d }
@@ -174,7 +178,7 @@ fn digest_at(
     counts: &[u32],
     d: u32,
 ) -> Result<Option<Bytes>, OutOfMemory>
-    requires counted { AreCounted (walk_seen seen.now) (length seen.now.tree.now) counts.now }
+    requires counted { AreWalkCounts (walk_seen seen.now) (length seen.now.tree.now) counts.now }
     requires seen { IsSeen seen.now }
     requires entry { d < length seen.now.tree.now }
     requires stored { (walk_in seen.now.walked.now).stored ≡ digests_of stored.now }

@@ -1,7 +1,9 @@
 ghost use Rattle.std.specs.Prelude.{◌≡◌, ◌<◌, ◌≤◌, ◌+◌, ◌^◌, IfOk, false, length};
-ghost use Rattle.label_base.specs.Answers.{Answers, cause_of};
+ghost use Rattle.label_base.specs.Answers.{Answers, fault_cause};
 ghost use Rattle.tool_words.specs.Words.{operand_paths, values_of, word_texts};
-ghost use Rattle.policy_rehearsal.specs.Words.{AreFew, asked_by, asked_in, choice_of, end_wrong, format_of, options_of, rehearse_words};
+ghost use Rattle.policy_rehearsal.specs.Words.{AreFew, rehearse_words_by, rehearse_words_in};
+ghost use Rattle.policy_rehearsal.specs.Words.{rehearse_choice, rehearse_end_wrong};
+ghost use Rattle.policy_rehearsal.specs.Words.{rehearse_format, rehearse_options, rehearse_words};
 
 use crate::letters::{
     BASE, DIGESTS, EXCLUDED, FORCE, IGNORE_ABSENT, IGNORE_DIGESTS, LINK_COUNTS, MOST_POLICIES,
@@ -42,7 +44,7 @@ impl Drop for RehearseWords {
 
 // The format of the records.
 fn format_of(items: &[Item<'_>]) -> Format
-    ensures { result ≡ format_of items.now }
+    ensures { result ≡ rehearse_format items.now }
 {
     if has_flag(LINK_COUNTS, items) {
         Format::Two
@@ -52,7 +54,7 @@ fn format_of(items: &[Item<'_>]) -> Format
 }
 
 fn options_of(items: &[Item<'_>]) -> Options
-    ensures { result ≡ options_of items.now }
+    ensures { result ≡ rehearse_options items.now }
 {
     Options {
         force: has_flag(FORCE, items),
@@ -68,7 +70,7 @@ fn options_of(items: &[Item<'_>]) -> Options
 }
 
 fn choice_of(alloc: Global, items: &[Item<'_>]) -> Result<Choice, OutOfMemory>
-    ensures { IfOk result (λ choice. choice ≡ choice_of items.now) }
+    ensures { IfOk result (λ choice. choice ≡ rehearse_choice items.now) }
 {
     Ok(Choice {
         operands: operands(alloc, items)?,
@@ -80,7 +82,7 @@ fn choice_of(alloc: Global, items: &[Item<'_>]) -> Result<Choice, OutOfMemory>
 
 // What the words ask for, where nothing is wrong with them.
 fn asked_by(alloc: Global, items: &[Item<'_>]) -> Result<RehearseWords, OutOfMemory>
-    ensures { IfOk result (λ words. words ≡ asked_by items.now) }
+    ensures { IfOk result (λ words. words ≡ rehearse_words_by items.now) }
 {
     Ok(RehearseWords {
         bases: names_of(alloc, BASE, items)?,
@@ -91,7 +93,7 @@ fn asked_by(alloc: Global, items: &[Item<'_>]) -> Result<RehearseWords, OutOfMem
 
 // What is missing at the end of the words, whose number this is.
 fn end_wrong(items: &[Item<'_>], count: u32) -> Option<Usage>
-    ensures { result ≡ end_wrong items.now count }
+    ensures { result ≡ rehearse_end_wrong items.now count }
 {
     if has_value(BASE, items) && has_operand(items) {
         return None;
@@ -104,7 +106,7 @@ fn end_wrong(items: &[Item<'_>], count: u32) -> Option<Usage>
 
 // What words ask for that say this.
 fn asked_in(alloc: Global, items: &[Item<'_>], count: u32) -> Result<RehearseWords, Fault<Usage>>
-    ensures meant { Answers (λ words. words) cause_of result (asked_in items.now count) }
+    ensures meant { Answers (λ words. words) fault_cause result (rehearse_words_in items.now count) }
     ensures policies { IfOk result (λ words. words.bases ≡ values_of BASE items.now) }
     ensures operands { IfOk result (λ words.
         words.choice.operands ≡ operand_paths items.now) }
@@ -126,7 +128,7 @@ pub fn read_rehearse(
     first: u32,
 ) -> Result<RehearseWords, Fault<Usage>>
     requires { length words.now + first < 2 ^ 31 }
-    ensures meant { Answers (λ words. words) cause_of result
+    ensures meant { Answers (λ words. words) fault_cause result
         (rehearse_words first (word_texts words.now)) }
     ensures few { IfOk result AreFew }
 {

@@ -1,5 +1,6 @@
 -- Which labels and digests change, and how that is told.
-use Rattle.std.proofs.Common.{◌≡◌, ◌∙◌, sym, refl, ap, ap₂, ℕ, Bool, true, false, ◌&&◌, not, List, [], ◌∷◌, ◌++◌, Option, Some, None, inl, inr, if◌then◌else◌}
+use Rattle.std.proofs.Common.{◌≡◌, ◌∙◌, sym, refl, ap, ap₂, ℕ, Bool, true, false, ◌&&◌, not, List}
+use Rattle.std.proofs.Common.{[], ◌∷◌, ◌++◌, Option, Some, None, inl, inr, if◌then◌else◌}
 use Rattle.std.specs.Prelude.{is_some, option_and_then}
 use Rattle.std.proofs.lemmas.Bool.{cases_Bool, cond_both}
 use Rattle.std.proofs.lemmas.Slice.Eq.{bytes_eq-Decides}
@@ -11,15 +12,21 @@ use Rattle.context_syntax.specs.Context.{ContextValue, same_context, same_option
 use Rattle.context_syntax.specs.Equal.{context_decides, never}
 use Rattle.context_syntax.specs.Label.{same_label}
 use Rattle.context_syntax.specs.LabelEqual.{label_decides}
-use Rattle.context_syntax.specs.TypeNames.{NameSet, has_name}
+use Rattle.context_syntax.specs.TypeNames.{NameSet, set_has_name}
 use Rattle.context_syntax.specs.declared.label.Label.{Label}
 use Rattle.context_syntax.specs.declared.label.Label.TheVariants.{Absent, Odd, Is}
 use Rattle.tree_model.specs.Groups.{group_of, label_in}
-use Rattle.relabel_core.specs.Changes.{change_at, digest_attr, digest_attrs, digest_bytes, digest_changes, given_attrs, digest_change, group_change, is_void, label_attr, label_attrs, label_bytes, renewed_attrs, section_at, section_by, section_with, unless_stored}
-use Rattle.label_rules.specs.Decide.{given_in, VerdictValue, Keep, Customized, Change, label_by, verdict_for, verdict_on}
+use Rattle.relabel_core.specs.Changes.{change_at, digest_attr, digest_attrs, digest_bytes}
+use Rattle.relabel_core.specs.Changes.{digest_changes, given_attrs, digest_change, group_change}
+use Rattle.relabel_core.specs.Changes.{is_void, label_attr, label_attrs, label_bytes, renewed_attrs}
+use Rattle.relabel_core.specs.Changes.{section_at, section_by, section_with, unless_stored}
+use Rattle.label_rules.specs.Decide.{given_in, VerdictValue, Keep, Customized, Change, label_by}
+use Rattle.label_rules.specs.Decide.{verdict_for, verdict_on}
 use Rattle.relabel_core.specs.DigestAfter.{digest_told, void_if}
 use Rattle.relabel_core.specs.Passed.{renewal}
-use Rattle.relabel_core.specs.Walk.{Walk, digest_after, digest_now, group_winner, is_at, is_changed_name, is_outdated, is_renewed, label_after, new_label_with, path_at, verdict_where, verdict_with, wanted}
+use Rattle.relabel_core.specs.Walk.{Walk, digest_after, digest_now, group_winner, is_found_at}
+use Rattle.relabel_core.specs.Walk.{is_changed_name, is_outdated, is_renewed, label_after}
+use Rattle.relabel_core.specs.Walk.{new_label_with, path_at, verdict_where, verdict_with, wanted}
 
 -- ---- a verdict changes a label just where another one is left
 
@@ -29,14 +36,18 @@ same_self label = ap not ((label_decides label label).1 refl)
 other_context : (a b : ContextValue) → same_context a b ≡ false → same_context b a ≡ false
 other_context a b h =
     elim (cases_Bool (same_context b a)) [
-      | inl same ↦ absurd (never (sym h ∙ (context_decides a b).1 (sym ((context_decides b a).0 same))))
+      | inl same ↦ absurd
+          (never (sym h ∙ (context_decides a b).1 (sym ((context_decides b a).0 same))))
       | inr differ ↦ differ
     ]
 
-other_kind : (a b : ContextValue) → same_bytes a.kind b.kind ≡ false → same_context (with_kind_of a b) a ≡ false
+other_kind : (a b : ContextValue) → same_bytes a.kind b.kind ≡ false
+    → same_context (with_kind_of a b) a ≡ false
 other_kind a b h =
     elim (cases_Bool (same_context (with_kind_of a b) a)) [
-      | inl same ↦ absurd (never (sym h ∙ (bytes_eq-Decides a.kind b.kind).1 (sym (ap (λ c. c.kind) ((context_decides (with_kind_of a b) a).0 same)))))
+      | inl same ↦ absurd
+          (never (sym h ∙ (bytes_eq-Decides a.kind b.kind).1
+          (sym (ap (λ c. c.kind) ((context_decides (with_kind_of a b) a).0 same)))))
       | inr differ ↦ differ
     ]
 
@@ -50,75 +61,96 @@ keep_tells label = sym (same_self label)
 customized_tells : (label : Label) → Tells label Customized
 customized_tells label = sym (same_self label)
 
-on_tells : (force : Bool) (types : NameSet) (c w : ContextValue) → Tells (Is c) (verdict_on force types c w)
+on_tells : (force : Bool) (types : NameSet) (c w : ContextValue)
+    → Tells (Is c) (verdict_on force types c w)
 on_tells true types c w =
-    cond_both (same_context c w) Keep (Change w) (Tells (Is c)) (λ h. keep_tells (Is c)) (λ h. sym (ap not (other_context c w h)))
+    cond_both (same_context c w) Keep (Change w) (Tells (Is c)) (λ h. keep_tells (Is c))
+    (λ h. sym (ap not (other_context c w h)))
 on_tells false types c w =
-    cond_both (same_bytes c.kind w.kind) Keep (if has_name types c.kind then Customized else Change (with_kind_of c w)) (Tells (Is c))
+    cond_both (same_bytes c.kind w.kind) Keep
+    (if set_has_name types c.kind then Customized else Change (with_kind_of c w)) (Tells (Is c))
     (λ h. keep_tells (Is c))
-    (λ h. cond_both (has_name types c.kind) Customized (Change (with_kind_of c w)) (Tells (Is c)) (λ _. customized_tells (Is c))
+    (λ h. cond_both (set_has_name types c.kind) Customized (Change (with_kind_of c w))
+    (Tells (Is c)) (λ _. customized_tells (Is c))
     (λ _. sym (ap not (other_kind c w h))))
 
-for_tells : (label : Label) (w : ContextValue) (force : Bool) (types : NameSet) → Tells label (verdict_for label w force types)
+for_tells : (label : Label) (w : ContextValue) (force : Bool) (types : NameSet)
+    → Tells label (verdict_for label w force types)
 for_tells Absent w force types = refl
 for_tells (Odd bytes) w force types = refl
 for_tells (Is c) w force types = on_tells force types c w
 
-where_tells : (w : Walk) (g : ℕ) (context : Option ContextValue) → Tells (label_in w.entries g) (verdict_where w g context)
+where_tells : (w : Walk) (g : ℕ) (context : Option ContextValue)
+    → Tells (label_in w.entries g) (verdict_where w g context)
 where_tells w g None = keep_tells (label_in w.entries g)
-where_tells w g (Some context) = for_tells (label_in w.entries g) context w.options.force w.rules.types
+where_tells w g (Some context) = for_tells (label_in w.entries g) context w.options.force
+    w.rules.types
 
-with_tells : (w : Walk) (g : ℕ) (found : Option ℕ) → Tells (label_in w.entries g) (verdict_with w g found)
+with_tells : (w : Walk) (g : ℕ) (found : Option ℕ)
+    → Tells (label_in w.entries g) (verdict_with w g found)
 with_tells w g found = where_tells w g (option_and_then (wanted w) found)
 
 -- with -n no verdict counts
 if_not_dry : (dry : Bool) (label : Label) (verdict : VerdictValue) → Tells label verdict
-    → is_some (if dry then None else given_in verdict) ≡ not (same_label (if dry then label else label_by verdict label) label)
+    → is_some (if dry then None else given_in verdict)
+    ≡ not (same_label (if dry then label else label_by verdict label) label)
 if_not_dry true label verdict tells = sym (same_self label)
 if_not_dry false label verdict tells = tells
 
 group_changes : (w : Walk) (g : ℕ) (found : Option ℕ)
-    → is_some (group_change w g found) ≡ not (same_label (new_label_with w g found) (label_in w.entries g))
-group_changes w g found = if_not_dry w.options.dry (label_in w.entries g) (verdict_with w g found) (with_tells w g found)
+    → is_some (group_change w g found)
+    ≡ not (same_label (new_label_with w g found) (label_in w.entries g))
+group_changes w g found = if_not_dry w.options.dry (label_in w.entries g) (verdict_with w g found)
+    (with_tells w g found)
 
-pub changed_name_is : (w : Walk) (e : ℕ) → is_some (group_change w (group_of w.entries e) (group_winner w e)) ≡ is_changed_name w e
+pub changed_name_is : (w : Walk) (e : ℕ)
+    → is_some (group_change w (group_of w.entries e) (group_winner w e)) ≡ is_changed_name w e
 changed_name_is w e = group_changes w (group_of w.entries e) (group_winner w e)
 
 -- ---- the attribute of a label
 
-if_true : (b : Bool) (label : Label) → b ≡ true → (if b then label_attr (label_bytes label) ∷ [] else []) ≡ label_attr (label_bytes label) ∷ []
+if_true : (b : Bool) (label : Label) → b ≡ true
+    → (if b then label_attr (label_bytes label) ∷ [] else []) ≡ label_attr (label_bytes label) ∷ []
 if_true true label h = refl
 if_true false label h = absurd cc
 
-if_false : (b : Bool) (label : Label) → b ≡ false → (if b then label_attr (label_bytes label) ∷ [] else []) ≡ []
+if_false : (b : Bool) (label : Label) → b ≡ false
+    → (if b then label_attr (label_bytes label) ∷ [] else []) ≡ []
 if_false false label h = refl
 if_false true label h = absurd cc
 
 verdict_attrs : (label : Label) (verdict : VerdictValue) → Tells label verdict
-    → (if not (same_label (label_by verdict label) label) then label_attr (label_bytes (label_by verdict label)) ∷ [] else []) ≡ given_attrs (given_in verdict)
+    → (if not (same_label (label_by verdict label) label) then label_attr
+    (label_bytes (label_by verdict label)) ∷ [] else []) ≡ given_attrs (given_in verdict)
 verdict_attrs label Keep tells = if_false (not (same_label label label)) label (sym tells)
 verdict_attrs label Customized tells = if_false (not (same_label label label)) label (sym tells)
-verdict_attrs label (Change context) tells = if_true (not (same_label (Is context) label)) (Is context) (sym tells)
+verdict_attrs label (Change context) tells = if_true (not (same_label (Is context) label))
+    (Is context) (sym tells)
 
 dry_attrs : (dry : Bool) (label : Label) (verdict : VerdictValue) → Tells label verdict
-    → (if not (same_label (if dry then label else label_by verdict label) label) then label_attr (label_bytes (if dry then label else label_by verdict label)) ∷ [] else [])
+    → (if not (same_label (if dry then label else label_by verdict label) label) then label_attr
+    (label_bytes (if dry then label else label_by verdict label)) ∷ [] else [])
     ≡ given_attrs (if dry then None else given_in verdict)
 dry_attrs true label verdict tells = if_false (not (same_label label label)) label (same_self label)
 dry_attrs false label verdict tells = verdict_attrs label verdict tells
 
 winner_attrs : (here : Bool) (new label : Label) (change : Option ContextValue)
-    → (if not (same_label new label) then label_attr (label_bytes new) ∷ [] else []) ≡ given_attrs change
-    → (if not (same_label (if here then new else label) label) then label_attr (label_bytes (if here then new else label)) ∷ [] else [])
+    → (if not (same_label new label) then label_attr (label_bytes new) ∷ [] else []) ≡ given_attrs
+    change
+    → (if not (same_label (if here then new else label) label) then label_attr
+    (label_bytes (if here then new else label)) ∷ [] else [])
     ≡ given_attrs (if here then change else None)
 winner_attrs true new label change h = h
-winner_attrs false new label change h = if_false (not (same_label label label)) label (same_self label)
+winner_attrs false new label change h = if_false (not (same_label label label)) label
+    (same_self label)
 
 pub label_attrs_are : (w : Walk) (e : ℕ) → label_attrs w e ≡ given_attrs (change_at w e)
 unfolding label_after change_at
 label_attrs_are w e =
     let g = group_of w.entries e in
     let found = group_winner w e in
-    winner_attrs (is_at found e) (new_label_with w g found) (label_in w.entries g) (group_change w g found)
+    winner_attrs (is_found_at found e) (new_label_with w g found) (label_in w.entries g)
+    (group_change w g found)
     (dry_attrs w.options.dry (label_in w.entries g) (verdict_with w g found) (with_tells w g found))
 
 -- ---- digests
@@ -128,48 +160,62 @@ renewed_or (Some digest) other = Some digest
 renewed_or None other = other
 
 after_if : (dry renewed outdated : Bool) (digest : List ℕ) (stored : Option (List ℕ))
-    → (if dry then stored else if renewed then Some digest else if outdated then Some void_digest else stored)
-    ≡ renewed_or (if not dry && renewed then Some digest else None) (if not dry && outdated then Some void_digest else stored)
+    → (if dry then stored else if renewed then Some digest else if outdated then Some
+    void_digest else stored)
+    ≡ renewed_or (if not dry && renewed then Some digest else None)
+    (if not dry && outdated then Some void_digest else stored)
 unfolding renewed_or
 after_if true renewed outdated digest stored = refl
 after_if false true outdated digest stored = refl
 after_if false false true digest stored = refl
 after_if false false false digest stored = refl
 
-after_is : (w : Walk) (d : ℕ) → digest_after w d ≡ renewed_or (renewal w d) (if is_void w d then Some void_digest else w.stored d)
+after_is : (w : Walk) (d : ℕ) → digest_after w d ≡ renewed_or (renewal w d)
+    (if is_void w d then Some void_digest else w.stored d)
 unfolding digest_after
-after_is w d = after_if w.options.dry (is_renewed w d) (is_outdated w d) (digest_now w d) (w.stored d)
+after_is w d = after_if w.options.dry (is_renewed w d) (is_outdated w d) (digest_now w d)
+    (w.stored d)
 
-pub after_renewed : (w : Walk) (d : ℕ) (digest : List ℕ) → renewal w d ≡ Some digest → digest_after w d ≡ Some digest
+pub after_renewed : (w : Walk) (d : ℕ) (digest : List ℕ) → renewal w d ≡ Some digest
+    → digest_after w d ≡ Some digest
 unfolding renewed_or
-after_renewed w d digest h = after_is w d ∙ ap (λ o. renewed_or o (if is_void w d then Some void_digest else w.stored d)) h
+after_renewed w d digest h = after_is w d
+    ∙ ap (λ o. renewed_or o (if is_void w d then Some void_digest else w.stored d)) h
 
-pub after_other : (w : Walk) (d : ℕ) → renewal w d ≡ None → digest_after w d ≡ (if is_void w d then Some void_digest else w.stored d)
+pub after_other : (w : Walk) (d : ℕ) → renewal w d ≡ None
+    → digest_after w d ≡ (if is_void w d then Some void_digest else w.stored d)
 unfolding renewed_or
-after_other w d h = after_is w d ∙ ap (λ o. renewed_or o (if is_void w d then Some void_digest else w.stored d)) h
+after_other w d h = after_is w d
+    ∙ ap (λ o. renewed_or o (if is_void w d then Some void_digest else w.stored d)) h
 
-pub told_void : (b : Bool) (stored : Option (List ℕ)) → digest_told (void_if b) stored ≡ (if b then Some void_digest else stored)
+pub told_void : (b : Bool) (stored : Option (List ℕ)) → digest_told (void_if b) stored
+    ≡ (if b then Some void_digest else stored)
 told_void true stored = refl
 told_void false stored = refl
 
 -- ---- the digest that an entry's changes to
 
-unless : (b : Bool) (digest : List ℕ) → (if not b then Some digest else None) ≡ (if b then None else Some digest)
+unless : (b : Bool) (digest : List ℕ) → (if not b then Some digest else None)
+    ≡ (if b then None else Some digest)
 unless true digest = refl
 unless false digest = refl
 
-pub change_renewed : (w : Walk) (d : ℕ) (digest : List ℕ) → renewal w d ≡ Some digest → digest_change w d ≡ unless_stored digest (w.stored d)
+pub change_renewed : (w : Walk) (d : ℕ) (digest : List ℕ) → renewal w d ≡ Some digest
+    → digest_change w d ≡ unless_stored digest (w.stored d)
 change_renewed w d digest h =
-    ap (λ after. if not (same_option after (w.stored d)) then after else None) (after_renewed w d digest h)
+    ap (λ after. if not (same_option after (w.stored d)) then after else None)
+    (after_renewed w d digest h)
     ∙ unless (same_option (Some digest) (w.stored d)) digest
 
-pub change_void : (w : Walk) (d : ℕ) → renewal w d ≡ None → is_void w d ≡ true → digest_change w d ≡ unless_stored void_digest (w.stored d)
+pub change_void : (w : Walk) (d : ℕ) → renewal w d ≡ None → is_void w d ≡ true
+    → digest_change w d ≡ unless_stored void_digest (w.stored d)
 change_void w d h v =
     ap (λ after. if not (same_option after (w.stored d)) then after else None)
     (after_other w d h ∙ ap (λ b. if b then Some void_digest else w.stored d) v)
     ∙ unless (same_option (Some void_digest) (w.stored d)) void_digest
 
-pub change_none : (w : Walk) (d : ℕ) → renewal w d ≡ None → is_void w d ≡ false → digest_change w d ≡ None
+pub change_none : (w : Walk) (d : ℕ) → renewal w d ≡ None → is_void w d ≡ false
+    → digest_change w d ≡ None
 change_none w d h v =
     ap (λ after. if not (same_option after (w.stored d)) then after else None)
     (after_other w d h ∙ ap (λ b. if b then Some void_digest else w.stored d) v)
@@ -178,7 +224,8 @@ change_none w d h v =
 -- ---- the attribute of a digest
 
 stored_none : (dry renewed outdated : Bool) (digest : List ℕ) (stored : Option (List ℕ))
-    → (if dry then stored else if renewed then Some digest else if outdated then Some void_digest else stored) ≡ None → stored ≡ None
+    → (if dry then stored else if renewed then Some digest else if outdated then Some
+    void_digest else stored) ≡ None → stored ≡ None
 stored_none true renewed outdated digest stored h = h
 stored_none false true outdated digest stored h = absurd cc
 stored_none false false true digest stored h = absurd cc
@@ -191,7 +238,8 @@ none_stays w d h =
     ap₂ (λ after stored. not (same_option after stored)) h
     (stored_none w.options.dry (is_renewed w d) (is_outdated w d) (digest_now w d) (w.stored d) h)
 
-is_some_if : (b : Bool) (after : Option (List ℕ)) → (after ≡ None → b ≡ false) → is_some (if b then after else None) ≡ b
+is_some_if : (b : Bool) (after : Option (List ℕ)) → (after ≡ None → b ≡ false)
+    → is_some (if b then after else None) ≡ b
 is_some_if false after h = refl
 is_some_if true (Some digest) h = refl
 is_some_if true None h = sym (h refl)
@@ -200,7 +248,8 @@ pub change_told : (w : Walk) (d : ℕ) → is_some (digest_change w d) ≡ diges
 change_told w d = is_some_if (digest_changes w d) (digest_after w d) (none_stays w d)
 
 attrs_if : (b : Bool) (after : Option (List ℕ)) → (after ≡ None → b ≡ false)
-    → (if b then digest_attr (digest_bytes after) ∷ [] else []) ≡ renewed_attrs (if b then after else None)
+    → (if b then digest_attr (digest_bytes after) ∷ [] else []) ≡ renewed_attrs
+    (if b then after else None)
 attrs_if false after h = refl
 attrs_if true (Some digest) h = refl
 attrs_if true None h = (let e = h refl in absurd cc)
@@ -208,11 +257,15 @@ attrs_if true None h = (let e = h refl in absurd cc)
 digest_attrs_are : (w : Walk) (e : ℕ) → digest_attrs w e ≡ renewed_attrs (digest_change w e)
 digest_attrs_are w e = attrs_if (digest_changes w e) (digest_after w e) (none_stays w e)
 
-section_is : (w : Walk) (e : ℕ) → section_at w e ≡ section_by (path_at w e) (change_at w e) (digest_change w e)
+section_is : (w : Walk) (e : ℕ) → section_at w e ≡ section_by (path_at w e) (change_at w e)
+    (digest_change w e)
 unfolding section_at
-section_is w e = ap₂ (λ xs ys. section_with (path_at w e) (xs ++ ys)) (label_attrs_are w e) (digest_attrs_are w e)
+section_is w e = ap₂ (λ xs ys. section_with (path_at w e) (xs ++ ys)) (label_attrs_are w e)
+    (digest_attrs_are w e)
 
-pub section_told : (w : Walk) (e : ℕ) (path : Path) (change : Option ContextValue) (digest : Option (List ℕ)) → path ≡ path_at w e → change ≡ change_at w e
+pub section_told : (w : Walk) (e : ℕ) (path : Path) (change : Option ContextValue)
+    (digest : Option (List ℕ)) → path ≡ path_at w e → change ≡ change_at w e
     → digest ≡ digest_change w e → section_by path change digest ≡ section_at w e
 section_told w e path change digest p q r =
-    ap₂ (λ at given. section_by at given digest) p q ∙ ap (λ b. section_by (path_at w e) (change_at w e) b) r ∙ sym (section_is w e)
+    ap₂ (λ at given. section_by at given digest) p q
+    ∙ ap (λ b. section_by (path_at w e) (change_at w e) b) r ∙ sym (section_is w e)

@@ -21,11 +21,31 @@ pub stored_sync : IsSync Stored.the_row
 stored_sync = search (sendable, crosses, bytes_sync, BTreeMap-sync) depth 60
 
 pub input_sync : (κ : NamedLft) → IsSync (WalkInput.the_row κ)
-input_sync κ = search (sendable, crosses, row_sync, path_sync, tree_sync, selected_sync, rules_sync, stored_sync) depth 60
+input_sync κ =
+    search (
+      sendable,
+      crosses,
+      row_sync,
+      path_sync,
+      tree_sync,
+      selected_sync,
+      rules_sync,
+      stored_sync,
+    ) depth 60
 
 -- a field's row is that of the field, where its type is an enum, is copied or has a drop of its own
 input_field : (κ : NamedLft) → IsSync (WalkInput.the_field κ).row
-input_field κ = search (sendable, crosses, row_sync, path_sync, tree_sync, selected_sync, rules_sync, stored_sync) depth 60
+input_field κ =
+    search (
+      sendable,
+      crosses,
+      row_sync,
+      path_sync,
+      tree_sync,
+      selected_sync,
+      rules_sync,
+      stored_sync,
+    ) depth 60
 
 noted_field : IsSync (Noted.the_field).row
 noted_field = search (sendable, crosses) depth 40
@@ -37,7 +57,8 @@ passed_field : IsSync (Passed.the_field).row
 passed_field = search (sendable, crosses, skip_field, BTreeMap-sync) depth 60
 
 walked_fields : (κ : NamedLft) → IsSync (Struct (shape (Walked.the_type κ)))
-walked_fields κ = struct_sync (shape (Walked.the_type κ)) (input_field κ, (noted_field, (passed_field, tt)))
+walked_fields κ =
+    struct_sync (shape (Walked.the_type κ)) (input_field κ, (noted_field, (passed_field, tt)))
 
 pub walked_sync : (κ : NamedLft) → IsSync (Walked.the_row κ)
 walked_sync κ = search (sendable, walked_fields) depth 20

@@ -1,5 +1,6 @@
 -- What a walk changes, as a dump of attributes.
-use Rattle.std.specs.Prelude.{ℕ, Bool, true, not, ◌&&◌, List, [], ◌∷◌, ◌++◌, Option, Some, None, is_some, option_and_then, if◌then◌else◌}
+use Rattle.std.specs.Prelude.{ℕ, Bool, true, not, ◌&&◌, List, [], ◌∷◌, ◌++◌, Option, Some, None}
+use Rattle.std.specs.Prelude.{is_some, option_and_then, if◌then◌else◌}
 use Rattle.std.specs.List.{filter_map}
 use Rattle.label_base.specs.Bounded.{all_numbers}
 use Rattle.file_paths.specs.Path.{Path}
@@ -13,7 +14,8 @@ use Rattle.setfattr_dump.specs.declared.dump.Section.{Section}
 use Rattle.setfattr_dump.specs.declared.marks.TheConstants.{DIGEST_KEY, LABEL_KEY}
 use Rattle.tree_model.specs.Groups.{group_of, label_in}
 use Rattle.label_rules.specs.Decide.{given_in}
-use Rattle.relabel_core.specs.Walk.{Walk, count, digest_after, group_winner, is_at, is_outdated, label_after, path_at, verdict_where, wanted}
+use Rattle.relabel_core.specs.Walk.{Walk, walk_count, digest_after, group_winner, is_found_at}
+use Rattle.relabel_core.specs.Walk.{is_outdated, label_after, path_at, verdict_where, wanted}
 
 -- ---- labels and digests that change
 
@@ -69,7 +71,7 @@ section_at w e = section_with (path_at w e) (label_attrs w e ++ digest_attrs w e
 
 -- the sections of all entries that change, in the order of the entries
 abbrev pub changes : Walk → List Section
-changes w = filter_map (section_at w) (all_numbers (count w))
+changes w = filter_map (section_at w) (all_numbers (walk_count w))
 
 -- ---- how it is computed
 
@@ -95,7 +97,8 @@ group_change w g found = context_change w g (option_and_then (wanted w) found)
 
 -- the context that the label of an entry changes to, by the winner of its group
 abbrev pub change_with : Walk → ℕ → Option ℕ → Option ContextValue
-change_with w e found = if is_at found e then group_change w (group_of w.entries e) found else None
+change_with w e found = if is_found_at found e then group_change w (group_of w.entries e)
+    found else None
 
 unfoldable pub change_at : Walk → ℕ → Option ContextValue
 change_at w e = change_with w e (group_winner w e)

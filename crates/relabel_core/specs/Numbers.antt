@@ -1,5 +1,6 @@
 -- Rows of numbers, in which a place may have none.
-use Rattle.std.specs.Prelude.{◌≡◌, ◌≢◌, ℕ, ◌<◌, Bool, true, false, List, length, get_or, set, Option, Some, None, is_none, nat_lt, ◌==◌, ◌&&◌, if◌then◌else◌}
+use Rattle.std.specs.Prelude.{◌≡◌, ◌≢◌, ℕ, ◌<◌, Bool, true, false, List, length, get_or, set}
+use Rattle.std.specs.Prelude.{Option, Some, None, is_none, nat_lt, ◌==◌, ◌&&◌, if◌then◌else◌}
 use Rattle.relabel_core.specs.declared.numbers.TheConstants.{NONE}
 
 abbrev pub as_found : ℕ → Option ℕ
@@ -9,9 +10,9 @@ as_found number = if number == NONE then None else Some number
 abbrev pub found_in : List ℕ → ℕ → Option ℕ
 found_in numbers i = as_found (get_or numbers i NONE)
 
-abbrev pub number_of : Option ℕ → ℕ
-number_of None = NONE
-number_of (Some number) = number
+abbrev pub found_number : Option ℕ → ℕ
+found_number None = NONE
+found_number (Some number) = number
 
 -- a number put at an index where none is
 abbrev pub entered_at : List ℕ → ℕ → ℕ → List ℕ
@@ -30,7 +31,7 @@ abbrev pub put_at : {A : Type 0} → List A → ℕ → A → List A
 put_at items i item = if nat_lt i (length items) then set items i item else items
 
 -- a number, or none, put at an index where there is room
-pub record IsPut (old new : List ℕ) (i : ℕ) (found : Option ℕ) : Type 0 where
+pub record IsNumberPut (old new : List ℕ) (i : ℕ) (found : Option ℕ) : Type 0 where
   pub room : length new ≡ length old
   pub here : i < length old → found_in new i ≡ found
   pub others : (k : ℕ) → k ≢ i → found_in new k ≡ found_in old k

@@ -1,10 +1,11 @@
 -- One pass over the entries with a table of the groups' winners, as a program goes about it.
-use Rattle.std.specs.Prelude.{ℕ, zero, suc, List, [], ◌∷◌, ◌++◌, ◌==◌, Option, Some, None, is_some, if◌then◌else◌}
+use Rattle.std.specs.Prelude.{ℕ, zero, suc, List, [], ◌∷◌, ◌++◌, ◌==◌, Option, Some, None, is_some}
+use Rattle.std.specs.Prelude.{if◌then◌else◌}
 use Rattle.std.specs.List.{cons_option}
 use Rattle.context_syntax.specs.declared.label.Label.{Label}
 use Rattle.tree_model.specs.Groups.{group_of}
 use Rattle.report_text.specs.Message.{MessageValue}
-use Rattle.relabel_core.specs.Walk.{Walk, count, label_with, line_with, wanted}
+use Rattle.relabel_core.specs.Walk.{Walk, walk_count, label_with, line_with, wanted}
 
 -- the winner of each group that has one so far
 abbrev pub Table : Type 0
@@ -13,17 +14,18 @@ Table = ℕ → Option ℕ
 abbrev pub no_winners : Table
 no_winners = λ g. None
 
-abbrev pub first_of : Option ℕ → ℕ → Option ℕ
-first_of None e = Some e
-first_of (Some k) e = Some k
+abbrev pub first_entered : Option ℕ → ℕ → Option ℕ
+first_entered None e = Some e
+first_entered (Some k) e = Some k
 
 -- the entry enters at the group, where nothing is there yet
-abbrev pub put : Table → ℕ → ℕ → Table
-put table group e = λ g. if group == g then first_of (table g) e else table g
+abbrev pub table_put : Table → ℕ → ℕ → Table
+table_put table group e = λ g. if group == g then first_entered (table g) e else table g
 
 -- an entry for which a context is decided enters at its group
-abbrev pub entered : Walk → Table → ℕ → Table
-entered w table e = if is_some (wanted w e) then put table (group_of w.entries e) e else table
+abbrev pub table_entered : Walk → Table → ℕ → Table
+table_entered w table e = if is_some (wanted w e) then table_put table (group_of w.entries e)
+    e else table
 
 -- what a pass has made so far
 pub record Made : Type 0 where
@@ -42,8 +44,8 @@ made_with w e winners made = record {
 -- what a pass over the entries below n makes
 abbrev pub pass : Walk → ℕ → Made
 pass w zero = record { winners = no_winners; labels = []; lines = [] }
-pass w (suc n) = made_with w n (entered w (pass w n).winners n) (pass w n)
+pass w (suc n) = made_with w n (table_entered w (pass w n).winners n) (pass w n)
 
 -- what one pass over all entries makes
 abbrev pub one_pass : Walk → Made
-one_pass w = pass w (count w)
+one_pass w = pass w (walk_count w)

@@ -1,11 +1,13 @@
 -- Which entries a walk skips, and which digests it makes, directory by directory.
-use Rattle.std.specs.Prelude.{◌≡◌, ℕ, ◌<◌, ◌≤◌, Bool, true, false, not, ◌&&◌, ◌||◌, nat_lt, List, length, get_or, Option, Some, None, is_some, if◌then◌else◌}
+use Rattle.std.specs.Prelude.{◌≡◌, ℕ, ◌<◌, ◌≤◌, Bool, true, false, not, ◌&&◌, ◌||◌, nat_lt, List}
+use Rattle.std.specs.Prelude.{length, get_or, Option, Some, None, is_some, if◌then◌else◌}
 use Rattle.std.specs.BTreeMap.{BTreeMap}
 use Rattle.label_base.specs.Bounded.{any_below}
 use Rattle.tree_model.specs.Extents.{in_extent}
 use Rattle.relabel_core.specs.declared.options.Options.{Options}
-use Rattle.relabel_core.specs.Stored.{digests_in, told_before}
-use Rattle.relabel_core.specs.Walk.{Walk, count, digest_now, is_current, is_renewed, is_skipped, is_skipped_first, is_whole, skippable, skips}
+use Rattle.relabel_core.specs.Stored.{digests_in, stored_before}
+use Rattle.relabel_core.specs.Walk.{Walk, walk_count, digest_now, is_current, is_renewed}
+use Rattle.relabel_core.specs.Walk.{is_skipped, is_skipped_first, is_whole, skippable, skips}
 use Rattle.relabel_core.specs.declared.passed.Skip.{Skip}
 use Rattle.relabel_core.specs.declared.passed.Skip.TheVariants.{Not, First, Below}
 
@@ -32,8 +34,8 @@ renewal w d = if not w.options.dry && is_renewed w d then Some (digest_now w d) 
 
 -- what is found of the directories: for each entry whether it is skipped, and the digests made anew
 pub record ArePassed (w : Walk) (skips : List Skip) (made : BTreeMap ℕ (List ℕ)) : Type 0 where
-  pub skips_are : (e : ℕ) → e < count w → get_or skips e Not ≡ skip_of w e
-  pub made_are : (e : ℕ) → e < count w → digests_in made e ≡ renewal w e
+  pub skips_are : (e : ℕ) → e < walk_count w → get_or skips e Not ≡ skip_of w e
+  pub made_are : (e : ℕ) → e < walk_count w → digests_in made e ≡ renewal w e
 
 -- ---- how it is found, entry by entry
 
@@ -65,11 +67,11 @@ meets may stored (Some digest) = may && is_current stored digest
 abbrev pub is_covered : Walk → ℕ → ℕ → Bool
 is_covered w n e = any_below n (λ d. skippable w d && in_extent w.entries d e)
 
--- what is found of the entries before n. Of those from n on, the ones before `end` are below a skipped
--- one.
+-- what is found of the entries before n. Of those from n on, the ones before `end` are below a
+-- skipped one.
 pub record ArePassing (w : Walk) (n end : ℕ) (skips : List Skip) (made : BTreeMap ℕ (List ℕ))
     : Type 0 where
   pub each_entry : length skips ≡ n
   pub skips_are : (e : ℕ) → e < n → get_or skips e Not ≡ skip_of w e
-  pub covered_are : (e : ℕ) → n ≤ e → e < count w → is_covered w n e ≡ nat_lt e end
-  pub made_are : (e : ℕ) → digests_in made e ≡ told_before (renewal w) n e
+  pub covered_are : (e : ℕ) → n ≤ e → e < walk_count w → is_covered w n e ≡ nat_lt e end
+  pub made_are : (e : ℕ) → digests_in made e ≡ stored_before (renewal w) n e

@@ -1,5 +1,6 @@
 -- The digests that are stored for the directories of a tree.
-use Rattle.std.specs.Prelude.{◌≡◌, ◌==◌, ℕ, Bool, List, filter, get_or, map, nat_lt, Option, Some, None, if◌then◌else◌}
+use Rattle.std.specs.Prelude.{◌≡◌, ◌==◌, ℕ, Bool, List, filter, get_or, map, nat_lt, Option, Some}
+use Rattle.std.specs.Prelude.{None, if◌then◌else◌}
 use Rattle.std.specs.List.{flat_map, last_or}
 use Rattle.std.specs.BTreeMap.{BTreeMap, get}
 use Rattle.std.specs.Ordering.{nat_cmp}
@@ -12,7 +13,7 @@ use Rattle.setfattr_dump.specs.declared.marks.TheConstants.{DIGEST_KEY}
 use Rattle.spec_match.specs.LastMatch.{last_of}
 use Rattle.tree_model.specs.Extents.{is_directory}
 use Rattle.tree_model.specs.Tree.{find_in}
-use Rattle.relabel_core.specs.Walk.{StoredDigests, is_at}
+use Rattle.relabel_core.specs.Walk.{StoredDigests, is_found_at}
 use Rattle.relabel_core.specs.declared.stored.Stored.{Stored}
 
 -- ---- what a dump stores for the directories of a tree
@@ -25,18 +26,18 @@ if_directory entries (Some d) = if is_directory entries d then Some d else None
 abbrev pub directory_at : List Record → Path → Option ℕ
 directory_at entries path = if_directory entries (find_in path entries)
 
-abbrev pub is_digest : Attr → Bool
-is_digest attr = same_bytes attr.key DIGEST_KEY.now
+abbrev pub is_digest_attr : Attr → Bool
+is_digest_attr attr = same_bytes attr.key DIGEST_KEY.now
 
 -- the digests among attributes
 abbrev pub digests_among : List Attr → List (List ℕ)
-digests_among attrs = map (λ attr. attr.value) (filter is_digest attrs)
+digests_among attrs = map (λ attr. attr.value) (filter is_digest_attr attrs)
 
 -- all digests of the directory, in the order in which they stand
 abbrev pub digests_at : List Section → List Record → ℕ → List (List ℕ)
 digests_at sections entries d =
     flat_map (λ section. digests_among section.attrs)
-    (filter (λ section. is_at (directory_at entries section.name) d) sections)
+    (filter (λ section. is_found_at (directory_at entries section.name) d) sections)
 
 -- the last of them is stored
 abbrev pub digests_by : List Section → List Record → StoredDigests
@@ -76,9 +77,10 @@ KeepsFrom old new entries sections = (e : ℕ)
     → digests_in new e ≡ last_or (digests_in old e) (digests_at sections entries e)
 
 -- a digest is kept for the directory d, where there is one
-abbrev pub Adds : (old new : BTreeMap ℕ (List ℕ)) → ℕ → Option (List ℕ) → Type 0
-Adds old new d found = (e : ℕ) → digests_in new e ≡ (if d == e then found else digests_in old e)
+abbrev pub AddsDigest : (old new : BTreeMap ℕ (List ℕ)) → ℕ → Option (List ℕ) → Type 0
+AddsDigest old new d found =
+    (e : ℕ) → digests_in new e ≡ (if d == e then found else digests_in old e)
 
 -- what is told of the numbers below n
-abbrev pub told_before : (ℕ → Option (List ℕ)) → ℕ → ℕ → Option (List ℕ)
-told_before told n e = if nat_lt e n then told e else None
+abbrev pub stored_before : (ℕ → Option (List ℕ)) → ℕ → ℕ → Option (List ℕ)
+stored_before told n e = if nat_lt e n then told e else None

@@ -1,5 +1,5 @@
 -- What decides the digests of the directories of a walk.
-use Rattle.context_syntax.specs.TypeNames.{in_order}
+use Rattle.context_syntax.specs.TypeNames.{names_in_order}
 use Rattle.dir_digest.specs.Terms.{Terms}
 use Rattle.relabel_core.specs.declared.options.Options.{Options}
 use Rattle.label_rules.specs.declared.rules.Rules.{Rules}
@@ -8,7 +8,7 @@ abbrev pub terms_by : Rules → Options → Terms
 terms_by rules options = record {
   format = options.format;
   force = options.force;
-  types = in_order rules.types;
+  types = names_in_order rules.types;
   first = rules.subs.first;
   second = rules.subs.second;
   specs = rules.rules;

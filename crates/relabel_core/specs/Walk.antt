@@ -1,13 +1,15 @@
--- What one walk over a tree means. There is no running state: each definition speaks of one entry or
--- one group.
-use Rattle.std.specs.Prelude.{ℕ, ◌+◌, Bool, false, not, ◌&&◌, ◌||◌, ◌==◌, List, [], ◌++◌, length, filter, map, get_or, slice_get, Option, Some, None, is_some, option_and_then, if◌then◌else◌}
+-- What one walk over a tree means. There is no running state: each definition speaks of one entry
+-- or one group.
+use Rattle.std.specs.Prelude.{ℕ, ◌+◌, Bool, false, not, ◌&&◌, ◌||◌, ◌==◌, List, [], ◌++◌, length}
+use Rattle.std.specs.Prelude.{filter, map, get_or, slice_get, Option, Some, None, is_some}
+use Rattle.std.specs.Prelude.{option_and_then, if◌then◌else◌}
 use Rattle.std.specs.List.{filter_map}
 use Rattle.label_base.specs.Bounded.{all_numbers, any_below, least_below}
 use Rattle.label_base.specs.Text.{same_bytes}
 use Rattle.file_paths.specs.Path.{Path}
 use Rattle.context_syntax.specs.Context.{ContextValue}
 use Rattle.context_syntax.specs.Label.{same_label}
-use Rattle.context_syntax.specs.TypeNames.{in_order}
+use Rattle.context_syntax.specs.TypeNames.{names_in_order}
 use Rattle.context_syntax.specs.declared.label.Label.{Label}
 use Rattle.spec_reader.specs.SpecValue.{SpecValue}
 use Rattle.dir_digest.specs.Digest.{digest_at, void_digest}
@@ -38,8 +40,8 @@ pub record Walk : Type 0 where
   pub options : Options
   pub stored : StoredDigests
 
-abbrev pub count : Walk → ℕ
-count w = length w.entries
+abbrev pub walk_count : Walk → ℕ
+walk_count w = length w.entries
 
 abbrev pub path_at : Walk → ℕ → Path
 path_at w e = (entry_at w.entries e).path
@@ -53,7 +55,7 @@ is_live w e = get_or w.live e false
 -- the digest of a directory, from what can decide the labels at or below it
 unfoldable pub digest_now : Walk → ℕ → List ℕ
 digest_now w d =
-    digest_at w.options.format w.options.force (in_order w.rules.types) w.rules.subs.first
+    digest_at w.options.format w.options.force (names_in_order w.rules.types) w.rules.subs.first
     w.rules.subs.second w.rules.rules (path_at w d)
 
 -- a directory with all names of its inodes at or below it, and all that lies there asked for
@@ -70,20 +72,21 @@ is_current (Some stored) digest =
 abbrev pub skips : Walk → Bool
 skips w = w.options.digests && not w.options.ignore_digests
 
--- the directory may be passed over with all that lies below it: its stored digest is the one that it
--- has
+-- the directory may be passed over with all that lies below it: its stored digest is the one that
+-- it has
 unfoldable pub skippable : Walk → ℕ → Bool
 skippable w d = skips w && is_whole w d && is_current (w.stored d) (digest_now w d)
 
 -- the entry is at or below such a directory
 unfoldable pub is_skipped : Walk → ℕ → Bool
-is_skipped w e = any_below (count w) (λ d. skippable w d && in_extent w.entries d e)
+is_skipped w e = any_below (walk_count w) (λ d. skippable w d && in_extent w.entries d e)
 
 -- the directory is such a one, and lies below no other
 unfoldable pub is_skipped_first : Walk → ℕ → Bool
 is_skipped_first w e =
     skippable w e
-    && not (any_below (count w) (λ d. skippable w d && in_extent w.entries d e && not (d == e)))
+    && not (any_below (walk_count w)
+    (λ d. skippable w d && in_extent w.entries d e && not (d == e)))
 
 -- the entry is looked at
 unfoldable pub walked : Walk → ℕ → Bool
@@ -117,7 +120,7 @@ wanted_below w n = length (filter (is_wanted w) (all_numbers n))
 
 -- how many entries are
 abbrev pub count_wanted : Walk → ℕ
-count_wanted w = wanted_below w (count w)
+count_wanted w = wanted_below w (walk_count w)
 
 -- ---- which name of a group decides
 
@@ -127,7 +130,7 @@ can_win w g e = (group_of w.entries e == g) && is_some (wanted w e)
 
 -- the winner of a group: the first of its entries for which a context is decided
 unfoldable pub winner : Walk → ℕ → Option ℕ
-winner w g = least_below (count w) (can_win w g)
+winner w g = least_below (walk_count w) (can_win w g)
 
 -- ---- what follows from the winner of a group, where there is one
 
@@ -151,14 +154,14 @@ label_where w g wants =
 abbrev pub new_label_with : Walk → ℕ → Option ℕ → Label
 new_label_with w g found = label_where w g (option_and_then (wanted w) found)
 
-abbrev pub is_at : Option ℕ → ℕ → Bool
-is_at None e = false
-is_at (Some k) e = k == e
+abbrev pub is_found_at : Option ℕ → ℕ → Bool
+is_found_at None e = false
+is_found_at (Some k) e = k == e
 
 -- the label of an entry after the walk: its group's, which changes at the winner
 abbrev pub label_with : Walk → ℕ → Option ℕ → Label
 label_with w e found =
-    if is_at found e
+    if is_found_at found e
     then new_label_with w (group_of w.entries e) found
     else label_in w.entries (group_of w.entries e)
 
@@ -185,7 +188,8 @@ undecided_line w e =
 
 -- the line of an entry that a specification decides
 abbrev pub decided_line : Walk → ℕ → Option ℕ → Option MessageValue
-decided_line w e found = if is_at found e then winner_line w e found else conflict_with w e found
+decided_line w e found = if is_found_at found e then winner_line w e found else conflict_with w e
+    found
 
 -- the line of an entry that the specification at this index decides
 abbrev pub line_where : Walk → ℕ → Option ℕ → Option ℕ → Option MessageValue
@@ -212,7 +216,7 @@ label_after w e = label_with w e (group_winner w e)
 
 -- the labels of the entries after the walk
 abbrev pub labels : Walk → List Label
-labels w = map (label_after w) (all_numbers (count w))
+labels w = map (label_after w) (all_numbers (walk_count w))
 
 -- the label of the group is another one after the walk
 abbrev pub is_changed : Walk → ℕ → Bool
@@ -224,7 +228,8 @@ is_changed_name w e = is_changed w (group_of w.entries e)
 
 -- some entry at or below d is
 unfoldable pub has_changed_name : Walk → ℕ → Bool
-has_changed_name w d = any_below (count w) (λ e. in_extent w.entries d e && is_changed_name w e)
+has_changed_name w d =
+    any_below (walk_count w) (λ e. in_extent w.entries d e && is_changed_name w e)
 
 -- a digest is stored, and no longer tells of the labels at or below d
 abbrev pub is_outdated : Walk → ℕ → Bool
@@ -246,14 +251,14 @@ digest_after w d =
 
 -- the digests of the entries after the walk
 abbrev pub digests : Walk → List (Option (List ℕ))
-digests w = map (digest_after w) (all_numbers (count w))
+digests w = map (digest_after w) (all_numbers (walk_count w))
 
 unfoldable pub line : Walk → ℕ → Option MessageValue
 line w e = line_with w e (group_winner w e)
 
 -- the lines of the entries, in the order of the entries
 abbrev pub entry_lines : Walk → List MessageValue
-entry_lines w = filter_map (line w) (all_numbers (count w))
+entry_lines w = filter_map (line w) (all_numbers (walk_count w))
 
 -- the lines of the operands without an entry
 abbrev pub absent_lines : Walk → List MessageValue
@@ -261,7 +266,7 @@ absent_lines w = if w.options.ignore_absent then [] else map Absent w.absent
 
 -- the specification at the index decides some entry
 abbrev pub has_decided : Walk → ℕ → Bool
-has_decided w i = any_below (count w) (λ e. is_at (deciding w e) i)
+has_decided w i = any_below (walk_count w) (λ e. is_found_at (deciding w e) i)
 
 abbrev pub no_matches : SpecValue → MessageValue
 no_matches spec = NoMatches spec.text spec.kind (given_by spec)
@@ -299,7 +304,7 @@ absent_errors w = if w.options.ignore_absent then 0 else length w.absent
 
 -- conflicts count where links are strict
 abbrev pub conflict_errors : Walk → ℕ
-conflict_errors w = if w.options.strict_links then conflicts_below w (count w) else 0
+conflict_errors w = if w.options.strict_links then conflicts_below w (walk_count w) else 0
 
 -- how many errors the walk met
 abbrev pub errors : Walk → ℕ

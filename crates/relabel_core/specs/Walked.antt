@@ -11,20 +11,20 @@ use Rattle.tree_model.specs.declared.choice.Choice.{Choice}
 use Rattle.relabel_core.specs.Formats.{HaveLinks}
 use Rattle.relabel_core.specs.Numbers.{found_in}
 use Rattle.relabel_core.specs.Stored.{digests_of}
-use Rattle.relabel_core.specs.Walk.{StoredDigests, Walk, can_win, count, deciding, winner}
+use Rattle.relabel_core.specs.Walk.{StoredDigests, Walk, can_win, walk_count, deciding, winner}
 use Rattle.relabel_core.specs.declared.input.WalkInput.{WalkInput}
 use Rattle.label_rules.specs.declared.rules.Rules.{Rules}
 
 -- the operands with these indices
-abbrev pub operands_at : List Path → List ℕ → List Path
-operands_at operands indices = map (λ i. get_or operands i []) indices
+abbrev pub operands_indexed : List Path → List ℕ → List Path
+operands_indexed operands indices = map (λ i. get_or operands i []) indices
 
 -- the walk that these mean
 abbrev pub walk_of : WalkInput → Walk
 walk_of input = record {
   entries = input.tree.now;
   live = input.chosen.now.live;
-  absent = operands_at input.operands.now input.chosen.now.absent;
+  absent = operands_indexed input.operands.now input.chosen.now.absent;
   rules = input.rules.now;
   options = input.options;
   stored = digests_of input.stored.now;
@@ -35,7 +35,7 @@ abbrev pub walk_for : List Record → Choice → Rules → Options → StoredDig
 walk_for entries choice rules options stored = record {
   entries = entries;
   live = (selected_by choice entries).live;
-  absent = operands_at choice.operands (selected_by choice entries).absent;
+  absent = operands_indexed choice.operands (selected_by choice entries).absent;
   rules = rules;
   options = options;
   stored = stored;
@@ -56,19 +56,19 @@ pub record IsFit (input : WalkInput) : Type 0 where
   pub few : length input.tree.now + length input.operands.now < 2 ^ 32
 
 -- what is found of all entries and groups, each at its position
-pub record AreFound (w : Walk) (decided winners : List ℕ) : Type 0 where
-  pub decided_are : (e : ℕ) → e < count w → found_in decided e ≡ deciding w e
+pub record AreWalkAnswers (w : Walk) (decided winners : List ℕ) : Type 0 where
+  pub decided_are : (e : ℕ) → e < walk_count w → found_in decided e ≡ deciding w e
   pub winners_are : (g : ℕ) → g < groups_in w.entries → found_in winners g ≡ winner w g
 
 -- there is room for each entry and each group
-pub record HasRoom (w : Walk) (decided winners : List ℕ) : Type 0 where
-  pub each_entry : length decided ≡ count w
+pub record HasWalkRoom (w : Walk) (decided winners : List ℕ) : Type 0 where
+  pub each_entry : length decided ≡ walk_count w
   pub each_group : length winners ≡ groups_in w.entries
 
--- what is noted when the entries below n were looked up: for each the specification that decides it,
--- and for each group its winner among them
+-- what is noted when the entries below n were looked up: for each the specification that decides
+-- it, and for each group its winner among them
 pub record AreNoted (w : Walk) (n : ℕ) (decided winners : List ℕ) : Type 0 where
-  pub each_entry : length decided ≡ count w
+  pub each_entry : length decided ≡ walk_count w
   pub decided_are : (e : ℕ) → e < n → found_in decided e ≡ deciding w e
   pub each_group : length winners ≡ groups_in w.entries
   pub winners_are : (g : ℕ) → g < groups_in w.entries

@@ -54,9 +54,9 @@ fn is_void(input: &WalkInput<'_>, d: u32, changed: bool) -> bool
     !input.options.dry && (changed && input.stored.get(d).is_some())
 }
 
-/// What becomes of the digest of an entry, of which it is known which one is made anew, and whether the label of an entry at
-/// or below it changes, in whichever place the name stands that decides it. The latter counts only where a digest is stored
-/// and the run isn't dry.
+/// What becomes of the digest of an entry, of which it is known which one is made anew, and whether
+/// the label of an entry at or below it changes, in whichever place the name stands that decides
+/// it. The latter counts only where a digest is stored and the run isn't dry.
 pub fn digest_after(
     input: &WalkInput<'_>,
     d: u32,

@@ -1,15 +1,16 @@
 ghost use Rattle.std.specs.Prelude.{◌≡◌, IfOk, length};
 ghost use Rattle.relabel_core.specs.Answer.{walk_in};
-ghost use Rattle.relabel_core.specs.Counts.{AreCounted, AreTold, count_at};
+ghost use Rattle.relabel_core.specs.Counts.{AreWalkCounts, AreTold, count_at};
 
 use crate::walked::Walked;
 use label_base::OutOfMemory;
 use std::alloc::Global;
 
-// For each entry, and for the end, how many entries before it are names of a group whose label changes.
+// For each entry, and for the end, how many entries before it are names of a group whose label
+// changes.
 fn count_changed(alloc: Global, walked: &Walked<'_>) -> Result<Vec<u32>, OutOfMemory>
     ensures { IfOk result (λ counts.
-        AreCounted (walk_in walked.now) (length walked.now.input.tree.now) counts.items) }
+        AreWalkCounts (walk_in walked.now) (length walked.now.input.tree.now) counts.items) }
 {
     let mut counts = Vec::with_capacity(alloc, walked.len() as usize)?;
     let mut changed = 0;
@@ -21,8 +22,8 @@ fn count_changed(alloc: Global, walked: &Walked<'_>) -> Result<Vec<u32>, OutOfMe
     Ok(counts)
 }
 
-/// For each entry, and for the end, how many entries before it are names of a group whose label changes; nothing where no
-/// digest can change.
+/// For each entry, and for the end, how many entries before it are names of a group whose label
+/// changes; nothing where no digest can change.
 pub fn count_if_stored(alloc: Global, walked: &Walked<'_>) -> Result<Vec<u32>, OutOfMemory>
     ensures { IfOk result (λ counts. AreTold (walk_in walked.now) counts.items) }
 {

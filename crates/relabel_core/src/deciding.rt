@@ -1,6 +1,6 @@
 ghost use Rattle.std.specs.Prelude.{◌≡◌, ◌+◌, ◌<◌, ◌≤◌, IfOk, IfSome, length};
 ghost use Rattle.spec_match.specs.Scratches.{IsScratchOf};
-ghost use Rattle.relabel_core.specs.Walk.{count, deciding, is_skipped, one_if, walked};
+ghost use Rattle.relabel_core.specs.Walk.{walk_count, deciding, is_skipped, one_if, walked};
 ghost use Rattle.relabel_core.specs.Walked.{IsFit, walk_of};
 
 use crate::input::WalkInput;
@@ -10,20 +10,21 @@ use spec_match::Scratch;
 use std::alloc::Global;
 use std::sync::ledger::Ledger;
 
-/// Whether an entry is looked at, of which it is known whether it is skipped: the run is asked for it, and it isn't.
+/// Whether an entry is looked at, of which it is known whether it is skipped: the run is asked for
+/// it, and it isn't.
 #[tactic(auto, unfolding(crate::specs::Walk::walked))]
 pub fn is_walked(input: &WalkInput<'_>, e: u32, skipped: bool) -> bool
     requires fit { IsFit input.now }
-    requires entry { e < count (walk_of input.now) }
+    requires entry { e < walk_count (walk_of input.now) }
     requires skipped { skipped ≡ is_skipped (walk_of input.now) e }
     ensures { result ≡ walked (walk_of input.now) e }
 {
     input.chosen.is_live(e) && !skipped
 }
 
-/// The index of the specification that decides an entry, of which it is known whether it is skipped. There is none where no
-/// specification does, nor where the entry isn't looked at. It counts at most one step, and none for an entry that isn't
-/// looked at.
+/// The index of the specification that decides an entry, of which it is known whether it is
+/// skipped. There is none where no specification does, nor where the entry isn't looked at. It
+/// counts at most one step, and none for an entry that isn't looked at.
 #[tactic(auto, unfolding(crate::specs::Walk::deciding))]
 pub fn decide_entry<L: Ledger>(
     alloc: Global,
@@ -34,7 +35,7 @@ pub fn decide_entry<L: Ledger>(
     steps: &mut Steps<L>,
 ) -> Result<Option<u32>, OutOfMemory>
     requires fit { IsFit input.now }
-    requires entry { e < count (walk_of input.now) }
+    requires entry { e < walk_count (walk_of input.now) }
     requires skipped { skipped ≡ is_skipped (walk_of input.now) e }
     requires own { IsScratchOf input.now.rules.now.rules scratch.old }
     ensures own { IsScratchOf input.now.rules.now.rules scratch.new }

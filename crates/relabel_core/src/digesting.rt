@@ -1,10 +1,10 @@
 ghost use Rattle.std.specs.Prelude.{◌≡◌, ◌<◌, IfOk};
 ghost use Rattle.dir_digest.specs.Listings.{terms_in};
-ghost use Rattle.dir_digest.specs.Terms.{is_whole};
+ghost use Rattle.dir_digest.specs.Terms.{is_whole_mode};
 ghost use Rattle.spec_match.specs.Scratches.{IsScratchOf};
 ghost use Rattle.relabel_core.specs.Formats.{HaveLinks};
 ghost use Rattle.relabel_core.specs.Terms.{terms_by};
-ghost use Rattle.relabel_core.specs.Walk.{count, digest_now};
+ghost use Rattle.relabel_core.specs.Walk.{walk_count, digest_now};
 ghost use Rattle.relabel_core.specs.Walked.{walk_of};
 
 use crate::input::WalkInput;
@@ -34,7 +34,7 @@ pub fn buffers_for(alloc: Global, rules: &Rules) -> Result<Buffers, OutOfMemory>
 }
 
 fn mode_for(force: bool) -> Mode
-    ensures { is_whole result ≡ force }
+    ensures { is_whole_mode result ≡ force }
 {
     if force {
         return Mode::Whole;
@@ -62,8 +62,8 @@ pub fn listings_by<'a>(
     )
 }
 
-/// The digest of a directory of a walk, from what can decide the labels at or below it. Every walk takes its digests from
-/// here. Only want of memory is in its way.
+/// The digest of a directory of a walk, from what can decide the labels at or below it. Every walk
+/// takes its digests from here. Only want of memory is in its way.
 #[tactic(auto, unfolding(crate::specs::Walk::digest_now))]
 pub fn digest_of(
     alloc: Global,
@@ -72,7 +72,7 @@ pub fn digest_of(
     listings: &Listings<'_>,
     buffers: &mut Buffers,
 ) -> Result<Digest, OutOfMemory>
-    requires entry { d < count (walk_of input.now) }
+    requires entry { d < walk_count (walk_of input.now) }
     requires format { HaveLinks input.now.options.format input.now.tree.now }
     requires listings { terms_in listings.now ≡ terms_by input.now.rules.now input.now.options }
     requires own { IsScratchOf input.now.rules.now.rules buffers.old.scratch }

@@ -14,8 +14,8 @@ use std::alloc::Global;
 #[derive(Drop)]
 pub struct Digests<'w, 'a> {
     walked: &'w Walked<'a>,
-    // For each entry, and for the end, how many entries before it are names of a group whose label changes. It is empty where
-    // no digest can change.
+    // For each entry, and for the end, how many entries before it are names of a group whose label
+    // changes. It is empty where no digest can change.
     counts: Vec<u32>,
     ghost told: { AreTold (walk_in walked.now) counts.items },
 }
@@ -34,8 +34,8 @@ impl<'w, 'a> Digests<'w, 'a> {
         self.walked
     }
 
-    // Whether the counts rise from an entry to the end of its extent: where its digest can change, an entry at or below it
-    // is a name of a group whose label changes.
+    // Whether the counts rise from an entry to the end of its extent: where its digest can change,
+    // an entry at or below it is a name of a group whose label changes.
     fn does_rise(&self, d: u32) -> bool
         requires { d < count (walk_before self.now) }
         ensures { (walk_before self.now).options.dry ≡ false
@@ -48,10 +48,12 @@ impl<'w, 'a> Digests<'w, 'a> {
         count_at(counts, d) < count_at(counts, walked.input.tree.extent(d))
     }
 
-    /// What becomes of the digest of an entry. It looks at what was made once. With [`Options::dry`] all digests stay. Else
-    /// each directory that was looked at, with nothing below it that was left out and no name of its inodes elsewhere, has
-    /// its digest anew, if digests are asked for; and [`Digest::VOID`] stands for one that is stored for another directory
-    /// where the label of an entry at or below it changes, in whichever place the name stands that decides it.
+    /// What becomes of the digest of an entry. It looks at what was made once. With
+    /// [`Options::dry`] all digests stay. Else each directory that was looked at, with nothing
+    /// below it that was left out and no name of its inodes elsewhere, has its digest anew, if
+    /// digests are asked for; and [`Digest::VOID`] stands for one that is stored for another
+    /// directory where the label of an entry at or below it changes, in whichever place the name
+    /// stands that decides it.
     ///
     /// [`Options::dry`]: crate::Options::dry
     pub fn at(&self, d: u32) -> DigestAfter
@@ -98,7 +100,8 @@ impl<'a> Walked<'a> {
         self.passed.renewed(d)
     }
 
-    /// The digests of the directories after the walk. Where one is stored at all, this goes once over all entries.
+    /// The digests of the directories after the walk. Where one is stored at all, this goes once
+    /// over all entries.
     pub fn digests<'w>(&'w self, alloc: Global) -> Result<Digests<'w, 'a>, OutOfMemory>
         ensures { IfOk result (λ digests. walk_before digests ≡ walk_in self.now) }
     {

@@ -2,9 +2,9 @@ ghost use Rattle.std.specs.Prelude.{◌≡◌, ◌+◌, ◌<◌, ◌≤◌, IfOk
 ghost use Rattle.dir_digest.specs.Listings.{terms_in};
 ghost use Rattle.spec_match.specs.Scratches.{IsScratchOf};
 ghost use Rattle.relabel_core.specs.Passed.{ArePassed, ArePassing, needed};
-ghost use Rattle.relabel_core.specs.Stored.{Adds, digests_in};
+ghost use Rattle.relabel_core.specs.Stored.{AddsDigest, digests_in};
 ghost use Rattle.relabel_core.specs.Terms.{terms_by};
-ghost use Rattle.relabel_core.specs.Walk.{count, skippable};
+ghost use Rattle.relabel_core.specs.Walk.{walk_count, skippable};
 ghost use Rattle.relabel_core.specs.Walked.{IsFit, walk_of};
 
 use crate::digesting::{Buffers, listings_by};
@@ -24,7 +24,7 @@ fn pass_below(
     passed: &mut Passed,
 ) -> Result<u32, OutOfMemory>
     requires fit { IsFit input.now }
-    requires entry { e < count (walk_of input.now) }
+    requires entry { e < walk_count (walk_of input.now) }
     requires below { e < end }
     requires passed { ArePassing (walk_of input.now) e end
         passed.old.skips.items passed.old.made }
@@ -43,7 +43,7 @@ fn pass_over(
     passed: &mut Passed,
 ) -> Result<u32, OutOfMemory>
     requires fit { IsFit input.now }
-    requires entry { e < count (walk_of input.now) }
+    requires entry { e < walk_count (walk_of input.now) }
     requires outside { end ≤ e }
     requires over { skippable (walk_of input.now) e ≡ true }
     requires passed { ArePassing (walk_of input.now) e end
@@ -62,7 +62,7 @@ fn keep_renewed(
     made: &mut BTreeMap<u32, Digest>,
 ) -> Result<(), OutOfMemory>
     requires { digests_in made.old e ≡ None }
-    ensures { OnOk result (Adds made.old made.new e renewed) }
+    ensures { OnOk result (AddsDigest made.old made.new e renewed) }
 {
     match renewed {
         None => Ok(()),
@@ -82,7 +82,7 @@ fn pass_by(
     passed: &mut Passed,
 ) -> Result<u32, OutOfMemory>
     requires fit { IsFit input.now }
-    requires entry { e < count (walk_of input.now) }
+    requires entry { e < walk_count (walk_of input.now) }
     requires outside { end ≤ e }
     requires over { skippable (walk_of input.now) e ≡ false }
     requires found { found ≡ needed (walk_of input.now) e }
@@ -97,8 +97,8 @@ fn pass_by(
     Ok(end)
 }
 
-// Finds whether one entry more is skipped, and makes its digest where anything depends on it. It answers where the extent of
-// the last directory that is skipped ends.
+// Finds whether one entry more is skipped, and makes its digest where anything depends on it. It
+// answers where the extent of the last directory that is skipped ends.
 fn pass_entry(
     alloc: Global,
     input: &WalkInput<'_>,
@@ -109,7 +109,7 @@ fn pass_entry(
     passed: &mut Passed,
 ) -> Result<u32, OutOfMemory>
     requires fit { IsFit input.now }
-    requires entry { e < count (walk_of input.now) }
+    requires entry { e < walk_count (walk_of input.now) }
     requires listings { terms_in listings.now ≡ terms_by input.now.rules.now input.now.options }
     requires own { IsScratchOf input.now.rules.now.rules buffers.old.scratch }
     requires passed { ArePassing (walk_of input.now) e end
@@ -149,9 +149,10 @@ fn pass_all(
     Ok(passed)
 }
 
-/// Goes over the directories of a tree before any entry is looked up: finds which ones are skipped with all below them, and
-/// makes the digests that change. No digest is made below a directory that is skipped, nor for one with a name of its
-/// inodes elsewhere or with an entry that isn't asked for.
+/// Goes over the directories of a tree before any entry is looked up: finds which ones are skipped
+/// with all below them, and makes the digests that change. No digest is made below a directory that
+/// is skipped, nor for one with a name of its inodes elsewhere or with an entry that isn't asked
+/// for.
 pub fn pass_directories(
     alloc: Global,
     input: &WalkInput<'_>,

@@ -3,9 +3,10 @@ ghost use Rattle.file_paths.specs.PathRef.{path_of};
 ghost use Rattle.context_syntax.specs.ContextRef.{context_lent};
 ghost use Rattle.setfattr_dump.specs.Texts.{attrs_text, dump_text};
 ghost use Rattle.relabel_core.specs.Answer.{walk_in};
-ghost use Rattle.relabel_core.specs.Changes.{changes, does_change, given_attrs, optional_section, renewed_attrs, section_at, section_by};
+ghost use Rattle.relabel_core.specs.Changes.{changes, does_change, given_attrs, optional_section};
+ghost use Rattle.relabel_core.specs.Changes.{renewed_attrs, section_at, section_by};
 ghost use Rattle.relabel_core.specs.Digests.{walk_before};
-ghost use Rattle.relabel_core.specs.Walk.{count};
+ghost use Rattle.relabel_core.specs.Walk.{walk_count};
 
 use crate::digests::Digests;
 use crate::walked::Walked;
@@ -60,8 +61,8 @@ fn does_change(change: &Option<ContextRef<'_>>, digest: &Option<Digest>) -> bool
     }
 }
 
-/// Adds at the end the section of a path whose label changes to a context, or whose digest to this one; nothing where
-/// neither does. A buffer is lent in which the context is spelled.
+/// Adds at the end the section of a path whose label changes to a context, or whose digest to this
+/// one; nothing where neither does. A buffer is lent in which the context is spelled.
 pub fn add_section_of(
     alloc: Global,
     path: &PathRef<'_>,
@@ -85,8 +86,8 @@ pub fn add_section_of(
 }
 
 impl<'w, 'a> Digests<'w, 'a> {
-    /// Adds at the end the section of an entry, if its label or its digest changes, the label before the digest. A buffer is
-    /// lent in which the context is spelled.
+    /// Adds at the end the section of an entry, if its label or its digest changes, the label
+    /// before the digest. A buffer is lent in which the context is spelled.
     pub fn add_section(
         &self,
         alloc: Global,
@@ -94,7 +95,7 @@ impl<'w, 'a> Digests<'w, 'a> {
         spelled: &mut Bytes,
         to: &mut Bytes,
     ) -> Result<(), OutOfMemory>
-        requires { e < count (walk_before self.now) }
+        requires { e < walk_count (walk_before self.now) }
         ensures { OnOk result (to.new
             ≡ to.old ++ optional_section (section_at (walk_before self.now) e)) }
     {
@@ -113,9 +114,9 @@ impl<'w, 'a> Digests<'w, 'a> {
 }
 
 impl<'a> Walked<'a> {
-    /// Adds at the end the dump of what the walk changes, as setfattr(1) takes it: in the order of the paths a section for
-    /// each entry whose label or digest changes, the label before the digest. After want of memory a front of it may have
-    /// been added.
+    /// Adds at the end the dump of what the walk changes, as setfattr(1) takes it: in the order of
+    /// the paths a section for each entry whose label or digest changes, the label before the
+    /// digest. After want of memory a front of it may have been added.
     pub fn add_dump(&self, alloc: Global, to: &mut Bytes) -> Result<(), OutOfMemory>
         ensures { OnOk result (to.new ≡ to.old ++ dump_text (changes (walk_in self.now))) }
     {

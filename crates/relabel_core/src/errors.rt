@@ -42,8 +42,8 @@ fn conflict_errors(walked: &Walked<'_>) -> u32
 }
 
 impl<'a> Walked<'a> {
-    /// How many errors the walk met: the operands without an entry, unless these are ignored, and where links are strict
-    /// the names that are decided to another context than their inode gets.
+    /// How many errors the walk met: the operands without an entry, unless these are ignored, and
+    /// where links are strict the names that are decided to another context than their inode gets.
     pub fn errors(&self) -> u32
         ensures { result ≡ errors (walk_in self.now) }
     {

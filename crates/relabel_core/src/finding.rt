@@ -2,9 +2,11 @@ ghost use Rattle.std.specs.Prelude.{◌≡◌, ◌<◌, ◌&&◌, IfOk, not};
 ghost use Rattle.std.specs.Option.{option_copied};
 ghost use Rattle.dir_digest.specs.Listings.{terms_in};
 ghost use Rattle.spec_match.specs.Scratches.{IsScratchOf};
-ghost use Rattle.relabel_core.specs.Passed.{is_needed, may_skip, meets, needed, renewal, renews, uses_digests};
+ghost use Rattle.relabel_core.specs.Passed.{is_needed, may_skip, meets, needed, renewal, renews};
+ghost use Rattle.relabel_core.specs.Passed.{uses_digests};
 ghost use Rattle.relabel_core.specs.Terms.{terms_by};
-ghost use Rattle.relabel_core.specs.Walk.{count, is_current, is_skipped, is_whole, skippable, skips};
+ghost use Rattle.relabel_core.specs.Walk.{walk_count, is_current, is_skipped, is_whole, skippable};
+ghost use Rattle.relabel_core.specs.Walk.{skips};
 ghost use Rattle.relabel_core.specs.Walked.{IsFit, walk_of};
 
 use crate::digesting::{Buffers, digest_of};
@@ -51,7 +53,7 @@ fn may_skip(input: &WalkInput<'_>, d: u32) -> bool
 
 fn is_whole(input: &WalkInput<'_>, d: u32) -> bool
     requires fit { IsFit input.now }
-    requires entry { d < count (walk_of input.now) }
+    requires entry { d < walk_count (walk_of input.now) }
     ensures { result ≡ is_whole (walk_of input.now) d }
 {
     is_directory(input.tree, d) && input.chosen.is_whole(input.tree, d)
@@ -60,7 +62,7 @@ fn is_whole(input: &WalkInput<'_>, d: u32) -> bool
 // Whether anything depends on the digest of an entry.
 fn is_needed(input: &WalkInput<'_>, d: u32) -> bool
     requires fit { IsFit input.now }
-    requires entry { d < count (walk_of input.now) }
+    requires entry { d < walk_count (walk_of input.now) }
     ensures { result ≡ is_needed (walk_of input.now) d }
 {
     if !is_whole(input, d) {
@@ -78,7 +80,7 @@ fn digest_if_needed(
     buffers: &mut Buffers,
 ) -> Result<Option<Digest>, OutOfMemory>
     requires fit { IsFit input.now }
-    requires entry { d < count (walk_of input.now) }
+    requires entry { d < walk_count (walk_of input.now) }
     requires listings { terms_in listings.now ≡ terms_by input.now.rules.now input.now.options }
     requires own { IsScratchOf input.now.rules.now.rules buffers.old.scratch }
     ensures own { IsScratchOf input.now.rules.now.rules buffers.new.scratch }
@@ -112,8 +114,8 @@ fn meets(input: &WalkInput<'_>, d: u32, found: &Option<Digest>) -> bool
     }
 }
 
-/// Finds the digest of an entry where anything depends on it, and whether the entry is a directory that may be passed over.
-/// It depends on this entry alone, so entries may come in any order.
+/// Finds the digest of an entry where anything depends on it, and whether the entry is a directory
+/// that may be passed over. It depends on this entry alone, so entries may come in any order.
 #[tactic(auto, using(crate::proofs::PassedLemmas::met_is))]
 pub fn find_directory(
     alloc: Global,
@@ -123,7 +125,7 @@ pub fn find_directory(
     buffers: &mut Buffers,
 ) -> Result<Finding, OutOfMemory>
     requires fit { IsFit input.now }
-    requires entry { d < count (walk_of input.now) }
+    requires entry { d < walk_count (walk_of input.now) }
     requires listings { terms_in listings.now ≡ terms_by input.now.rules.now input.now.options }
     requires own { IsScratchOf input.now.rules.now.rules buffers.old.scratch }
     ensures own { IsScratchOf input.now.rules.now.rules buffers.new.scratch }
@@ -136,7 +138,8 @@ pub fn find_directory(
     Ok(Finding { digest, skippable })
 }
 
-/// The digest that an entry gets anew, of which it is known what was found and whether it is skipped.
+/// The digest that an entry gets anew, of which it is known what was found and whether it is
+/// skipped.
 pub fn renewed_digest(
     input: &WalkInput<'_>,
     d: u32,
@@ -144,7 +147,7 @@ pub fn renewed_digest(
     skipped: bool,
 ) -> Option<Digest>
     requires fit { IsFit input.now }
-    requires entry { d < count (walk_of input.now) }
+    requires entry { d < walk_count (walk_of input.now) }
     requires found { found ≡ needed (walk_of input.now) d }
     requires skipped { skipped ≡ is_skipped (walk_of input.now) d }
     ensures { result ≡ renewal (walk_of input.now) d }

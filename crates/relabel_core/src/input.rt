@@ -1,5 +1,5 @@
 ghost use Rattle.std.specs.Prelude.{◌≡◌, ◌+◌, ◌<◌, ◌^◌, length};
-ghost use Rattle.find_records.specs.Record.{AreOf};
+ghost use Rattle.find_records.specs.Record.{AreOfFormat};
 ghost use Rattle.tree_model.specs.Selection.{selected_by};
 ghost use Rattle.relabel_core.specs.Stored.{digests_of};
 ghost use Rattle.relabel_core.specs.Walked.{IsFit, walk_for, walk_of};
@@ -24,8 +24,9 @@ pub struct WalkInput<'a> {
     pub stored: &'a Stored,
 }
 
-/// A walk over a tree, of what a choice selected there. Each entry has to have a link count where the options' format has
-/// one, and none else; entries and operands together have to be fewer than 2^32.
+/// A walk over a tree, of what a choice selected there. Each entry has to have a link count where
+/// the options' format has one, and none else; entries and operands together have to be fewer than
+/// 2^32.
 pub fn walk_input<'a>(
     tree: &'a Tree,
     choice: &'a Choice,
@@ -35,7 +36,7 @@ pub fn walk_input<'a>(
     stored: &'a Stored,
 ) -> WalkInput<'a>
     requires chosen { chosen.now ≡ selected_by choice.now tree.now }
-    requires format { AreOf options.format tree.now }
+    requires format { AreOfFormat options.format tree.now }
     requires few { length tree.now + length choice.now.operands < 2 ^ 32 }
     ensures fit { IsFit result }
     ensures walk { walk_of result

@@ -5,8 +5,8 @@ ghost use Rattle.label_rules.specs.LabelAfter.{label_told};
 ghost use Rattle.label_rules.specs.Verdicts.{verdict_of};
 ghost use Rattle.tree_model.specs.Groups.{group_of, groups_in, label_in};
 ghost use Rattle.relabel_core.specs.Changes.{context_change};
-ghost use Rattle.relabel_core.specs.Known.{IsKnown};
-ghost use Rattle.relabel_core.specs.Walk.{is_at, label_where, verdict_where};
+ghost use Rattle.relabel_core.specs.Known.{IsEntryKnown};
+ghost use Rattle.relabel_core.specs.Walk.{is_found_at, label_where, verdict_where};
 ghost use Rattle.relabel_core.specs.Walked.{IsFit, walk_of};
 
 use crate::deciding::is_walked;
@@ -19,8 +19,9 @@ use label_rules::{
 };
 use report_text::Message;
 
-/// What is known of one entry of a walk: whether it is skipped, which specification decides it, and the winner of its group
-/// with the specification that decides that one. What becomes of its label and its line are made from this alone.
+/// What is known of one entry of a walk: whether it is skipped, which specification decides it, and
+/// the winner of its group with the specification that decides that one. What becomes of its label
+/// and its line are made from this alone.
 #[derive(Clone, Copy)]
 pub struct Known<'a> {
     input: WalkInput<'a>,
@@ -31,7 +32,7 @@ pub struct Known<'a> {
     // What decides the winner.
     winning: Option<u32>,
     ghost fit: { IsFit input },
-    ghost known: { IsKnown (walk_of input) index skip decided winner winning },
+    ghost known: { IsEntryKnown (walk_of input) index skip decided winner winning },
 }
 
 /// The verdict on the label of a group for which this context is wanted.
@@ -63,7 +64,8 @@ pub fn group_label<'a>(input: &WalkInput<'a>, g: u32, wanted: Option<&'a Context
     label_by(&group_verdict(input, g, wanted), label)
 }
 
-/// The context to which the label of a group changes for which this context is wanted, if it changes.
+/// The context to which the label of a group changes for which this context is wanted, if it
+/// changes.
 pub fn group_change<'a>(
     input: &WalkInput<'a>,
     g: u32,
@@ -81,7 +83,7 @@ pub fn group_change<'a>(
 }
 
 fn is_at(found: Option<u32>, e: u32) -> bool
-    ensures { result ≡ is_at found e }
+    ensures { result ≡ is_found_at found e }
 {
     match found {
         None => false,
@@ -94,7 +96,24 @@ impl<'a> Known<'a> {
     ghost use Rattle.report_text.specs.Message.{message_of};
     ghost use Rattle.relabel_core.specs.Changes.{change_at, change_with};
     ghost use Rattle.relabel_core.specs.KnownEntry.{index_known, walk_known};
-    ghost use Rattle.relabel_core.specs.Walk.{conflict_with, count, decided_line, has_conflict, is_changed_name, is_skipped, is_skipped_first, label_after, label_with, line, line_where, path_at, undecided_line, verdict_with, wanted, winner_line};
+    ghost use Rattle.relabel_core.specs.Walk.{
+      conflict_with,
+      count,
+      decided_line,
+      has_conflict,
+      is_changed_name,
+      is_skipped,
+      is_skipped_first,
+      label_after,
+      label_with,
+      line,
+      line_where,
+      path_at,
+      undecided_line,
+      verdict_with,
+      wanted,
+      winner_line,
+    };
 
     /// What is known of an entry of a walk.
     pub fn new(
@@ -106,7 +125,7 @@ impl<'a> Known<'a> {
         winning: Option<u32>,
     ) -> Known<'a>
         requires fit { IsFit input.now }
-        requires known { IsKnown (walk_of input.now) e skip decided winner winning }
+        requires known { IsEntryKnown (walk_of input.now) e skip decided winner winning }
         ensures walk { walk_known result ≡ walk_of input.now }
         ensures index { index_known result ≡ e }
     {

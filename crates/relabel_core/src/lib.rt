@@ -1,5 +1,6 @@
-//! The walk over a tree with one worker: which label each entry is to have, the report that tells it, and the dump of what
-//! changes. What is done for one entry, one group or one directory is a call of its own, over which the walk only loops.
+//! The walk over a tree with one worker: which label each entry is to have, the report that tells
+//! it, and the dump of what changes. What is done for one entry, one group or one directory is a
+//! call of its own, over which the walk only loops.
 #![tactic(auto)]
 
 mod after;

@@ -5,7 +5,7 @@ ghost use Rattle.relabel_core.specs.Answer.{walk_in};
 ghost use Rattle.label_rules.specs.LabelAfter.{label_told};
 ghost use Rattle.relabel_core.specs.DigestAfter.{digest_told};
 ghost use Rattle.relabel_core.specs.Digests.{walk_before};
-ghost use Rattle.relabel_core.specs.Walk.{count, digest_after, digests, new_label};
+ghost use Rattle.relabel_core.specs.Walk.{walk_count, digest_after, digests, new_label};
 ghost use Rattle.tree_model.specs.Extents.{is_directory};
 ghost use Rattle.std.specs.Option.{option_copied};
 
@@ -31,8 +31,8 @@ pub fn label_of(alloc: Global, label: &LabelAfter<'_>) -> Result<Label, OutOfMem
     }
 }
 
-/// The labels that a walk leaves, one for each group of names of one inode, in the order of the groups. The same tree with
-/// these labels is what the next run walks over.
+/// The labels that a walk leaves, one for each group of names of one inode, in the order of the
+/// groups. The same tree with these labels is what the next run walks over.
 pub fn next_labels(alloc: Global, walked: &Walked<'_>) -> Result<Row<Label>, OutOfMemory>
     ensures { IfOk result (λ labels. labels ≡ map (new_label (walk_in walked.now))
         (all_numbers (groups_in (walk_in walked.now).entries))) }
@@ -77,7 +77,7 @@ fn digest_of(
 
 // The digest of an entry after a walk.
 fn digest_at(alloc: Global, after: &Digests<'_, '_>, d: u32) -> Result<Option<Bytes>, OutOfMemory>
-    requires { d < count (walk_before after.now) }
+    requires { d < walk_count (walk_before after.now) }
     ensures { IfOk result (λ digest. digest ≡ digest_after (walk_before after.now) d) }
 {
     let walked = after.walked();
@@ -85,8 +85,9 @@ fn digest_at(alloc: Global, after: &Digests<'_, '_>, d: u32) -> Result<Option<By
     Ok(digest)
 }
 
-/// The digests after a walk, one item for each entry, which is none where the entry has none. Stored beside the same tree with
-/// the labels of [`next_labels`], they are what the next run begins with.
+/// The digests after a walk, one item for each entry, which is none where the entry has none.
+/// Stored beside the same tree with the labels of [`next_labels`], they are what the next run
+/// begins with.
 pub fn next_digests(alloc: Global, walked: &Walked<'_>) -> Result<Row<Option<Bytes>>, OutOfMemory>
     ensures digests { IfOk result (λ row. row ≡ digests (walk_in walked.now)) }
     ensures directories { ((e : ℕ) → is_directory (walk_in walked.now).entries e ≡ false

@@ -1,7 +1,7 @@
 ghost use Rattle.std.specs.Prelude.{◌≡◌, ◌+◌, ◌<◌, ◌^◌, IfOk, IfSome, length};
-ghost use Rattle.relabel_core.specs.Numbers.{IsPut, found_in};
-ghost use Rattle.relabel_core.specs.Walk.{count, deciding};
-ghost use Rattle.relabel_core.specs.Walked.{AreNoted, HasRoom, IsFit, walk_of};
+ghost use Rattle.relabel_core.specs.Numbers.{IsNumberPut, found_in};
+ghost use Rattle.relabel_core.specs.Walk.{walk_count, deciding};
+ghost use Rattle.relabel_core.specs.Walked.{AreNoted, HasWalkRoom, IsFit, walk_of};
 
 use crate::input::WalkInput;
 use crate::numbers::{enter_if, found_in, no_numbers, put_number};
@@ -9,8 +9,9 @@ use label_base::OutOfMemory;
 use label_rules::does_give;
 use std::alloc::Global;
 
-/// What is noted of the entries of a walk, each at its position: the specification that decides it; and of the groups of
-/// names of one inode their winners. It takes four bytes for each entry and each group.
+/// What is noted of the entries of a walk, each at its position: the specification that decides it;
+/// and of the groups of names of one inode their winners. It takes four bytes for each entry and
+/// each group.
 pub struct Noted {
     // For each entry the index of its specification.
     pub(crate) decided: Vec<u32>,
@@ -33,7 +34,7 @@ impl Noted {
     #[tactic(auto, using(crate::proofs::NotedLemmas::none_noted, crate::proofs::NotedLemmas::room_noted))]
     pub fn none(alloc: Global, input: &WalkInput<'_>) -> Result<Noted, OutOfMemory>
         ensures room { IfOk result (λ noted.
-            HasRoom (walk_of input.now) noted.decided.items noted.winners.items) }
+            HasWalkRoom (walk_of input.now) noted.decided.items noted.winners.items) }
         ensures none { IfOk result (λ noted.
             AreNoted (walk_of input.now) 0 noted.decided.items noted.winners.items) }
     {
@@ -60,7 +61,7 @@ impl Noted {
     #[tactic(auto, using(crate::proofs::NotedLemmas::put_few))]
     pub fn put_decided(&mut self, e: u32, found: Option<u32>)
         requires few { IfSome found (λ i. i + 1 < 2 ^ 32) }
-        ensures decided { IsPut self.old.decided.items self.new.decided.items e found }
+        ensures decided { IsNumberPut self.old.decided.items self.new.decided.items e found }
         ensures winners { self.new.winners.items ≡ self.old.winners.items }
     {
         put_number(&mut self.decided, e, found);
@@ -70,17 +71,17 @@ impl Noted {
     #[tactic(auto, using(crate::proofs::NotedLemmas::put_few))]
     pub fn put_winner(&mut self, g: u32, found: Option<u32>)
         requires few { IfSome found (λ k. k + 1 < 2 ^ 32) }
-        ensures winners { IsPut self.old.winners.items self.new.winners.items g found }
+        ensures winners { IsNumberPut self.old.winners.items self.new.winners.items g found }
         ensures decided { self.new.decided.items ≡ self.old.decided.items }
     {
         put_number(&mut self.winners, g, found);
     }
 }
 
-/// Notes what decides one entry more, where those before it are noted. It enters as its group's winner where it is the first
-/// for which a context is decided.
+/// Notes what decides one entry more, where those before it are noted. It enters as its group's
+/// winner where it is the first for which a context is decided.
 pub fn note_entry(input: &WalkInput<'_>, e: u32, found: Option<u32>, noted: &mut Noted)
-    requires entry { e < count (walk_of input.now) }
+    requires entry { e < walk_count (walk_of input.now) }
     requires fit { IsFit input.now }
     requires found { found ≡ deciding (walk_of input.now) e }
     requires within { IfSome found (λ i. i < length input.now.rules.now.rules) }

@@ -1,5 +1,6 @@
 ghost use Rattle.std.specs.Prelude.{◌≡◌, IfOk, replicate};
-ghost use Rattle.relabel_core.specs.Numbers.{as_found, entered_at, entered_if, found_in, number_of, put_at};
+ghost use Rattle.relabel_core.specs.Numbers.{as_found, entered_at, entered_if, found_in};
+ghost use Rattle.relabel_core.specs.Numbers.{found_number, put_at};
 
 use label_base::OutOfMemory;
 use std::alloc::Global;
@@ -28,7 +29,7 @@ pub fn found_in(numbers: &[u32], i: u32) -> Option<u32>
 
 // What is kept of a number, or of none.
 fn number_of(found: Option<u32>) -> u32
-    ensures { result ≡ number_of found }
+    ensures { result ≡ found_number found }
 {
     match found {
         Some(number) => number,
@@ -63,7 +64,7 @@ fn put(numbers: &mut Vec<u32>, i: u32, number: u32)
 
 /// Puts a number, or none, at an index, if there is room for it.
 pub fn put_number(numbers: &mut Vec<u32>, i: u32, found: Option<u32>)
-    ensures { numbers.new.items ≡ put_at numbers.old.items i (number_of found) }
+    ensures { numbers.new.items ≡ put_at numbers.old.items i (found_number found) }
 {
     put(numbers, i, number_of(found));
 }

@@ -1,8 +1,9 @@
-ghost use Rattle.std.specs.Prelude.{◌≡◌, ℕ, ◌<◌, [], IfOk, None, OnOk, Some, get_or, not, replicate};
+ghost use Rattle.std.specs.Prelude.{◌≡◌, ℕ, ◌<◌, [], IfOk, None, OnOk, Some, get_or, not};
+ghost use Rattle.std.specs.Prelude.{replicate};
 ghost use Rattle.relabel_core.specs.Numbers.{put_at};
 ghost use Rattle.relabel_core.specs.Passed.{ArePassed, is_first, is_not};
-ghost use Rattle.relabel_core.specs.Stored.{Adds, digests_in};
-ghost use Rattle.relabel_core.specs.Walk.{count, is_skipped};
+ghost use Rattle.relabel_core.specs.Stored.{AddsDigest, digests_in};
+ghost use Rattle.relabel_core.specs.Walk.{walk_count, is_skipped};
 ghost use Rattle.relabel_core.specs.Walked.{IsFit, walk_of};
 
 use crate::input::WalkInput;
@@ -22,8 +23,8 @@ pub enum Skip {
     Below,
 }
 
-/// What is found of the directories before any entry is looked up: which entries are skipped, and the digests that are made
-/// anew.
+/// What is found of the directories before any entry is looked up: which entries are skipped, and
+/// the digests that are made anew.
 pub struct Passed {
     // For each entry; nothing where no digests are asked for.
     pub(crate) skips: Vec<Skip>,
@@ -52,7 +53,7 @@ impl Passed {
 
     /// The same, with room to note of so many entries whether they are skipped.
     pub fn with_room(alloc: Global, count: u32) -> Result<Passed, OutOfMemory>
-        ensures skips { IfOk result (λ passed. passed.skips.items ≡ replicate count Skip.Not) }
+        ensures skips { IfOk result (λ passed. passed.skips.items ≡ replicate walk_count Skip.Not) }
         ensures made { IfOk result (λ passed. (d : ℕ) → digests_in passed.made d ≡ None) }
     {
         let skips = none_skipped(alloc, count)?;
@@ -68,10 +69,11 @@ impl Passed {
         put_skip(&mut self.skips, e, skip);
     }
 
-    /// Notes at the position of a directory, of which none is noted yet, the digest that it gets anew.
+    /// Notes at the position of a directory, of which none is noted yet, the digest that it gets
+    /// anew.
     pub fn put_renewed(&mut self, d: u32, digest: Digest) -> Result<(), OutOfMemory>
         requires { digests_in self.old.made d ≡ None }
-        ensures made { OnOk result (Adds self.old.made self.new.made d (Some digest)) }
+        ensures made { OnOk result (AddsDigest self.old.made self.new.made d (Some digest)) }
         ensures skips { self.new.skips.items ≡ self.old.skips.items }
     {
         let _ = self.made.insert(d, digest)?;
@@ -108,7 +110,7 @@ fn put_skip(skips: &mut Vec<Skip>, e: u32, skip: Skip)
 }
 
 fn none_skipped(alloc: Global, count: u32) -> Result<Vec<Skip>, OutOfMemory>
-    ensures { IfOk result (λ skips. skips.items ≡ replicate count Skip.Not) }
+    ensures { IfOk result (λ skips. skips.items ≡ replicate walk_count Skip.Not) }
 {
     let mut skips = Vec::with_capacity(alloc, count as usize)?;
     'places: for _ in 0..count {
@@ -137,7 +139,7 @@ pub fn does_skip(skip: Skip) -> bool
 /// Whether an entry is at or below a directory that is skipped.
 pub fn is_skipped(input: &WalkInput<'_>, passed: &Passed, e: u32) -> bool
     requires fit { IsFit input.now }
-    requires entry { e < count (walk_of input.now) }
+    requires entry { e < walk_count (walk_of input.now) }
     requires passed { ArePassed (walk_of input.now) passed.now.skips.items passed.now.made }
     ensures { result ≡ is_skipped (walk_of input.now) e }
 {

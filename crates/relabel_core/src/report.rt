@@ -1,10 +1,13 @@
-ghost use Rattle.std.specs.Prelude.{◌≡◌, ◌<◌, ◌++◌, [], IfOk, None, OnOk, Some, false, get_or, if◌then◌else◌, length, option_map, replicate, slice_get};
+ghost use Rattle.std.specs.Prelude.{◌≡◌, ◌<◌, ◌++◌, [], IfOk, None, OnOk, Some, false, get_or};
+ghost use Rattle.std.specs.Prelude.{if◌then◌else◌, length, option_map, replicate, slice_get};
 ghost use Rattle.file_paths.specs.PathRef.{path_of};
 ghost use Rattle.report_text.specs.Message.{message_of};
 ghost use Rattle.report_text.specs.Texts.{report_of};
 ghost use Rattle.relabel_core.specs.Answer.{walk_in};
-ghost use Rattle.relabel_core.specs.Report.{AreRaised, absent_text, optional_text, raised_at, text_below, unflagged_line};
-ghost use Rattle.relabel_core.specs.Walk.{absent_lines, count, entry_lines, line, line_of_spec, messages, unmatched_lines};
+ghost use Rattle.relabel_core.specs.Report.{AreRaised, absent_text, optional_text, raised_at};
+ghost use Rattle.relabel_core.specs.Report.{text_below, unflagged_line};
+ghost use Rattle.relabel_core.specs.Walk.{absent_lines, walk_count, entry_lines, line};
+ghost use Rattle.relabel_core.specs.Walk.{line_of_spec, messages, unmatched_lines};
 ghost use Rattle.relabel_core.specs.Walked.{walk_of};
 
 use crate::input::WalkInput;
@@ -83,7 +86,7 @@ fn add_entries(alloc: Global, walked: &Walked<'_>, to: &mut Bytes) -> Result<(),
 
 /// So many flags that are not raised.
 pub fn no_flags(alloc: Global, count: u32) -> Result<Vec<bool>, OutOfMemory>
-    ensures { IfOk result (λ flags. flags.items ≡ replicate count false) }
+    ensures { IfOk result (λ flags. flags.items ≡ replicate walk_count false) }
 {
     let mut flags = Vec::with_capacity(alloc, count as usize)?;
     'places: for _ in 0..count {
@@ -181,22 +184,22 @@ fn add_unflagged(
 impl<'a> Walked<'a> {
     /// Adds at the end the line of an entry, if it has one.
     pub fn add_entry(&self, alloc: Global, e: u32, to: &mut Bytes) -> Result<(), OutOfMemory>
-        requires { e < count (walk_in self.now) }
+        requires { e < walk_count (walk_in self.now) }
         ensures { OnOk result (to.new ≡ to.old ++ optional_text (line (walk_in self.now) e)) }
     {
         add_message(alloc, &self.message_at(e), to)
     }
 
-    /// Adds at the end the lines of the operands without an entry, unless these are ignored: they stand before those of the
-    /// entries.
+    /// Adds at the end the lines of the operands without an entry, unless these are ignored: they
+    /// stand before those of the entries.
     pub fn add_absent(&self, alloc: Global, to: &mut Bytes) -> Result<(), OutOfMemory>
         ensures { OnOk result (to.new ≡ to.old ++ report_of (absent_lines (walk_in self.now))) }
     {
         add_absent(alloc, &self.input, to)
     }
 
-    /// Adds at the end the lines of the specifications that decide no entry, where these are asked for: they stand behind
-    /// those of the entries.
+    /// Adds at the end the lines of the specifications that decide no entry, where these are asked
+    /// for: they stand behind those of the entries.
     pub fn add_unmatched(&self, alloc: Global, to: &mut Bytes) -> Result<(), OutOfMemory>
         ensures { OnOk result (to.new ≡ to.old ++ report_of (unmatched_lines (walk_in self.now))) }
     {
@@ -208,9 +211,9 @@ impl<'a> Walked<'a> {
         Ok(())
     }
 
-    /// Adds the lines of all messages at the end: those of the operands without an entry, those of the entries in the order
-    /// of their paths, and those of the specifications that decide no entry. After want of memory a front of them may have
-    /// been added.
+    /// Adds the lines of all messages at the end: those of the operands without an entry, those of
+    /// the entries in the order of their paths, and those of the specifications that decide no
+    /// entry. After want of memory a front of them may have been added.
     pub fn add_report(&self, alloc: Global, to: &mut Bytes) -> Result<(), OutOfMemory>
         ensures { OnOk result (to.new ≡ to.old ++ report_of (messages (walk_in self.now))) }
     {

@@ -1,8 +1,11 @@
-ghost use Rattle.std.specs.Prelude.{◌≡◌, ℕ, ◌<◌, ◌^◌, ◌∷◌, [], IfOk, None, OnOk, Some, false, get_or, length, true};
+ghost use Rattle.std.specs.Prelude.{◌≡◌, ℕ, ◌<◌, ◌^◌, ◌∷◌, [], IfOk, None, OnOk, Some, false};
+ghost use Rattle.std.specs.Prelude.{get_or, length, true};
 ghost use Rattle.std.specs.Option.{option_copied};
 ghost use Rattle.file_paths.specs.PathRef.{path_of};
 ghost use Rattle.tree_model.specs.Extents.{is_directory};
-ghost use Rattle.relabel_core.specs.Stored.{Adds, Keeps, KeepsAmong, KeepsFrom, digests_by, digests_in, digests_listed, digests_of, directory_at, if_directory, is_digest, no_digests};
+ghost use Rattle.relabel_core.specs.Stored.{AddsDigest, Keeps, KeepsAmong, KeepsFrom, digests_by};
+ghost use Rattle.relabel_core.specs.Stored.{digests_in, digests_listed, digests_of, directory_at};
+ghost use Rattle.relabel_core.specs.Stored.{if_directory, is_digest_attr, no_digests};
 
 use file_paths::PathRef;
 use label_base::{Bytes, EntryKind, OutOfMemory, Row};
@@ -11,8 +14,8 @@ use std::alloc::Global;
 use std::collections::BTreeMap;
 use tree_model::Tree;
 
-/// The digests that are stored for the directories of a tree, by the indices of their entries. It takes memory for these
-/// alone.
+/// The digests that are stored for the directories of a tree, by the indices of their entries. It
+/// takes memory for these alone.
 pub struct Stored {
     kept: BTreeMap<u32, Bytes>,
 }
@@ -38,7 +41,7 @@ fn keep(
 }
 
 fn is_digest(attr: &Attr) -> bool
-    ensures { result ≡ is_digest attr.now }
+    ensures { result ≡ is_digest_attr attr.now }
 {
     attr.key.as_slice() == DIGEST_KEY
 }
@@ -141,7 +144,7 @@ fn keep_given(
     digest: &Option<Bytes>,
 ) -> Result<(), OutOfMemory>
     requires { digests_in kept.old d ≡ None }
-    ensures { OnOk result (Adds kept.old kept.new d digest.now) }
+    ensures { OnOk result (AddsDigest kept.old kept.new d digest.now) }
 {
     match digest {
         None => Ok(()),
@@ -170,8 +173,8 @@ impl Stored {
         }
     }
 
-    /// The digests that a dump has for the directories of a tree: for each the last value of `security.sehash` under its
-    /// path. Other names and other attributes are passed over.
+    /// The digests that a dump has for the directories of a tree: for each the last value of
+    /// `security.sehash` under its path. Other names and other attributes are passed over.
     pub fn new(alloc: Global, tree: &Tree, dump: &Dump) -> Result<Stored, OutOfMemory>
         ensures { IfOk result (λ stored.
             digests_of stored ≡ digests_by dump.now.sections tree.now) }
@@ -181,7 +184,8 @@ impl Stored {
         Ok(Stored { kept })
     }
 
-    /// These digests, one item for each entry of a tree, which is none where the entry is no directory.
+    /// These digests, one item for each entry of a tree, which is none where the entry is no
+    /// directory.
     pub fn of(
         alloc: Global,
         tree: &Tree,

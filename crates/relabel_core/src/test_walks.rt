@@ -1,6 +1,7 @@
-// The walks of the tests. Each helper has one value with a buffer and one `?`, since what has several takes long to prove.
+// The walks of the tests. Each helper has one value with a buffer and one `?`, since what has
+// several takes long to prove.
 ghost use Rattle.std.specs.Prelude.{◌≡◌, ◌<◌, IfOk};
-ghost use Rattle.find_records.specs.Record.{AreOf};
+ghost use Rattle.find_records.specs.Record.{AreOfFormat};
 ghost use Rattle.relabel_core.specs.Walked.{IsFit};
 
 use crate::{
@@ -103,7 +104,7 @@ pub struct Answered {
 const TYPES: &[u8] = b"public_content_t\n";
 
 pub fn tree_of(alloc: Global, records: &[u8], format: Format) -> Result<Tree, Fail>
-    ensures { IfOk result (λ tree. AreOf format tree) }
+    ensures { IfOk result (λ tree. AreOfFormat format tree) }
 {
     let mut source = MemSource::new(Bytes::copy_of(alloc, records)?, 100, Row::new(alloc));
     let limits = RecordLimits {
@@ -295,7 +296,7 @@ fn answered_choice(
     stored: &Stored,
     choice: &Choice,
 ) -> Result<Answered, OutOfMemory>
-    requires { AreOf given.now.options.format tree.now }
+    requires { AreOfFormat given.now.options.format tree.now }
 {
     let entries = tree.len();
     let operands = choice.operands.len();
@@ -320,7 +321,7 @@ fn answered_stored(
     rules: &Rules,
     stored: &Stored,
 ) -> Result<Answered, Fail>
-    requires { AreOf given.now.options.format tree.now }
+    requires { AreOfFormat given.now.options.format tree.now }
 {
     let choice = choice_of(alloc, given)?;
     Ok(answered_choice(alloc, given, tree, rules, stored, &choice)?)
@@ -332,14 +333,14 @@ fn answered_rules(
     tree: &Tree,
     rules: &Rules,
 ) -> Result<Answered, Fail>
-    requires { AreOf given.now.options.format tree.now }
+    requires { AreOfFormat given.now.options.format tree.now }
 {
     let stored = stored_of(alloc, tree, given.kept)?;
     answered_stored(alloc, given, tree, rules, &stored)
 }
 
 fn answered_tree(alloc: Global, given: &Given<'_>, tree: &Tree) -> Result<Answered, Fail>
-    requires { AreOf given.now.options.format tree.now }
+    requires { AreOfFormat given.now.options.format tree.now }
 {
     let rules = rules_of(alloc, given.specs)?;
     answered_rules(alloc, given, tree, &rules)

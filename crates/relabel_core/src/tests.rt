@@ -161,7 +161,8 @@ fn told(alloc: Global, given: &Given<'_>) -> Result<(Option<Told>, Option<(Diges
     Ok((answered.told, answered.digest))
 }
 
-// How many labels and digests a walk leaves, and how many errors and entries decided to a context it has.
+// How many labels and digests a walk leaves, and how many errors and entries decided to a context
+// it has.
 fn counted(alloc: Global, given: &Given<'_>) -> Result<((usize, usize), u32, u32), Fail> {
     let answered = answer(alloc, given)?;
     Ok((answered.left, answered.errors, answered.wanted))

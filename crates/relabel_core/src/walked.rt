@@ -1,7 +1,7 @@
 ghost use Rattle.std.specs.Prelude.{◌≡◌, ◌<◌, IfSome, option_and_then, option_map};
 ghost use Rattle.std.specs.Option.{option_copied};
 ghost use Rattle.relabel_core.specs.Passed.{ArePassed};
-ghost use Rattle.relabel_core.specs.Walked.{AreFound, IsFit, walk_of};
+ghost use Rattle.relabel_core.specs.Walked.{AreWalkAnswers, IsFit, walk_of};
 
 use crate::deciding::is_walked;
 use crate::input::WalkInput;
@@ -13,16 +13,17 @@ use file_paths::PathRef;
 use label_rules::{LabelAfter, does_give, given_at};
 use report_text::Message;
 
-/// What a walk over a tree answers. It lends the tree and the rules, and keeps what was found: for each entry the
-/// specification that decides it and whether it is skipped, for each group of names of one inode its winner, and the digests
-/// that are made anew. Labels and lines are made from these, entry by entry.
+/// What a walk over a tree answers. It lends the tree and the rules, and keeps what was found: for
+/// each entry the specification that decides it and whether it is skipped, for each group of names
+/// of one inode its winner, and the digests that are made anew. Labels and lines are made from
+/// these, entry by entry.
 pub struct Walked<'a> {
     pub(crate) input: WalkInput<'a>,
     pub(crate) noted: Noted,
     pub(crate) passed: Passed,
     ghost fit: { IsFit input },
     ghost were_passed: { ArePassed (walk_of input) passed.skips.items passed.made },
-    ghost found: { AreFound (walk_of input) noted.decided.items noted.winners.items },
+    ghost found: { AreWalkAnswers (walk_of input) noted.decided.items noted.winners.items },
 }
 
 // By hand: one call for an owner, where a derived drop is a step for each field.
@@ -45,14 +46,30 @@ impl<'a> Walked<'a> {
     ghost use Rattle.relabel_core.specs.Changes.{change_at};
     ghost use Rattle.relabel_core.specs.KnownEntry.{index_known, walk_known};
     ghost use Rattle.label_rules.specs.LabelAfter.{label_told};
-    ghost use Rattle.relabel_core.specs.Walk.{count, count_wanted, deciding, group_winner, has_conflict, is_changed_name, is_skipped_first, is_wanted, label_after, line, new_label, path_at, walked, wanted, winner};
+    ghost use Rattle.relabel_core.specs.Walk.{
+      count,
+      count_wanted,
+      deciding,
+      group_winner,
+      has_conflict,
+      is_changed_name,
+      is_skipped_first,
+      is_wanted,
+      label_after,
+      line,
+      new_label,
+      path_at,
+      walked,
+      wanted,
+      winner,
+    };
 
-    /// The answer of a walk of which this is found, each at its position: which entries are skipped and which digests are made
-    /// anew, what decides each entry, and the winner of each group.
+    /// The answer of a walk of which this is found, each at its position: which entries are skipped
+    /// and which digests are made anew, what decides each entry, and the winner of each group.
     pub fn of_noted(input: &WalkInput<'a>, passed: Passed, noted: Noted) -> Walked<'a>
         requires fit { IsFit input.now }
         requires passed { ArePassed (walk_of input.now) passed.skips.items passed.made }
-        requires found { AreFound (walk_of input.now) noted.decided.items noted.winners.items }
+        requires found { AreWalkAnswers (walk_of input.now) noted.decided.items noted.winners.items }
         ensures { walk_in result ≡ walk_of input.now }
     {
         Walked {
@@ -125,7 +142,8 @@ impl<'a> Walked<'a> {
         self.noted.winner_at(g)
     }
 
-    /// The winner of an entry's group, if it has one: the first of its entries for which a context is decided.
+    /// The winner of an entry's group, if it has one: the first of its entries for which a context
+    /// is decided.
     pub fn winner(&self, e: u32) -> Option<u32>
         requires { e < count (walk_in self.now) }
         ensures value { result ≡ group_winner (walk_in self.now) e }
@@ -226,7 +244,8 @@ impl<'a> Walked<'a> {
         self.known(e).is_changed()
     }
 
-    /// The label of an entry after the walk: that of its group, which changes at the group's winner.
+    /// The label of an entry after the walk: that of its group, which changes at the group's
+    /// winner.
     pub fn label_at(&self, e: u32) -> LabelAfter<'a>
         requires { e < count (walk_in self.now) }
         ensures { label_told result ≡ label_after (walk_in self.now) e }

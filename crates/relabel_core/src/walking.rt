@@ -2,7 +2,7 @@ ghost use Rattle.std.specs.Prelude.{◌≡◌, ◌+◌, ◌≤◌, IfOk, length}
 ghost use Rattle.spec_match.specs.Scratches.{IsScratchOf};
 ghost use Rattle.relabel_core.specs.Passed.{ArePassed};
 ghost use Rattle.relabel_core.specs.Walk.{walked_below};
-ghost use Rattle.relabel_core.specs.Walked.{AreFound, IsFit, walk_of};
+ghost use Rattle.relabel_core.specs.Walked.{AreWalkAnswers, IsFit, walk_of};
 ghost use Rattle.relabel_core.specs.Answer.{walk_in};
 
 use crate::deciding::decide_entry;
@@ -28,7 +28,7 @@ fn note_entries<L: Ledger>(
     requires passed { ArePassed (walk_of input.now) passed.now.skips.items passed.now.made }
     requires own { IsScratchOf input.now.rules.now.rules scratch.old }
     ensures found { IfOk result (λ noted.
-        AreFound (walk_of input.now) noted.decided.items noted.winners.items) }
+        AreWalkAnswers (walk_of input.now) noted.decided.items noted.winners.items) }
     ensures count { steps.new
         ≤ steps.old + walked_below (walk_of input.now) (length input.now.tree.now) }
 {
@@ -59,9 +59,9 @@ fn walk_within<'a, L: Ledger>(
     Ok(Walked::of_noted(input, passed, noted))
 }
 
-/// Walks over a tree: finds the directories that are skipped, looks each other entry up that the run is asked for, and notes
-/// what decides it and which name of each inode is the first for which a context is decided. It counts at most one step for
-/// each entry that is looked up.
+/// Walks over a tree: finds the directories that are skipped, looks each other entry up that the
+/// run is asked for, and notes what decides it and which name of each inode is the first for which
+/// a context is decided. It counts at most one step for each entry that is looked up.
 pub fn walk<'a, L: Ledger>(
     alloc: Global,
     input: &WalkInput<'a>,

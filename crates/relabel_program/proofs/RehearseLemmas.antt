@@ -16,19 +16,25 @@ use Rattle.policy_rehearsal.specs.Told.{TellsKept, TellsKeptLabels}
 use Rattle.policy_rehearsal.specs.Words.{rehearse_words}
 use Rattle.policy_rehearsal.specs.declared.words.RehearseWords.{RehearseWords}
 use Rattle.policy_rehearsal.proofs.ToldLemmas.{answer_keeps}
-use Rattle.relabel_program.specs.Tools.{asked_for, asked_of, rehearse_asked, rehearse_for, tool_named, unless_wrong}
+use Rattle.relabel_program.specs.Tools.{asked_for, plan_of, rehearse_asked, rehearse_for}
+use Rattle.relabel_program.specs.Tools.{tool_named, words_unless_wrong}
 use Rattle.relabel_program.specs.declared.runs.TheConstants.{FIRST}
 use Rattle.relabel_program.specs.declared.runs.ToolName.{ToolName}
-use Rattle.relabel_program.specs.declared.runs.ToolName.TheVariants.{Setfiles, Restorecon, Matchpathcon, Genhomedircon, Rehearse, Sample, Audit}
+use Rattle.relabel_program.specs.declared.runs.ToolName.TheVariants.{Setfiles, Restorecon}
+use Rattle.relabel_program.specs.declared.runs.ToolName.TheVariants.{Matchpathcon, Genhomedircon}
+use Rattle.relabel_program.specs.declared.runs.ToolName.TheVariants.{Rehearse, Sample, Audit}
 
 -- ---- what is asked for
 
-planned_by : (read : Result RehearseWords Usage) (words : RehearseWords) → unless_wrong read ≡ Some words
+planned_by : (read : Result RehearseWords Usage) (words : RehearseWords) → words_unless_wrong read
+    ≡ Some words
     → planned rehearse_plan read ≡ Ok (rehearse_plan words)
-planned_by (Ok asked) words is = ap (λ (w : RehearseWords). Ok (rehearse_plan w)) (same_Some asked words is)
+planned_by (Ok asked) words is = ap (λ (w : RehearseWords). Ok (rehearse_plan w))
+    (same_Some asked words is)
 planned_by (Err wrong) words is = absurd cc
 
-asked_by : (tool : Option ToolName) (texts : List (List ℕ)) (words : RehearseWords) → rehearse_for tool texts ≡ Some words
+asked_by : (tool : Option ToolName) (texts : List (List ℕ)) (words : RehearseWords)
+    → rehearse_for tool texts ≡ Some words
     → asked_for tool texts ≡ Ok (rehearse_plan words)
 asked_by (Some Setfiles) texts words is = absurd cc
 asked_by (Some Restorecon) texts words is = absurd cc
@@ -39,7 +45,8 @@ asked_by (Some Sample) texts words is = absurd cc
 asked_by (Some Audit) texts words is = absurd cc
 asked_by None texts words is = absurd cc
 
-plan_asked : (texts : List (List ℕ)) (words : RehearseWords) → rehearse_asked texts ≡ Some words → asked_of texts ≡ Ok (rehearse_plan words)
+plan_asked : (texts : List (List ℕ)) (words : RehearseWords) → rehearse_asked texts ≡ Some words
+    → plan_of texts ≡ Ok (rehearse_plan words)
 plan_asked [] words is = absurd cc
 plan_asked (tool ∷ texts) words is = asked_by (tool_named tool) texts words is
 
@@ -58,7 +65,8 @@ module _ {S I : Type 0} (before after : Outside S I) where
         (WritesAndSaves before after known) cause
 
     reported : (cause : Cause)
-        → Reports ((rehearse_plan words).answer known bytes) (WritesAndSaves before after known) cause
+        → Reports ((rehearse_plan words).answer known bytes) (WritesAndSaves before after known)
+        cause
         → Kept
     reported cause reports =
         answer_keeps words known bytes IsReport reports.reported reports.is_meant reports.done.whole
@@ -101,7 +109,7 @@ module _ {S I : Type 0} (before after : Outside S I) where
     kept_if (Some words) kept = kept words refl
 
     -- the labels at the end are those without skipping
-    pub keeps : (texts : List (List ℕ)) → Run (asked_of texts) before after cause
+    pub keeps : (texts : List (List ℕ)) → Run (plan_of texts) before after cause
         → IfSome (rehearse_asked texts) KeptLabels
     keeps texts ran = kept_if (rehearse_asked texts) (λ words is.
-        kept_by words (asked_of texts) (plan_asked texts words is) ran.is_meant)
+        kept_by words (plan_of texts) (plan_asked texts words is) ran.is_meant)

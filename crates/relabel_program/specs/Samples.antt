@@ -2,10 +2,11 @@
 use Rattle.std.specs.Prelude.{◌≡◌, ◌⊎◌, ℕ, List, [], ◌∷◌, Some, IfOk, IsOk}
 use Rattle.input_output.specs.Source.{Rose}
 use Rattle.run_faults.specs.declared.cause.Cause.{Cause}
-use Rattle.run_faults.specs.declared.cause.Cause.TheVariants.{Done, OutOfMemory, ReadFault, WriteFault}
+use Rattle.run_faults.specs.declared.cause.Cause.TheVariants.{Done, OutOfMemory, ReadFault}
+use Rattle.run_faults.specs.declared.cause.Cause.TheVariants.{WriteFault}
 use Rattle.sample_tree.specs.Accepted.{IsAlwaysDone}
 use Rattle.sample_tree.specs.Words.{sample_words}
-use Rattle.relabel_program.specs.Tools.{asked_of, tool_named}
+use Rattle.relabel_program.specs.Tools.{plan_of, tool_named}
 use Rattle.relabel_program.specs.declared.runs.TheConstants.{FIRST}
 use Rattle.relabel_program.specs.declared.runs.ToolName.TheVariants.{Sample}
 
@@ -14,8 +15,8 @@ abbrev pub AskForSample : List (List ℕ) → Type 0
 AskForSample [] = ⊥
 AskForSample (tool ∷ words) = (tool_named tool ≡ Some Sample) × IsOk (sample_words FIRST words)
 
--- Its report is written, or its write failed, or memory was wanting. Neither the store nor the input is
--- called, so that a failed read is told only by a count that stands at its last value.
+-- Its report is written, or its write failed, or memory was wanting. Neither the store nor the
+-- input is called, so that a failed read is told only by a count that stands at its last value.
 abbrev pub EndsSample : (read_faults input_faults : ℕ) → Cause → Type 0
 EndsSample read_faults input_faults Done = Unit {0}
 EndsSample read_faults input_faults WriteFault = Unit {0}
@@ -28,4 +29,4 @@ EndsSample read_faults input_faults cause = ⊥
 abbrev pub RunsSample : List (List ℕ) → (read_faults input_faults : ℕ) → Cause → Type 0
 RunsSample words read_faults input_faults cause =
     AskForSample words
-    → IfOk (asked_of words) IsAlwaysDone × EndsSample read_faults input_faults cause
+    → IfOk (plan_of words) IsAlwaysDone × EndsSample read_faults input_faults cause

@@ -26,7 +26,9 @@ use Rattle.label_audit.specs.Words.{audit_words}
 use Rattle.label_audit.specs.declared.TheConstants.{AUDIT}
 use Rattle.relabel_program.specs.declared.runs.TheConstants.{FIRST}
 use Rattle.relabel_program.specs.declared.runs.ToolName.{ToolName}
-use Rattle.relabel_program.specs.declared.runs.ToolName.TheVariants.{Setfiles, Restorecon, Matchpathcon, Genhomedircon, Rehearse, Sample, Audit}
+use Rattle.relabel_program.specs.declared.runs.ToolName.TheVariants.{Setfiles, Restorecon}
+use Rattle.relabel_program.specs.declared.runs.ToolName.TheVariants.{Matchpathcon, Genhomedircon}
+use Rattle.relabel_program.specs.declared.runs.ToolName.TheVariants.{Rehearse, Sample, Audit}
 
 -- the tool that a word names
 abbrev pub tool_named : List ℕ → Option ToolName
@@ -52,18 +54,18 @@ asked_for (Some Audit) words = planned audit_plan (audit_words FIRST words)
 asked_for None words = Err (usage 0 UnknownTool)
 
 -- what all words ask for, or the first that is wrong
-abbrev pub asked_of : List (List ℕ) → Result Plan Usage
-asked_of [] = Err (usage 0 UnknownTool)
-asked_of (tool ∷ words) = asked_for (tool_named tool) words
+abbrev pub plan_of : List (List ℕ) → Result Plan Usage
+plan_of [] = Err (usage 0 UnknownTool)
+plan_of (tool ∷ words) = asked_for (tool_named tool) words
 
 -- ---- words that ask for rehearse
 
-abbrev pub unless_wrong : {W : Type 0} → Result W Usage → Option W
-unless_wrong (Ok words) = Some words
-unless_wrong (Err wrong) = None
+abbrev pub words_unless_wrong : {W : Type 0} → Result W Usage → Option W
+words_unless_wrong (Ok words) = Some words
+words_unless_wrong (Err wrong) = None
 
 abbrev pub rehearse_for : Option ToolName → List (List ℕ) → Option RehearseWords
-rehearse_for (Some Rehearse) words = unless_wrong (rehearse_words FIRST words)
+rehearse_for (Some Rehearse) words = words_unless_wrong (rehearse_words FIRST words)
 rehearse_for tool words = None
 
 -- what all words ask of rehearse, where that is the tool that they name

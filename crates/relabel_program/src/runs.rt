@@ -1,5 +1,6 @@
-ghost use Rattle.std.specs.Prelude.{◌≡◌, ◌+◌, ◌<◌, ◌^◌, Err, IfOk, IfSome, Ok, Option, Result, Some, length};
-ghost use Rattle.label_base.specs.Answers.{Answers, cause_of};
+ghost use Rattle.std.specs.Prelude.{◌≡◌, ◌+◌, ◌<◌, ◌^◌, Err, IfOk, IfSome, Ok, Option, Result};
+ghost use Rattle.std.specs.Prelude.{Some, length};
+ghost use Rattle.label_base.specs.Answers.{Answers, fault_cause};
 ghost use Rattle.tool_words.specs.Words.{usage, word_texts};
 ghost use Rattle.tool_words.specs.declared.usage.Usage.{Usage};
 ghost use Rattle.tool_words.specs.declared.usage.UsageWhy.TheVariants.{UnknownTool};
@@ -23,7 +24,7 @@ ghost use Rattle.sample_tree.specs.Words.{sample_words};
 ghost use Rattle.relabel_program.specs.Samples.{RunsSample};
 ghost use Rattle.label_audit.specs.Plan.{audit_plan};
 ghost use Rattle.label_audit.specs.Words.{audit_words};
-ghost use Rattle.relabel_program.specs.Tools.{asked_for, asked_of, rehearse_asked, tool_named};
+ghost use Rattle.relabel_program.specs.Tools.{asked_for, plan_of, rehearse_asked, tool_named};
 
 use home_contexts::{GENHOMEDIRCON, read_homes};
 use input_output::{Sink, Source, Store};
@@ -80,7 +81,7 @@ fn tool_named(word: &str) -> Option<ToolName>
 }
 
 fn unknown_tool() -> Fault<Usage>
-    ensures { cause_of result ≡ Some (usage 0 UnknownTool) }
+    ensures { fault_cause result ≡ Some (usage 0 UnknownTool) }
 {
     Fault::Why(Usage {
         index: 0,
@@ -97,7 +98,9 @@ fn run_setfiles<S: Store, I: Source, O: Sink>(
     out: &mut O,
 ) -> Outcome
     requires { length words.now + FIRST < 2 ^ 31 }
-    ensures status { result.status ≡ status_of (is_soft_in (planned relabel_plan (setfiles_words FIRST (word_texts words.now)))) result.cause }
+    ensures status { result.status
+        ≡ status_of (is_soft_in
+        (planned relabel_plan (setfiles_words FIRST (word_texts words.now)))) result.cause }
     ensures run { Run (planned relabel_plan (setfiles_words FIRST (word_texts words.now)))
         (outside S.Store I.Source O.Sink store.old input.old out.old)
         (outside S.Store I.Source O.Sink store.new input.new out.new) result.cause }
@@ -114,7 +117,9 @@ fn run_restorecon<S: Store, I: Source, O: Sink>(
     out: &mut O,
 ) -> Outcome
     requires { length words.now + FIRST < 2 ^ 31 }
-    ensures status { result.status ≡ status_of (is_soft_in (planned relabel_plan (restorecon_words FIRST (word_texts words.now)))) result.cause }
+    ensures status { result.status
+        ≡ status_of (is_soft_in
+        (planned relabel_plan (restorecon_words FIRST (word_texts words.now)))) result.cause }
     ensures run { Run (planned relabel_plan (restorecon_words FIRST (word_texts words.now)))
         (outside S.Store I.Source O.Sink store.old input.old out.old)
         (outside S.Store I.Source O.Sink store.new input.new out.new) result.cause }
@@ -137,7 +142,9 @@ fn run_lookup<S: Store, I: Source, O: Sink>(
     out: &mut O,
 ) -> Outcome
     requires { length words.now + FIRST < 2 ^ 31 }
-    ensures status { result.status ≡ status_of (is_soft_in (planned lookup_plan (lookup_words FIRST (word_texts words.now)))) result.cause }
+    ensures status { result.status
+        ≡ status_of (is_soft_in (planned lookup_plan (lookup_words FIRST (word_texts words.now))))
+        result.cause }
     ensures run { Run (planned lookup_plan (lookup_words FIRST (word_texts words.now)))
         (outside S.Store I.Source O.Sink store.old input.old out.old)
         (outside S.Store I.Source O.Sink store.new input.new out.new) result.cause }
@@ -154,7 +161,9 @@ fn run_homes<S: Store, I: Source, O: Sink>(
     out: &mut O,
 ) -> Outcome
     requires { length words.now + FIRST < 2 ^ 31 }
-    ensures status { result.status ≡ status_of (is_soft_in (planned homes_plan (homes_words FIRST (word_texts words.now)))) result.cause }
+    ensures status { result.status
+        ≡ status_of (is_soft_in (planned homes_plan (homes_words FIRST (word_texts words.now))))
+        result.cause }
     ensures run { Run (planned homes_plan (homes_words FIRST (word_texts words.now)))
         (outside S.Store I.Source O.Sink store.old input.old out.old)
         (outside S.Store I.Source O.Sink store.new input.new out.new) result.cause }
@@ -171,7 +180,9 @@ fn run_rehearse<S: Store, I: Source, O: Sink>(
     out: &mut O,
 ) -> Outcome
     requires { length words.now + FIRST < 2 ^ 31 }
-    ensures status { result.status ≡ status_of (is_soft_in (planned rehearse_plan (rehearse_words FIRST (word_texts words.now)))) result.cause }
+    ensures status { result.status
+        ≡ status_of (is_soft_in
+        (planned rehearse_plan (rehearse_words FIRST (word_texts words.now)))) result.cause }
     ensures run { Run (planned rehearse_plan (rehearse_words FIRST (word_texts words.now)))
         (outside S.Store I.Source O.Sink store.old input.old out.old)
         (outside S.Store I.Source O.Sink store.new input.new out.new) result.cause }
@@ -188,7 +199,9 @@ fn run_sample<S: Store, I: Source, O: Sink>(
     out: &mut O,
 ) -> Outcome
     requires { length words.now + FIRST < 2 ^ 31 }
-    ensures status { result.status ≡ status_of (is_soft_in (planned sample_plan (sample_words FIRST (word_texts words.now)))) result.cause }
+    ensures status { result.status
+        ≡ status_of (is_soft_in (planned sample_plan (sample_words FIRST (word_texts words.now))))
+        result.cause }
     ensures run { Run (planned sample_plan (sample_words FIRST (word_texts words.now)))
         (outside S.Store I.Source O.Sink store.old input.old out.old)
         (outside S.Store I.Source O.Sink store.new input.new out.new) result.cause }
@@ -205,7 +218,9 @@ fn run_audit<S: Store, I: Source, O: Sink>(
     out: &mut O,
 ) -> Outcome
     requires { length words.now + FIRST < 2 ^ 31 }
-    ensures status { result.status ≡ status_of (is_soft_in (planned audit_plan (audit_words FIRST (word_texts words.now)))) result.cause }
+    ensures status { result.status
+        ≡ status_of (is_soft_in (planned audit_plan (audit_words FIRST (word_texts words.now))))
+        result.cause }
     ensures run { Run (planned audit_plan (audit_words FIRST (word_texts words.now)))
         (outside S.Store I.Source O.Sink store.old input.old out.old)
         (outside S.Store I.Source O.Sink store.new input.new out.new) result.cause }
@@ -239,7 +254,8 @@ fn run_named<S: Store, I: Source, O: Sink>(
     out: &mut O,
 ) -> Outcome
     requires { length words.now + FIRST < 2 ^ 31 }
-    ensures status { result.status ≡ status_of (is_soft_in (asked_for tool (word_texts words.now))) result.cause }
+    ensures status { result.status ≡ status_of (is_soft_in (asked_for tool (word_texts words.now)))
+        result.cause }
     ensures run { Run (asked_for tool (word_texts words.now))
         (outside S.Store I.Source O.Sink store.old input.old out.old)
         (outside S.Store I.Source O.Sink store.new input.new out.new) result.cause }
@@ -265,8 +281,9 @@ fn run_asked<S: Store, I: Source, O: Sink>(
     out: &mut O,
 ) -> Outcome
     requires { length words.now < 2 ^ 31 }
-    ensures status { result.status ≡ status_of (is_soft_in (asked_of (word_texts words.now))) result.cause }
-    ensures run { Run (asked_of (word_texts words.now))
+    ensures status { result.status ≡ status_of (is_soft_in (plan_of (word_texts words.now)))
+        result.cause }
+    ensures run { Run (plan_of (word_texts words.now))
         (outside S.Store I.Source O.Sink store.old input.old out.old)
         (outside S.Store I.Source O.Sink store.new input.new out.new) result.cause }
 {
@@ -276,8 +293,8 @@ fn run_asked<S: Store, I: Source, O: Sink>(
     run_named(alloc, tool_named(word.as_str()), rest, store, input, out)
 }
 
-/// Runs the tool that the first word names, with one worker, whatever number its words ask for. There
-/// are fewer than 2^31 words.
+/// Runs the tool that the first word names, with one worker, whatever number its words ask for.
+/// There are fewer than 2^31 words.
 pub fn plain<S: Store, I: Source, O: Sink>(
     alloc: Global,
     words: &[String],
@@ -287,15 +304,16 @@ pub fn plain<S: Store, I: Source, O: Sink>(
 ) -> Outcome
     requires { length words.now < 2 ^ 31 }
     ensures status { result.status
-        ≡ status_of (is_soft_in (asked_of (word_texts words.now))) result.cause }
-    ensures run { Run (asked_of (word_texts words.now))
+        ≡ status_of (is_soft_in (plan_of (word_texts words.now))) result.cause }
+    ensures run { Run (plan_of (word_texts words.now))
         (outside S.Store I.Source O.Sink store.old input.old out.old)
         (outside S.Store I.Source O.Sink store.new input.new out.new) result.cause }
-    ensures complete { Complete (asked_of (word_texts words.now))
+    ensures complete { Complete (plan_of (word_texts words.now))
         (outside S.Store I.Source O.Sink store.old input.old out.old)
         (outside S.Store I.Source O.Sink store.new input.new out.new)
         result.status result.cause }
-    ensures sample { RunsSample (word_texts words.now) (S.read_faults store.old) (I.faults input.old)
+    ensures sample { RunsSample (word_texts words.now) (S.read_faults store.old)
+        (I.faults input.old)
         result.cause }
     ensures keeps { IfSome (rehearse_asked (word_texts words.now)) (λ asked.
         TellsKeptLabels asked (S.files store.old) (I.left input.old) (O.written out.old)
@@ -340,10 +358,10 @@ fn run_read<R: Threads + Wait + Sync, S: Store, I: Source, O: Sink>(
 ) -> Outcome
     requires { IfOk asked (λ words. length words.choice.operands < 2 ^ 31) }
     ensures status { (meant : Result RelabelWords Usage)
-        → Answers (λ words. words) cause_of asked meant
+        → Answers (λ words. words) fault_cause asked meant
         → result.status ≡ status_of (is_soft_in (planned relabel_plan meant)) result.cause }
     ensures run { (meant : Result RelabelWords Usage)
-        → Answers (λ words. words) cause_of asked meant
+        → Answers (λ words. words) fault_cause asked meant
         → Run (planned relabel_plan meant)
         (outside S.Store I.Source O.Sink store.old input.old out.old)
         (outside S.Store I.Source O.Sink store.new input.new out.new) result.cause }
@@ -354,8 +372,8 @@ fn run_read<R: Threads + Wait + Sync, S: Store, I: Source, O: Sink>(
     }
 }
 
-// Runs a tool by the words behind its name. Those that walk a tree do so by as many workers as their words
-// ask for.
+// Runs a tool by the words behind its name. Those that walk a tree do so by as many workers as
+// their words ask for.
 fn run_named_by<R: Threads + Wait + Sync, S: Store, I: Source, O: Sink>(
     rt: &R,
     alloc: Global,
@@ -367,7 +385,8 @@ fn run_named_by<R: Threads + Wait + Sync, S: Store, I: Source, O: Sink>(
     out: &mut O,
 ) -> Outcome
     requires { length words.now + FIRST < 2 ^ 31 }
-    ensures status { result.status ≡ status_of (is_soft_in (asked_for tool (word_texts words.now))) result.cause }
+    ensures status { result.status ≡ status_of (is_soft_in (asked_for tool (word_texts words.now)))
+        result.cause }
     ensures run { Run (asked_for tool (word_texts words.now))
         (outside S.Store I.Source O.Sink store.old input.old out.old)
         (outside S.Store I.Source O.Sink store.new input.new out.new) result.cause }
@@ -396,8 +415,9 @@ fn run_asked_by<R: Threads + Wait + Sync, S: Store, I: Source, O: Sink>(
     out: &mut O,
 ) -> Outcome
     requires { length words.now < 2 ^ 31 }
-    ensures status { result.status ≡ status_of (is_soft_in (asked_of (word_texts words.now))) result.cause }
-    ensures run { Run (asked_of (word_texts words.now))
+    ensures status { result.status ≡ status_of (is_soft_in (plan_of (word_texts words.now)))
+        result.cause }
+    ensures run { Run (plan_of (word_texts words.now))
         (outside S.Store I.Source O.Sink store.old input.old out.old)
         (outside S.Store I.Source O.Sink store.new input.new out.new) result.cause }
 {
@@ -416,9 +436,9 @@ fn run_asked_by<R: Threads + Wait + Sync, S: Store, I: Source, O: Sink>(
     )
 }
 
-/// Runs the tool that the first word names. `cores` is the number of processors, which is the number of
-/// workers where the words ask for none; what is read and written is the same for every number. There
-/// are fewer than 2^31 words. It may wait, where several workers are asked for.
+/// Runs the tool that the first word names. `cores` is the number of processors, which is the
+/// number of workers where the words ask for none; what is read and written is the same for every
+/// number. There are fewer than 2^31 words. It may wait, where several workers are asked for.
 pub fn top<R: Threads + Wait + Sync, S: Store, I: Source, O: Sink>(
     rt: &R,
     alloc: Global,
@@ -430,15 +450,16 @@ pub fn top<R: Threads + Wait + Sync, S: Store, I: Source, O: Sink>(
 ) -> Outcome
     requires few { length words.now < 2 ^ 31 }
     ensures status { result.status
-        ≡ status_of (is_soft_in (asked_of (word_texts words.now))) result.cause }
-    ensures run { Run (asked_of (word_texts words.now))
+        ≡ status_of (is_soft_in (plan_of (word_texts words.now))) result.cause }
+    ensures run { Run (plan_of (word_texts words.now))
         (outside S.Store I.Source O.Sink store.old input.old out.old)
         (outside S.Store I.Source O.Sink store.new input.new out.new) result.cause }
-    ensures complete { Complete (asked_of (word_texts words.now))
+    ensures complete { Complete (plan_of (word_texts words.now))
         (outside S.Store I.Source O.Sink store.old input.old out.old)
         (outside S.Store I.Source O.Sink store.new input.new out.new)
         result.status result.cause }
-    ensures sample { RunsSample (word_texts words.now) (S.read_faults store.old) (I.faults input.old)
+    ensures sample { RunsSample (word_texts words.now) (S.read_faults store.old)
+        (I.faults input.old)
         result.cause }
     ensures keeps { IfSome (rehearse_asked (word_texts words.now)) (λ asked.
         TellsKeptLabels asked (S.files store.old) (I.left input.old) (O.written out.old)

@@ -36,7 +36,8 @@ pub(crate) const NONE_FAILS: Failing = Failing {
     out: 0,
 };
 
-/// What a run ended with, what it left in the store and wrote, and whether it left the input as it was.
+/// What a run ended with, what it left in the store and wrote, and whether it left the input as it
+/// was.
 #[derive(Drop)]
 pub(crate) struct Ran {
     pub(crate) outcome: Outcome,
@@ -677,8 +678,9 @@ fn a_substitution_file_at_its_limit(rt: HostRuntime) -> Result<(), Fail> {
     Ok(())
 }
 
-// The status of the first example by the top call with so many workers, or none where it wrote something else. All that is
-// left is handed to the sink at once, so there is no second call, which would fail.
+// The status of the first example by the top call with so many workers, or none where it wrote
+// something else. All that is left is handed to the sink at once, so there is no second call, which
+// would fail.
 fn by_top<R: Threads + Wait + Sync>(
     rt: &R,
     alloc: Global,

@@ -1,5 +1,7 @@
 -- Trees that differ in labels and link counts alone are the same in all else.
-use Rattle.std.proofs.Common.{◌≡◌, ◌∙◌, ap, ap₂, sym, refl, ℕ, zero, suc, ◌+◌, ◌==◌, Bool, false, cond, ◌&&◌, ◌||◌, not, nat_lt, List, [], ◌∷◌, length, map, Option, Some, None}
+use Rattle.std.proofs.Common.{◌≡◌, ◌∙◌, ap, ap₂, sym, refl, ℕ, zero, suc, ◌+◌, ◌==◌, Bool, false}
+use Rattle.std.proofs.Common.{cond, ◌&&◌, ◌||◌, not, nat_lt, List, [], ◌∷◌, length, map, Option}
+use Rattle.std.proofs.Common.{Some, None}
 use std.Path.{fun_ext}
 use Rattle.std.specs.List.{list_any, position_or_len, prefix_len}
 use Rattle.std.proofs.lemmas.List.{length-map}
@@ -11,8 +13,8 @@ use Rattle.find_records.specs.Record.{Record}
 use Rattle.tree_model.specs.Extents.{entry_at}
 use Rattle.tree_model.specs.Groups.{group_of, inodes_behind}
 use Rattle.tree_model.specs.Links.{inode_of, same_inode}
-use Rattle.tree_model.specs.Selection.{admits_found, is_live, selected_by}
-use Rattle.tree_model.specs.Tree.{find_in, is_at}
+use Rattle.tree_model.specs.Selection.{admits_found, is_chosen, selected_by}
+use Rattle.tree_model.specs.Tree.{find_in, is_entry_at}
 use Rattle.tree_model.specs.declared.choice.Choice.{Choice}
 
 -- an entry without its label and its link count
@@ -54,17 +56,20 @@ kind_kept [] e = refl
 kind_kept (x ∷ es) zero = refl
 kind_kept (x ∷ es) (suc e) = kind_kept es e
 
-inode_kept : (es : List Record) (e : ℕ) → inode_of (entry_at (map outline es) e) ≡ inode_of (entry_at es e)
+inode_kept : (es : List Record) (e : ℕ) → inode_of (entry_at (map outline es) e)
+    ≡ inode_of (entry_at es e)
 inode_kept [] e = refl
 inode_kept (x ∷ es) zero = refl
 inode_kept (x ∷ es) (suc e) = inode_kept es e
 
-place_kept : (path : Path) (es : List Record) → prefix_len (λ x. not (is_at path x)) (map outline es) ≡ prefix_len (λ x. not (is_at path x)) es
+place_kept : (path : Path) (es : List Record) → prefix_len (λ x. not (is_entry_at path x))
+    (map outline es) ≡ prefix_len (λ x. not (is_entry_at path x)) es
 place_kept path [] = refl
-place_kept path (e ∷ es) = ap (λ k. cond (not (is_at path e)) (1 + k) 0) (place_kept path es)
+place_kept path (e ∷ es) = ap (λ k. cond (not (is_entry_at path e)) (1 + k) 0) (place_kept path es)
 
 -- what an outline keeps is the same in trees that are alike
-kept_same : {X : Type 0} (f : List Record → X) (a b : List Record) → ((es : List Record) → f (map outline es) ≡ f es) → SameOutline a b → f a ≡ f b
+kept_same : {X : Type 0} (f : List Record → X) (a b : List Record)
+    → ((es : List Record) → f (map outline es) ≡ f es) → SameOutline a b → f a ≡ f b
 kept_same f a b kept alike = sym (kept a) ∙ ap f alike ∙ kept b
 
 pub count_same : (a b : List Record) → SameOutline a b → length a ≡ length b
@@ -82,30 +87,37 @@ inodes_same a b alike = kept_same inode_at a b (λ es. fun_ext (λ e. inode_kept
 find_same : (a b : List Record) → SameOutline a b → finder a ≡ finder b
 find_same a b alike =
     kept_same finder a b
-    (λ es. fun_ext (λ path. ap₂ (λ k n. cond (nat_lt k n) (Some k) None) (place_kept path es) (length-map es outline))) alike
+    (λ es. fun_ext (λ path. ap₂ (λ k n. cond (nat_lt k n) (Some k) None) (place_kept path es)
+    (length-map es outline))) alike
 
 pub group_same : (a b : List Record) (e : ℕ) → SameOutline a b → group_of a e ≡ group_of b e
 group_same a b e alike =
     kept_same (λ es. group_of es e) a b
-    (λ es. ap₂ (λ inode inodes. position_or_len (same_inode inode) (inodes_behind [] inodes)) (inode_kept es e) (inodes_kept es)) alike
+    (λ es. ap₂ (λ inode inodes. position_or_len (same_inode inode) (inodes_behind [] inodes))
+    (inode_kept es e) (inodes_kept es)) alike
 
 -- ---- what a choice selects
 
 abbrev stays_by : (n : ℕ) (path : ℕ → Path) (inode : ℕ → ℕ × ℕ) (o e : ℕ) → Bool
 stays_by n path inode o e =
-    all_below n (λ a. implies (at_or_below (path a) (path o) && at_or_below (path e) (path a)) ((inode a).0 == (inode o).0))
+    all_below n (λ a. implies (at_or_below (path a) (path o) && at_or_below (path e) (path a))
+    ((inode a).0 == (inode o).0))
 
 abbrev admits_by : Choice → (n : ℕ) (path : ℕ → Path) (inode : ℕ → ℕ × ℕ) → Option ℕ → ℕ → Bool
 admits_by choice n path inode None e = false
 admits_by choice n path inode (Some o) e =
-    at_or_below (path e) (path o) && ((choice.recurse || (o == e)) && (not choice.one_device || stays_by n path inode o e))
+    at_or_below (path e) (path o)
+    && ((choice.recurse || (o == e)) && (not choice.one_device || stays_by n path inode o e))
 
-abbrev live_by : Choice → (n : ℕ) (path : ℕ → Path) (inode : ℕ → ℕ × ℕ) → (Path → Option ℕ) → ℕ → Bool
+abbrev live_by : Choice → (n : ℕ) (path : ℕ → Path) (inode : ℕ → ℕ × ℕ) → (Path → Option ℕ) → ℕ
+    → Bool
 live_by choice n path inode find e =
     list_any (λ operand. admits_by choice n path inode (find operand) e) choice.operands
     && not (list_any (λ excluded. at_or_below (path e) excluded) choice.excluded)
 
-found_is : (choice : Choice) (entries : List Record) (e : ℕ) (o : Option ℕ) → admits_found choice entries o e ≡ admits_by choice (length entries) (path_in entries) (inode_at entries) o e
+found_is : (choice : Choice) (entries : List Record) (e : ℕ) (o : Option ℕ)
+    → admits_found choice entries o e ≡ admits_by choice (length entries) (path_in entries)
+    (inode_at entries) o e
 found_is choice entries e None = refl
 found_is choice entries e (Some o) = refl
 
@@ -113,18 +125,24 @@ admitting : Choice → List Record → ℕ → Path → Bool
 admitting choice entries e path = admits_found choice entries (find_in path entries) e
 
 admitting_by : Choice → List Record → ℕ → Path → Bool
-admitting_by choice entries e path = admits_by choice (length entries) (path_in entries) (inode_at entries) (find_in path entries) e
+admitting_by choice entries e path = admits_by choice (length entries) (path_in entries)
+    (inode_at entries) (find_in path entries) e
 
-admitting_is : (choice : Choice) (entries : List Record) (e : ℕ) → admitting choice entries e ≡ admitting_by choice entries e
+admitting_is : (choice : Choice) (entries : List Record) (e : ℕ) → admitting choice entries e
+    ≡ admitting_by choice entries e
 unfolding admitting admitting_by
 admitting_is choice entries e = fun_ext (λ path. found_is choice entries e (find_in path entries))
 
-live_is : (choice : Choice) (entries : List Record) (e : ℕ) → is_live choice entries e ≡ live_by choice (length entries) (path_in entries) (inode_at entries) (finder entries) e
+live_is : (choice : Choice) (entries : List Record) (e : ℕ) → is_chosen choice entries e
+    ≡ live_by choice (length entries) (path_in entries) (inode_at entries) (finder entries) e
 unfolding admitting admitting_by
 live_is choice entries e =
-    ap (λ test. list_any test choice.operands && not (list_any (λ excluded. at_or_below (path_in entries e) excluded) choice.excluded)) (admitting_is choice entries e)
+    ap (λ test. list_any test choice.operands && not
+    (list_any (λ excluded. at_or_below (path_in entries e) excluded) choice.excluded))
+    (admitting_is choice entries e)
 
-live_same : (a b : List Record) (choice : Choice) (e : ℕ) → SameOutline a b → is_live choice a e ≡ is_live choice b e
+live_same : (a b : List Record) (choice : Choice) (e : ℕ) → SameOutline a b → is_chosen choice a e
+    ≡ is_chosen choice b e
 live_same a b choice e alike =
     live_is choice a e
     ∙ ap (λ n. live_by choice n (path_in a) (inode_at a) (finder a) e) (count_same a b alike)
@@ -133,6 +151,8 @@ live_same a b choice e alike =
     ∙ ap (λ find. live_by choice (length b) (path_in b) (inode_at b) find e) (find_same a b alike)
     ∙ sym (live_is choice b e)
 
-pub selected_same : (a b : List Record) (choice : Choice) → SameOutline a b → (selected_by choice a).live ≡ (selected_by choice b).live
+pub selected_same : (a b : List Record) (choice : Choice) → SameOutline a b
+    → (selected_by choice a).live ≡ (selected_by choice b).live
 selected_same a b choice alike =
-    ap₂ (λ test n. map test (all_numbers n)) (fun_ext (λ e. live_same a b choice e alike)) (count_same a b alike)
+    ap₂ (λ test n. map test (all_numbers n)) (fun_ext (λ e. live_same a b choice e alike))
+    (count_same a b alike)

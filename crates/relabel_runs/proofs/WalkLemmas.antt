@@ -1,5 +1,7 @@
 -- A walk as a run over an abstract tree.
-use Rattle.std.proofs.Common.{◌≡◌, ◌∙◌, ap, ap₂, sym, refl, ℕ, ◌==◌, Bool, true, false, cond, ◌&&◌, ◌||◌, not, List, length, get_or, Option, Some, None, is_some, option_and_then}
+use Rattle.std.proofs.Common.{◌≡◌, ◌∙◌, ap, ap₂, sym, refl, ℕ, ◌==◌, Bool, true, false, cond, ◌&&◌}
+use Rattle.std.proofs.Common.{◌||◌, not, List, length, get_or, Option, Some, None, is_some}
+use Rattle.std.proofs.Common.{option_and_then}
 use Rattle.sha1.specs.Sha1.{sha1}
 use Rattle.std.proofs.lemmas.Bool.{and_parts}
 use Rattle.label_base.specs.Text.{same_bytes}
@@ -20,10 +22,13 @@ use Rattle.tree_model.specs.Groups.{closed_at, group_of, label_in}
 use Rattle.tree_model.specs.Selection.{whole_at}
 use Rattle.relabel_core.specs.declared.options.Options.{Options}
 use Rattle.skip_runs.specs.Relabel as runs
-use Rattle.skip_runs.specs.Relabel.{Decision, Nothing, Give, Kinds, Tree}
+use Rattle.skip_runs.specs.Relabel.{Decision, Nothing, Give, Kinds, WalkedTree}
 use Rattle.label_rules.specs.Decide.{label_by, verdict_for}
 use Rattle.relabel_core.specs.Terms.{terms_by}
-use Rattle.relabel_core.specs.Walk.{Walk, can_win, count, deciding, digest_after, digest_now, has_changed_name, is_changed, is_current, is_outdated, is_renewed, is_skipped, new_label, skippable, verdict_where, walked, wanted, winner}
+use Rattle.relabel_core.specs.Walk.{Walk, can_win, walk_count, deciding, digest_after, digest_now}
+use Rattle.relabel_core.specs.Walk.{has_changed_name, is_changed, is_current, is_outdated}
+use Rattle.relabel_core.specs.Walk.{is_renewed, is_skipped, new_label, skippable, verdict_where}
+use Rattle.relabel_core.specs.Walk.{walked, wanted, winner}
 use Rattle.label_rules.specs.LookUp.{given_at, index_asked, index_for}
 use Rattle.label_rules.specs.declared.rules.Rules.{Rules}
 use Rattle.relabel_runs.proofs.DecideLemmas.{given, label_given}
@@ -43,7 +48,7 @@ kinds =
       zero_digest = void_digest;
     }
 
-abbrev pub tree_of : List Record → Tree
+abbrev pub tree_of : List Record → WalkedTree
 tree_of entries =
     record {
       count = length entries;
@@ -60,7 +65,8 @@ as_decision (Some context) = Give context
 abbrev pub context_for : Rules → Path → EntryKind → Option ContextValue
 context_for rules path kind = given_at rules.rules (index_asked rules path (Of kind))
 
-abbrev pub run_by : (path : ℕ → Path) (kind : ℕ → EntryKind) → (live : List Bool) → (closed : ℕ → Bool) → Rules → Options → runs.Run kinds
+abbrev pub run_by : (path : ℕ → Path) (kind : ℕ → EntryKind) → (live : List Bool)
+    → (closed : ℕ → Bool) → Rules → Options → runs.Relabelling kinds
 run_by path kind live closed rules options =
     record {
       live = λ e. get_or live e false;
@@ -73,21 +79,25 @@ run_by path kind live closed rules options =
       renews = options.ignore_digests;
     }
 
-abbrev pub run_of : Walk → runs.Run kinds
-run_of w = run_by (path_in w.entries) (kind_in w.entries) w.live (closed_at w.entries) w.rules w.options
+abbrev pub run_of : Walk → runs.Relabelling kinds
+run_of w = run_by (path_in w.entries) (kind_in w.entries) w.live (closed_at w.entries) w.rules
+    w.options
 
 abbrev pub state_of : Walk → runs.State kinds
 state_of w = record { labels = label_in w.entries; digests = w.stored }
 
 -- what the run walks
 abbrev walks : Walk → ℕ → Bool
-walks w = runs.walked (tree_of w.entries) (run_of w) (runs.skippable (tree_of w.entries) (run_of w) (state_of w))
+walks w = runs.walked_in (tree_of w.entries) (run_of w)
+    (runs.skippable_in (tree_of w.entries) (run_of w) (state_of w))
 
 -- ---- what is skipped
 
-current_same : (stored : Option (List ℕ)) (digest listing : List ℕ) → digest ≡ sha1 listing → is_current stored digest ≡ runs.is_current kinds stored listing
+current_same : (stored : Option (List ℕ)) (digest listing : List ℕ) → digest ≡ sha1 listing
+    → is_current stored digest ≡ runs.is_current_in kinds stored listing
 current_same None digest listing e = refl
-current_same (Some stored) digest listing e = ap (λ d. not (same_bytes stored void_digest) && same_bytes stored d) e
+current_same (Some stored) digest listing e =
+    ap (λ d. not (same_bytes stored void_digest) && same_bytes stored d) e
 
 digest_same : (w : Walk) (d : ℕ) → digest_now w d ≡ sha1 ((run_of w).listing d)
 unfolding digest_now digest_at
@@ -99,77 +109,104 @@ turned true false c x = refl
 turned false true c x = refl
 turned false false c x = refl
 
-skip_same : (w : Walk) (d : ℕ) → skippable w d ≡ runs.skippable (tree_of w.entries) (run_of w) (state_of w) d
+skip_same : (w : Walk) (d : ℕ) → skippable w d ≡ runs.skippable_in (tree_of w.entries) (run_of w)
+    (state_of w) d
 unfolding skippable
 skip_same w d =
-    turned (w.options.digests && not w.options.ignore_digests) (is_directory w.entries d) (whole_at w.entries w.live d) (is_current (w.stored d) (digest_now w d))
-    ∙ ap (λ b. ((is_directory w.entries d && (w.options.digests && not w.options.ignore_digests)) && whole_at w.entries w.live d) && b)
+    turned (w.options.digests && not w.options.ignore_digests) (is_directory w.entries d)
+    (whole_at w.entries w.live d) (is_current (w.stored d) (digest_now w d))
+    ∙ ap (λ b. ((is_directory w.entries d && (w.options.digests && not w.options.ignore_digests))
+    && whole_at w.entries w.live d) && b)
     (current_same (w.stored d) (digest_now w d) ((run_of w).listing d) (digest_same w d))
 
 walked_same : (w : Walk) (e : ℕ) → walked w e ≡ walks w e
 unfolding walked is_skipped
 walked_same w e =
     ap (λ b. get_or w.live e false && not b)
-    (any_same (count w) (λ d. skippable w d && in_extent w.entries d e) (λ d. runs.skippable (tree_of w.entries) (run_of w) (state_of w) d && in_extent w.entries d e)
+    (any_same (walk_count w) (λ d. skippable w d && in_extent w.entries d e)
+    (λ d. runs.skippable_in (tree_of w.entries) (run_of w) (state_of w) d && in_extent w.entries
+    d e)
     (λ d l. ap (λ b. b && in_extent w.entries d e) (skip_same w d)))
 
 -- ---- who wins
 
-gives_some : (o : Option ContextValue) → is_some o ≡ runs.gives (as_decision o)
+gives_some : (o : Option ContextValue) → is_some o ≡ runs.gives_context (as_decision o)
 gives_some None = refl
 gives_some (Some context) = refl
 
-context_back : (o : Option ContextValue) → runs.context_of (as_decision o) ≡ o
+context_back : (o : Option ContextValue) → runs.decided_context (as_decision o) ≡ o
 context_back None = refl
 context_back (Some context) = refl
 
-is_given : (specs : List SpecValue) (index : Option ℕ) (b : Bool) → is_some (given_at specs (cond b index None)) ≡ (b && runs.gives (as_decision (given_at specs index)))
+is_given : (specs : List SpecValue) (index : Option ℕ) (b : Bool)
+    → is_some (given_at specs (cond b index None))
+    ≡ (b && runs.gives_context (as_decision (given_at specs index)))
 is_given specs index true = gives_some (given_at specs index)
 is_given specs index false = refl
 
-given_there : (specs : List SpecValue) (index : Option ℕ) (b : Bool) → is_some (given_at specs (cond b index None)) ≡ true → given_at specs (cond b index None) ≡ runs.context_of (as_decision (given_at specs index))
+given_there : (specs : List SpecValue) (index : Option ℕ) (b : Bool)
+    → is_some (given_at specs (cond b index None)) ≡ true → given_at specs (cond b index None)
+    ≡ runs.decided_context (as_decision (given_at specs index))
 given_there specs index true h = sym (context_back (given_at specs index))
 given_there specs index false h = cc
 
-wins_same : (w : Walk) (g e : ℕ) → can_win w g e ≡ runs.can_win (tree_of w.entries) (run_of w) (walks w) g e
+wins_same : (w : Walk) (g e : ℕ) → can_win w g e ≡ runs.can_win_in (tree_of w.entries) (run_of w)
+    (walks w) g e
 unfolding wanted deciding
 wins_same w g e =
     ap (λ b. (group_of w.entries e == g) && b)
     (is_given w.rules.rules (index_for w.rules (entry_at w.entries e)) (walked w e)
-    ∙ ap (λ b. b && runs.gives (as_decision (given_at w.rules.rules (index_for w.rules (entry_at w.entries e))))) (walked_same w e))
+    ∙ ap (λ b. b && runs.gives_context
+    (as_decision (given_at w.rules.rules (index_for w.rules (entry_at w.entries e)))))
+    (walked_same w e))
 
-winner_same : (w : Walk) (g : ℕ) → winner w g ≡ runs.winner (tree_of w.entries) (run_of w) (walks w) g
+winner_same : (w : Walk) (g : ℕ) → winner w g ≡ runs.winner_in (tree_of w.entries) (run_of w)
+    (walks w) g
 unfolding winner
-winner_same w g = least_same (count w) (can_win w g) (runs.can_win (tree_of w.entries) (run_of w) (walks w) g) (λ e l. wins_same w g e)
+winner_same w g =
+    least_same (walk_count w) (can_win w g)
+    (runs.can_win_in (tree_of w.entries) (run_of w) (walks w) g) (λ e l. wins_same w g e)
 
-wanted_there : (w : Walk) (e : ℕ) → is_some (wanted w e) ≡ true → wanted w e ≡ runs.context_of ((run_of w).decision e)
+wanted_there : (w : Walk) (e : ℕ) → is_some (wanted w e) ≡ true
+    → wanted w e ≡ runs.decided_context ((run_of w).decision e)
 unfolding wanted deciding
-wanted_there w e h = given_there w.rules.rules (index_for w.rules (entry_at w.entries e)) (walked w e) h
+wanted_there w e h = given_there w.rules.rules (index_for w.rules (entry_at w.entries e))
+    (walked w e) h
 
-wanted_same : (w : Walk) (g : ℕ) → option_and_then (wanted w) (winner w g) ≡ runs.wanted_by (run_of w) (winner w g)
+wanted_same : (w : Walk) (g : ℕ) → option_and_then (wanted w) (winner w g) ≡ runs.wanted_by
+    (run_of w) (winner w g)
 unfolding winner
 wanted_same w g =
-    least_case (count w) (can_win w g) (λ o. option_and_then (wanted w) o ≡ runs.wanted_by (run_of w) o) refl
+    least_case (walk_count w) (can_win w g)
+    (λ o. option_and_then (wanted w) o ≡ runs.wanted_by (run_of w) o) refl
     (λ k l h. wanted_there w k (and_parts (group_of w.entries k == g) (is_some (wanted w k)) h).1)
 
 -- ---- labels
 
-verdict_same : (w : Walk) (g : ℕ) (o : Option ContextValue) → label_by (verdict_where w g o) (label_in w.entries g) ≡ runs.relabelled (run_of w) (label_in w.entries g) o
+verdict_same : (w : Walk) (g : ℕ) (o : Option ContextValue)
+    → label_by (verdict_where w g o) (label_in w.entries g) ≡ runs.relabelled (run_of w)
+    (label_in w.entries g) o
 verdict_same w g None = refl
-verdict_same w g (Some context) = sym (label_given (verdict_for (label_in w.entries g) context w.options.force w.rules.types) (label_in w.entries g))
+verdict_same w g (Some context) =
+    sym (label_given (verdict_for (label_in w.entries g) context w.options.force w.rules.types)
+    (label_in w.entries g))
 
 -- the label that a group gets, where the run isn't dry
-relabelled_same : (w : Walk) (g : ℕ) → label_by (verdict_where w g (option_and_then (wanted w) (winner w g))) (label_in w.entries g)
-    ≡ runs.new_label (tree_of w.entries) (run_of w) (walks w) (label_in w.entries) g
+relabelled_same : (w : Walk) (g : ℕ)
+    → label_by (verdict_where w g (option_and_then (wanted w) (winner w g))) (label_in w.entries g)
+    ≡ runs.new_label_in (tree_of w.entries) (run_of w) (walks w) (label_in w.entries) g
 relabelled_same w g =
     verdict_same w g (option_and_then (wanted w) (winner w g))
-    ∙ ap (λ o. runs.relabelled (run_of w) (label_in w.entries g) o) (wanted_same w g ∙ ap (λ found. runs.wanted_by (run_of w) found) (winner_same w g))
+    ∙ ap (λ o. runs.relabelled (run_of w) (label_in w.entries g) o)
+    (wanted_same w g ∙ ap (λ found. runs.wanted_by (run_of w) found) (winner_same w g))
 
-labels_of : (b : Bool) (s n : runs.State kinds) (g : ℕ) → cond b (s.labels g) (n.labels g) ≡ (cond b s n).labels g
+labels_of : (b : Bool) (s n : runs.State kinds) (g : ℕ) → cond b (s.labels g) (n.labels g)
+    ≡ (cond b s n).labels g
 labels_of true s n g = refl
 labels_of false s n g = refl
 
-digests_of : (b : Bool) (s n : runs.State kinds) (d : ℕ) → cond b (s.digests d) (n.digests d) ≡ (cond b s n).digests d
+digests_of : (b : Bool) (s n : runs.State kinds) (d : ℕ) → cond b (s.digests d) (n.digests d)
+    ≡ (cond b s n).digests d
 digests_of true s n d = refl
 digests_of false s n d = refl
 
@@ -177,27 +214,36 @@ digests_of false s n d = refl
 abbrev left : Walk → runs.State kinds
 left w =
     record {
-      labels = runs.new_label (tree_of w.entries) (run_of w) (walks w) (label_in w.entries);
+      labels = runs.new_label_in (tree_of w.entries) (run_of w) (walks w) (label_in w.entries);
       digests = runs.new_digest (tree_of w.entries) (run_of w) (walks w) (state_of w);
     }
 
-pub label_same : (w : Walk) (g : ℕ) → new_label w g ≡ (runs.after (tree_of w.entries) (state_of w) (run_of w)).labels g
+pub label_same : (w : Walk) (g : ℕ)
+    → new_label w g ≡ (runs.after (tree_of w.entries) (state_of w) (run_of w)).labels g
 label_same w g =
     ap (λ label. cond w.options.dry (label_in w.entries g) label) (relabelled_same w g)
     ∙ labels_of w.options.dry (state_of w) (left w) g
 
 -- ---- digests
 
-wet_label : (w : Walk) (g : ℕ) → w.options.dry ≡ false → new_label w g ≡ runs.new_label (tree_of w.entries) (run_of w) (walks w) (label_in w.entries) g
+wet_label : (w : Walk) (g : ℕ) → w.options.dry ≡ false
+    → new_label w g ≡ runs.new_label_in (tree_of w.entries) (run_of w) (walks w)
+    (label_in w.entries) g
 wet_label w g wet =
-    ap (λ b. cond b (label_in w.entries g) (label_by (verdict_where w g (option_and_then (wanted w) (winner w g))) (label_in w.entries g))) wet ∙ relabelled_same w g
+    ap (λ b. cond b (label_in w.entries g)
+    (label_by (verdict_where w g (option_and_then (wanted w) (winner w g)))
+    (label_in w.entries g))) wet ∙ relabelled_same w g
 
-above_same : (w : Walk) (d : ℕ) → w.options.dry ≡ false → has_changed_name w d ≡ runs.above_change (tree_of w.entries) (run_of w) (walks w) (label_in w.entries) d
+above_same : (w : Walk) (d : ℕ) → w.options.dry ≡ false → has_changed_name w d ≡ runs.above_change
+    (tree_of w.entries) (run_of w) (walks w) (label_in w.entries) d
 unfolding has_changed_name
 above_same w d wet =
-    any_same (count w) (λ e. in_extent w.entries d e && is_changed w (group_of w.entries e))
-    (λ e. in_extent w.entries d e && runs.changed (tree_of w.entries) (run_of w) (walks w) (label_in w.entries) (group_of w.entries e))
-    (λ e l. ap (λ label. in_extent w.entries d e && not (same_label label (label_in w.entries (group_of w.entries e)))) (wet_label w (group_of w.entries e) wet))
+    any_same (walk_count w) (λ e. in_extent w.entries d e && is_changed w (group_of w.entries e))
+    (λ e. in_extent w.entries d e && runs.changed (tree_of w.entries) (run_of w) (walks w)
+    (label_in w.entries) (group_of w.entries e))
+    (λ e l. ap (λ label. in_extent w.entries d e && not
+    (same_label label (label_in w.entries (group_of w.entries e))))
+    (wet_label w (group_of w.entries e) wet))
 
 renewed_turned : (a b c x : Bool) → ((x && a) && (b && c)) ≡ (((b && a) && c) && x)
 renewed_turned true true true true = refl
@@ -211,32 +257,44 @@ renewed_turned false true c false = refl
 renewed_turned false false c true = refl
 renewed_turned false false c false = refl
 
-renewed_same : (w : Walk) (d : ℕ) → is_renewed w d ≡ runs.renewed (tree_of w.entries) (run_of w) (walks w) d
+renewed_same : (w : Walk) (d : ℕ) → is_renewed w d ≡ runs.renewed (tree_of w.entries) (run_of w)
+    (walks w) d
 unfolding is_renewed
 renewed_same w d =
-    renewed_turned (walked w d) (is_directory w.entries d) (whole_at w.entries w.live d) (w.options.digests || w.options.ignore_digests)
-    ∙ ap (λ b. ((is_directory w.entries d && b) && whole_at w.entries w.live d) && (w.options.digests || w.options.ignore_digests)) (walked_same w d)
+    renewed_turned (walked w d) (is_directory w.entries d) (whole_at w.entries w.live d)
+    (w.options.digests || w.options.ignore_digests)
+    ∙ ap (λ b. ((is_directory w.entries d && b) && whole_at w.entries w.live d)
+    && (w.options.digests || w.options.ignore_digests)) (walked_same w d)
 
-zeroed_same : (stored : Option (List ℕ)) (void : Bool) → cond (is_some stored && void) (Some void_digest) stored ≡ runs.zeroed kinds stored void
+zeroed_same : (stored : Option (List ℕ)) (void : Bool)
+    → cond (is_some stored && void) (Some void_digest) stored ≡ runs.zeroed kinds stored void
 zeroed_same None void = refl
 zeroed_same (Some stored) true = refl
 zeroed_same (Some stored) false = refl
 
 new_digest_same : (w : Walk) (d : ℕ) → w.options.dry ≡ false
-    → cond (is_renewed w d) (Some (digest_now w d)) (cond (is_outdated w d) (Some void_digest) (w.stored d)) ≡ runs.new_digest (tree_of w.entries) (run_of w) (walks w) (state_of w) d
+    → cond (is_renewed w d) (Some (digest_now w d))
+    (cond (is_outdated w d) (Some void_digest) (w.stored d)) ≡ runs.new_digest
+    (tree_of w.entries) (run_of w) (walks w) (state_of w) d
 new_digest_same w d wet =
-    ap₂ (λ b digest. cond b (Some digest) (cond (is_outdated w d) (Some void_digest) (w.stored d))) (renewed_same w d) (digest_same w d)
-    ∙ ap (λ rest. cond (runs.renewed (tree_of w.entries) (run_of w) (walks w) d) (Some (sha1 ((run_of w).listing d))) rest)
+    ap₂ (λ b digest. cond b (Some digest) (cond (is_outdated w d) (Some void_digest) (w.stored d)))
+    (renewed_same w d) (digest_same w d)
+    ∙ ap (λ rest. cond (runs.renewed (tree_of w.entries) (run_of w) (walks w) d)
+    (Some (sha1 ((run_of w).listing d))) rest)
     (ap (λ b. cond (is_some (w.stored d) && b) (Some void_digest) (w.stored d)) (above_same w d wet)
-    ∙ zeroed_same (w.stored d) (runs.above_change (tree_of w.entries) (run_of w) (walks w) (label_in w.entries) d))
+    ∙ zeroed_same (w.stored d)
+    (runs.above_change (tree_of w.entries) (run_of w) (walks w) (label_in w.entries) d))
 
 dry_or : {X : Type 0} (b : Bool) (x y z : X) → (b ≡ false → y ≡ z) → cond b x y ≡ cond b x z
 dry_or true x y z h = refl
 dry_or false x y z h = h refl
 
-pub digest_after_same : (w : Walk) (d : ℕ) → digest_after w d ≡ (runs.after (tree_of w.entries) (state_of w) (run_of w)).digests d
+pub digest_after_same : (w : Walk) (d : ℕ)
+    → digest_after w d ≡ (runs.after (tree_of w.entries) (state_of w) (run_of w)).digests d
 unfolding digest_after
 digest_after_same w d =
-    dry_or w.options.dry (w.stored d) (cond (is_renewed w d) (Some (digest_now w d)) (cond (is_outdated w d) (Some void_digest) (w.stored d)))
+    dry_or w.options.dry (w.stored d)
+    (cond (is_renewed w d) (Some (digest_now w d))
+    (cond (is_outdated w d) (Some void_digest) (w.stored d)))
     (runs.new_digest (tree_of w.entries) (run_of w) (walks w) (state_of w) d) (new_digest_same w d)
     ∙ digests_of w.options.dry (state_of w) (left w) d

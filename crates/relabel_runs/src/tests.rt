@@ -1,5 +1,5 @@
 ghost use Rattle.std.specs.Prelude.{◌≡◌, ◌<◌, IfOk};
-ghost use Rattle.find_records.specs.Record.{AreOf};
+ghost use Rattle.find_records.specs.Record.{AreOfFormat};
 ghost use Rattle.find_records.specs.declared.format.Format.TheVariants.{One};
 
 use crate::{next_walk, none_is_skipped, one_more_run_keeps_labels, skipping_keeps_labels};
@@ -35,7 +35,7 @@ const DIGESTING: Options = Options {
 
 // One file, whose label changes.
 fn one_file(alloc: Global) -> Result<Tree, Fail>
-    ensures { IfOk result (λ tree. AreOf One tree) }
+    ensures { IfOk result (λ tree. AreOfFormat One tree) }
 {
     let records = Bytes::copy_of(alloc, b"f 1 2 u:r:old_t:s0 /srv\0")?;
     let mut source = MemSource::new(records, 100, Row::new(alloc));
@@ -95,7 +95,7 @@ fn decided<L: Ledger>(
     rules: &Rules,
     blank: Blank,
 ) -> Result<Option<u32>, OutOfMemory>
-    requires format { AreOf One tree.now }
+    requires format { AreOfFormat One tree.now }
     requires name { blank.name ≡ L.name }
     requires parts { blank.parts ≡ L.parts }
     requires some { 0 < blank.parts }

@@ -1,5 +1,5 @@
 ghost use Rattle.std.specs.Prelude.{◌≡◌, ◌+◌, ◌<◌, ◌^◌, IfOk, length};
-ghost use Rattle.find_records.specs.Record.{AreOf};
+ghost use Rattle.find_records.specs.Record.{AreOfFormat};
 ghost use Rattle.tree_model.specs.Selection.{selected_by};
 ghost use Rattle.relabel_core.specs.Answer.{walk_in};
 ghost use Rattle.relabel_core.specs.Stored.{digests_of};
@@ -13,8 +13,9 @@ use std::alloc::Global;
 use std::sync::ledger::Ledger;
 use tree_model::{Choice, Selected, Tree};
 
-/// Walks over a tree that other runs may have left as it is, with the digests that they stored: the labels that it
-/// leaves are those that all of them and this walk leave with skipping off. It counts what [`walk`] counts.
+/// Walks over a tree that other runs may have left as it is, with the digests that they stored: the
+/// labels that it leaves are those that all of them and this walk leave with skipping off. It
+/// counts what [`walk`] counts.
 pub fn next_walk<'a, L: Ledger>(
     alloc: Global,
     tree: &'a Tree,
@@ -26,7 +27,7 @@ pub fn next_walk<'a, L: Ledger>(
     steps: &mut Steps<L>,
 ) -> Result<Walked<'a>, OutOfMemory>
     requires chosen { chosen.now ≡ selected_by choice.now tree.now }
-    requires format { AreOf options.format tree.now }
+    requires format { AreOfFormat options.format tree.now }
     requires few { length tree.now + length choice.now.operands < 2 ^ 32 }
     ensures walk { IfOk result (λ walked. walk_in walked
         ≡ walk_for tree.now choice.now rules.now options (digests_of stored.now)) }

@@ -1,5 +1,6 @@
 -- What is found of an entry by itself where no digest counts.
-use Rattle.std.proofs.Common.{◌≡◌, refl, ℕ, ◌&&◌, ◌||◌, Bool, true, false, not, List, Some, None, if◌then◌else◌}
+use Rattle.std.proofs.Common.{◌≡◌, refl, ℕ, ◌&&◌, ◌||◌, Bool, true, false, not, List, Some, None}
+use Rattle.std.proofs.Common.{if◌then◌else◌}
 use Rattle.std.specs.Prelude.{is_some}
 use Rattle.relabel_core.specs.Passed.{needed, uses_digests}
 use Rattle.relabel_core.specs.Walk.{Walk, digest_now, is_current, is_whole, skippable}
@@ -14,12 +15,15 @@ none_if false false true s false digest h = refl
 
 pub needs_none : (w : Walk) (e : ℕ) → uses_digests w.options ≡ false → None ≡ needed w e
 unfolding needed
-needs_none w e h = none_if w.options.digests w.options.ignore_digests (is_whole w e) (is_some (w.stored e)) w.options.dry (digest_now w e) h
+needs_none w e h = none_if w.options.digests w.options.ignore_digests (is_whole w e)
+    (is_some (w.stored e)) w.options.dry (digest_now w e) h
 
-false_if : (a i whole current : Bool) → (a || i) ≡ false → false ≡ (((a && not i) && whole) && current)
+false_if : (a i whole current : Bool) → (a || i) ≡ false
+    → false ≡ (((a && not i) && whole) && current)
 false_if true i whole current h = absurd cc
 false_if false i whole current h = refl
 
 pub skips_none : (w : Walk) (e : ℕ) → uses_digests w.options ≡ false → false ≡ skippable w e
 unfolding skippable
-skips_none w e h = false_if w.options.digests w.options.ignore_digests (is_whole w e) (is_current (w.stored e) (digest_now w e)) h
+skips_none w e h = false_if w.options.digests w.options.ignore_digests (is_whole w e)
+    (is_current (w.stored e) (digest_now w e)) h

@@ -21,12 +21,25 @@ use Rattle.relabel_core.specs.contracts.options.Options as Options
 use Rattle.relabel_workers.specs.contracts.note.Note as Note
 use Rattle.relabel_workers.specs.contracts.share.Share as Share
 
-shared_sync : (S V K P : RattleType) (g : Rule.Ghosts P.Denot S.Denot V.Denot K.Denot) → IsSend S → IsSync (Shared.the_row S V K P g)
-shared_sync S V K P g s = let fields : IsSync (Struct (shape (Shared.the_type S V K P g))) = search sendable depth 20 in
-    record { shared = λ d b o ν. (fields.shared (d.words, (d.slots, (tt, tt))) b o ν, shares_keyless S s V.coded.code d.table_id (g.holds d.key) d.words d.slots ν) }
+shared_sync : (S V K P : RattleType) (g : Rule.Ghosts P.Denot S.Denot V.Denot K.Denot) → IsSend S
+    → IsSync (Shared.the_row S V K P g)
+shared_sync S V K P g s = let fields : IsSync (Struct (shape (Shared.the_type S V K P g))) =
+    search sendable depth 20 in
+    record {
+      shared = λ d b o ν. (
+        fields.shared (d.words, (d.slots, (tt, tt))) b o ν,
+        shares_keyless
+            S s V.coded.code d.table_id (g.holds d.key) d.words d.slots ν,
+      );
+    }
 
-lease_sync : (T A : RattleType) (g : Ghosts A.Denot) → IsSend A → Frees g g.dealloc_token → IsSync (SendLease.the_row T A g)
-lease_sync T A g s f = record { shared = λ d b o ν q. part_keyless (SendLease.the_row T A g) (right_send T A g f) q d b o }
+lease_sync : (T A : RattleType) (g : Ghosts A.Denot) → IsSend A → Frees g g.dealloc_token
+    → IsSync (SendLease.the_row T A g)
+lease_sync T A g s f =
+    record {
+      shared = λ d b o ν q. part_keyless (SendLease.the_row T A g) (right_send T A g f) q d b
+          o;
+    }
 
 pub claims_sync : IsSync Claims.the_row
 claims_sync = search (sendable, crosses, shared_sync, lease_sync) depth 40

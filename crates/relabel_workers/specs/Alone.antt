@@ -1,5 +1,6 @@
 -- What is found of one entry by itself, whatever is found of the directories above it.
-use Rattle.std.specs.Prelude.{◌≡◌, ℕ, ◌<◌, Bool, true, not, ◌&&◌, is_some, length, map, List, Option, Some, None, IfSome, MatchOption, false, if◌then◌else◌}
+use Rattle.std.specs.Prelude.{◌≡◌, ℕ, ◌<◌, Bool, true, not, ◌&&◌, is_some, length, map, List}
+use Rattle.std.specs.Prelude.{Option, Some, None, IfSome, MatchOption, false, if◌then◌else◌}
 use Rattle.tree_model.specs.Extents.{entry_at}
 use Rattle.tree_model.specs.Jobs.{job_directory}
 use Rattle.label_rules.specs.LookUp.{given_at, index_for}
@@ -7,7 +8,7 @@ use Rattle.dir_digest.specs.Listings.{terms_in}
 use Rattle.dir_digest.specs.declared.listings.Listings.{Listings}
 use Rattle.relabel_core.specs.Passed.{needed, uses_digests}
 use Rattle.relabel_core.specs.Terms.{terms_by}
-use Rattle.relabel_core.specs.Walk.{Walk, count, is_live, is_skipped, skippable}
+use Rattle.relabel_core.specs.Walk.{Walk, walk_count, is_live, is_skipped, skippable}
 use Rattle.relabel_core.specs.declared.input.WalkInput.{WalkInput}
 use Rattle.relabel_workers.specs.declared.note.Note.{Note}
 
@@ -21,8 +22,8 @@ abbrev pub gives_alone : Walk → ℕ → Bool
 gives_alone w e = is_some (given_at w.rules.rules (decided_alone w e))
 
 -- what is noted of an entry is what is found of it by itself
-pub record IsNoted (w : Walk) (note : Note) : Type 0 where
-  pub known : note.entry < count w
+pub record IsNoteOf (w : Walk) (note : Note) : Type 0 where
+  pub known : note.entry < walk_count w
   pub decided_is : note.decided ≡ decided_alone w note.entry
   pub in_range : IfSome note.decided (λ i. i < length w.rules.rules)
   pub digest_is : note.finding.digest ≡ needed w note.entry
@@ -39,8 +40,8 @@ lies_open w None = true
 lies_open w (Some d) = not (is_skipped w d)
 
 -- the directory of the job isn't skipped
-abbrev pub is_open : Walk → ℕ → Bool
-is_open w job = lies_open w (job_directory w.entries job)
+abbrev pub is_job_open : Walk → ℕ → Bool
+is_job_open w job = lies_open w (job_directory w.entries job)
 
 -- ---- what the digests are made by, where they count for the run
 

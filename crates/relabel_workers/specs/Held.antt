@@ -7,8 +7,8 @@ use Rattle.inode_claims.specs.Claiming as claiming
 use Rattle.inode_claims.specs.Answers.{IsPassOf, claim_view, groups_of}
 use Rattle.dir_queue.specs.declared.queue.DirQueue.{DirQueue}
 use Rattle.dir_queue.specs.declared.queue.QueuePass.{QueuePass}
-use Rattle.dir_queue.specs.Passes.{fresh}
-use Rattle.dir_queue.specs.Answers.{IsQueuePassOf, queue_view, shape_of, passes_of}
+use Rattle.dir_queue.specs.Passes.{fresh_queue}
+use Rattle.dir_queue.specs.Answers.{IsQueuePassOf, queue_view, queue_shape, passes_of_queue}
 use Rattle.file_paths.specs.Path.{Path}
 use Rattle.find_records.specs.Record.{Record}
 use Rattle.tree_model.specs.Groups.{groups_in}
@@ -38,7 +38,7 @@ input_of tree chosen operands rules options stored = record {
 -- the queue and the claims are those of the tree that is walked
 pub record IsSite (input : WalkInput) (queue : DirQueue) (claims : Claims) : Type 0 where
   pub fit : IsFit input
-  pub shape : shape_of queue ≡ jobs.shape_of input.tree.now
+  pub shape : queue_shape queue ≡ jobs.shape_of input.tree.now
   pub groups : groups_of claims ≡ groups_in input.tree.now
 
 -- both passes are of these
@@ -65,9 +65,11 @@ pub record StandFor (old : Share) (more : ℕ) (new : Share) : Type 0 where
   pub claims_more : claims_stand new ≡ claims_stand old + more
 
 -- two rows of as many passes that nothing was done with
-pub record AreRows (queue : DirQueue) (claims : Claims) (queue_passes : List QueuePass)
+pub record AreFreshPasses (queue : DirQueue) (claims : Claims) (queue_passes : List QueuePass)
     (claim_passes : List ClaimPass) : Type 0 where
   pub paired : length queue_passes ≡ length claim_passes
   pub queues : All (λ p. IsQueuePassOf queue p
-      × (queue_view p ≡ fresh (shape_of queue).parents (passes_of queue) 1)) queue_passes
-  pub claimers : All (λ p. IsPassOf claims p × (claim_view p ≡ claiming.fresh 1)) claim_passes
+      × (queue_view p ≡ fresh_queue (queue_shape queue).parents (passes_of_queue queue) 1))
+      queue_passes
+  pub claimers : All (λ p. IsPassOf claims p × (claim_view p ≡ claiming.fresh_claims 1))
+      claim_passes

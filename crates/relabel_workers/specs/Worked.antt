@@ -1,13 +1,14 @@
 -- What workers have done, over the jobs that they took.
-use Rattle.std.specs.Prelude.{◌≡◌, ℕ, ◌<◌, ◌≤◌, ◌⊎◌, ◌++◌, ◌∷◌, [], Bool, true, false, ◌&&◌, not, List, All}
+use Rattle.std.specs.Prelude.{◌≡◌, ℕ, ◌<◌, ◌≤◌, ◌⊎◌, ◌++◌, ◌∷◌, [], Bool, true, false, ◌&&◌, not}
+use Rattle.std.specs.Prelude.{List, All}
 use Rattle.walk_steps.specs.Lists.{times}
 use Rattle.inode_claims.specs.declared.rule.Call.{Call}
 use Rattle.inode_claims.specs.Claiming.{IsClaimed, call_of}
 use Rattle.tree_model.specs.Extents.{is_directory}
 use Rattle.tree_model.specs.Groups.{group_of}
-use Rattle.tree_model.specs.Jobs.{home_of, job_of}
-use Rattle.relabel_core.specs.Walk.{Walk, count, skippable}
-use Rattle.relabel_workers.specs.Alone.{IsNoted, gives_alone, noted_in}
+use Rattle.tree_model.specs.Jobs.{entry_home, job_of}
+use Rattle.relabel_core.specs.Walk.{Walk, walk_count, skippable}
+use Rattle.relabel_workers.specs.Alone.{IsNoteOf, gives_alone, noted_in}
 use Rattle.relabel_workers.specs.declared.note.Note.{Note}
 
 -- the entry is a directory with a job of its own to be given
@@ -24,33 +25,35 @@ pub record IsHandled (w : Walk) (given : List ℕ) (calls : List Call) (noted : 
 -- the job is that of a directory which was to be given, whose home was taken and which isn't left
 pub record IsOffered (w : Walk) (left taken : List ℕ) (job : ℕ) : Type 0 where
   pub directory : ℕ
-  pub known : directory < count w
+  pub known : directory < walk_count w
   pub own : job_of w.entries directory ≡ job
   pub to_give : is_to_be_given w directory ≡ true
   pub gone : times directory left ≡ 0
-  pub home : 0 < times (home_of w.entries directory) taken
+  pub home : 0 < times (entry_home w.entries directory) taken
 
--- the position is that of an entry of the group which gives a context by itself, and whose home was taken
+-- the position is that of an entry of the group which gives a context by itself, and whose home was
+-- taken
 pub record IsRightCall (w : Walk) (taken : List ℕ) (group position : ℕ) : Type 0 where
-  pub known : position < count w
+  pub known : position < walk_count w
   pub gives : gives_alone w position ≡ true
   pub own : group_of w.entries position ≡ group
-  pub home : 0 < times (home_of w.entries position) taken
+  pub home : 0 < times (entry_home w.entries position) taken
 
--- Of the entries of the taken jobs all but those that are left are handled, and nothing else is given, claimed or noted.
+-- Of the entries of the taken jobs all but those that are left are handled, and nothing else is
+-- given, claimed or noted.
 pub record IsDone (w : Walk) (left taken given : List ℕ) (calls : List Call) (notes : List Note)
     : Type 0 where
   pub once : (e : ℕ) → times e left ≤ 1
   pub held : (e : ℕ) → 0 < times e left
-      → (e < count w) × (0 < times (home_of w.entries e) taken)
+      → (e < walk_count w) × (0 < times (entry_home w.entries e) taken)
   pub given_are : (job : ℕ) → 0 < times job given → IsOffered w left taken job
   pub calls_are : (group position : ℕ) → IsClaimed group position calls
       → IsRightCall w taken group position
-  pub each : (e : ℕ) → e < count w → 0 < times (home_of w.entries e) taken
+  pub each : (e : ℕ) → e < walk_count w → 0 < times (entry_home w.entries e) taken
       → (0 < times e left) ⊎ IsHandled w given calls (noted_in notes) e
-  pub notes_are : All (IsNoted w) notes
+  pub notes_are : All (IsNoteOf w) notes
   pub noted_are : (e : ℕ) → 0 < times e (noted_in notes)
-      → (e < count w) × (0 < times (home_of w.entries e) taken)
+      → (e < walk_count w) × (0 < times (entry_home w.entries e) taken)
 
 -- ---- what one entry adds
 

@@ -1,5 +1,5 @@
 ghost use Rattle.std.specs.Prelude.{◌≡◌, [], OnOk};
-ghost use Rattle.dir_queue.specs.Answers.{one_worker, passes_of, queue_view, shape_of};
+ghost use Rattle.dir_queue.specs.Answers.{one_worker, passes_of_queue, queue_view, queue_shape};
 ghost use Rattle.spec_match.specs.Scratches.{IsScratchOf};
 ghost use Rattle.walk_steps.specs.Sound.{Sound};
 ghost use Rattle.relabel_core.specs.Walked.{walk_of};
@@ -20,7 +20,8 @@ use std::sync::Wait;
 // The number that the caller has as a worker.
 const CALLER: u32 = 0;
 
-/// Takes jobs by the caller alone, until as many wait as there are workers, or none. It answers how many wait.
+/// Takes jobs by the caller alone, until as many wait as there are workers, or none. It answers how
+/// many wait.
 pub fn start_alone<R: Wait, G: Gate>(
     rt: &R,
     alloc: Global,
@@ -82,12 +83,12 @@ pub fn drain<R: Wait, G: Gate>(
     requires own { IsScratchOf input.now.rules.now.rules buffers.old.scratch }
     requires share { IsShareOf queue.now claims.now share.old }
     requires done { AreDone (walk_of input.now) [] share.old }
-    requires whole { queue_stands share.old ≡ passes_of queue.now }
+    requires whole { queue_stands share.old ≡ passes_of_queue queue.now }
     ensures share { OnOk result (IsShareOf queue.now claims.now share.new) }
     ensures done { OnOk result (AreDone (walk_of input.now) [] share.new) }
     ensures stands { OnOk result (StandFor share.old 0 share.new) }
     ensures sound { OnOk result
-        (Sound (shape_of queue.now) (one_worker (queue_view share.new.queue))) }
+        (Sound (queue_shape queue.now) (one_worker (queue_view share.new.queue))) }
 {
     'steps: for _ in rt.forever() {
         let found = step(

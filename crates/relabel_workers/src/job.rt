@@ -1,14 +1,14 @@
 ghost use Rattle.std.specs.Prelude.{◌≡◌, ◌<◌, ◌≤◌, ◌∷◌, [], List, ℕ, length, OnOk, true};
 ghost use Rattle.walk_steps.specs.Lists.{times};
 ghost use Rattle.inode_claims.specs.Answers.{IsPassOf, claim_view, groups_of};
-ghost use Rattle.dir_queue.specs.Answers.{IsQueuePassOf, queue_view, shape_of};
+ghost use Rattle.dir_queue.specs.Answers.{IsQueuePassOf, queue_view, queue_shape};
 ghost use Rattle.spec_match.specs.Scratches.{IsScratchOf};
 ghost use Rattle.tree_model.specs.Extents.{is_directory};
 ghost use Rattle.tree_model.specs.Groups.{group_of, groups_in};
 ghost use Rattle.tree_model.specs.Jobs as jobs;
-ghost use Rattle.tree_model.specs.Jobs.{directories_in, entries_of_job, home_of, job_of};
+ghost use Rattle.tree_model.specs.Jobs.{directories_in, entries_of_job, entry_home, job_of};
 ghost use Rattle.label_rules.specs.LookUp.{given_at};
-ghost use Rattle.relabel_core.specs.Walk.{count, skippable};
+ghost use Rattle.relabel_core.specs.Walk.{walk_count, skippable};
 ghost use Rattle.relabel_core.specs.Walked.{IsFit, walk_of};
 ghost use Rattle.relabel_workers.specs.Alone.{AreListingsFor, decided_alone, gives_alone};
 ghost use Rattle.relabel_workers.specs.Held.{AreDone, IsShareOf, IsSite, StandFor};
@@ -28,7 +28,7 @@ use std::sync::Wait;
 
 /// Whether the job of an entry is to be given: it is a directory, and isn't skipped by itself.
 fn is_to_be_given(input: &WalkInput<'_>, e: u32, skipped: bool) -> bool
-    requires entry { e < count (walk_of input.now) }
+    requires entry { e < walk_count (walk_of input.now) }
     requires skipped { skipped ≡ skippable (walk_of input.now) e }
     ensures { result ≡ is_to_be_given (walk_of input.now) e }
 {
@@ -44,11 +44,11 @@ fn give_job<R: Wait>(
     e: u32,
     skipped: bool,
 ) -> bool
-    requires entry { e < count (walk_of input.now) }
+    requires entry { e < walk_count (walk_of input.now) }
     requires skipped { skipped ≡ skippable (walk_of input.now) e }
-    requires shape { shape_of queue.now ≡ jobs.shape_of input.now.tree.now }
+    requires shape { queue_shape queue.now ≡ jobs.shape_of input.now.tree.now }
     requires pass { IsQueuePassOf queue.now pass.old }
-    requires home { 0 < times (home_of input.now.tree.now e) (queue_view pass.old).taken }
+    requires home { 0 < times (entry_home input.now.tree.now e) (queue_view pass.old).taken }
     requires new { is_to_be_given (walk_of input.now) e ≡ true
         → times (job_of input.now.tree.now e) (queue_view pass.old).given ≡ 0 }
     ensures pass { IsQueuePassOf queue.now pass.new }
@@ -75,7 +75,7 @@ fn claim_entry<G: Gate>(
     e: u32,
     decided: Option<u32>,
 )
-    requires entry { e < count (walk_of input.now) }
+    requires entry { e < walk_count (walk_of input.now) }
     requires decided { decided ≡ decided_alone (walk_of input.now) e }
     requires groups { groups_of claims.now ≡ groups_in input.now.tree.now }
     requires pass { IsPassOf claims.now pass.old }
@@ -91,7 +91,8 @@ fn claim_entry<G: Gate>(
     gate.claimed(worker, e, before);
 }
 
-// Does what is to be done for one entry of a job that was taken. It answers whether a job was given.
+// Does what is to be done for one entry of a job that was taken. It answers whether a job was
+// given.
 fn do_entry<R: Wait, G: Gate>(
     rt: &R,
     alloc: Global,
@@ -106,8 +107,8 @@ fn do_entry<R: Wait, G: Gate>(
     share: &mut Share,
 ) -> Result<bool, OutOfMemory>
     requires site { IsSite input.now queue.now claims.now }
-    requires entry { e < count (walk_of input.now) }
-    requires home { 0 < times (home_of input.now.tree.now e) (queue_view share.old.queue).taken }
+    requires entry { e < walk_count (walk_of input.now) }
+    requires home { 0 < times (entry_home input.now.tree.now e) (queue_view share.old.queue).taken }
     requires new { is_to_be_given (walk_of input.now) e ≡ true
         → times (job_of input.now.tree.now e) (queue_view share.old.queue).given ≡ 0 }
     requires listings { AreListingsFor input.now listings.now }
@@ -141,7 +142,8 @@ fn do_entry<R: Wait, G: Gate>(
     Ok(given)
 }
 
-// Does what is to be done for the entries of a job that was taken. It answers how many jobs were given.
+// Does what is to be done for the entries of a job that was taken. It answers how many jobs were
+// given.
 pub fn do_entries<R: Wait, G: Gate>(
     rt: &R,
     alloc: Global,

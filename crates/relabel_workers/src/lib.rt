@@ -1,5 +1,5 @@
-//! The walk over a tree by several workers. They share a queue of directories and one word for each inode, and find what the
-//! walk of one worker finds, whatever each of them does when.
+//! The walk over a tree by several workers. They share a queue of directories and one word for each
+//! inode, and find what the walk of one worker finds, whatever each of them does when.
 #![tactic(auto)]
 
 mod all_jobs;

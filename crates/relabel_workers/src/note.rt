@@ -1,9 +1,9 @@
 ghost use Rattle.std.specs.Prelude.{◌≡◌, ◌<◌, IfOk, IfSome, length};
 ghost use Rattle.spec_match.specs.Scratches.{IsScratchOf};
 ghost use Rattle.relabel_core.specs.Passed.{needed};
-ghost use Rattle.relabel_core.specs.Walk.{count, skippable};
+ghost use Rattle.relabel_core.specs.Walk.{walk_count, skippable};
 ghost use Rattle.relabel_core.specs.Walked.{IsFit, walk_of};
-ghost use Rattle.relabel_workers.specs.Alone.{AreListingsFor, IsNoted, decided_alone};
+ghost use Rattle.relabel_workers.specs.Alone.{AreListingsFor, IsNoteOf, decided_alone};
 
 use dir_digest::Listings;
 use label_base::{OutOfMemory, Steps};
@@ -34,7 +34,7 @@ fn look_up_alone<L: Ledger>(
     blank: Blank,
 ) -> Result<Option<u32>, OutOfMemory>
     requires fit { IsFit input.now }
-    requires entry { e < count (walk_of input.now) }
+    requires entry { e < walk_count (walk_of input.now) }
     requires skipped { skipped ≡ skippable (walk_of input.now) e }
     requires own { IsScratchOf input.now.rules.now.rules scratch.old }
     requires name { blank.name ≡ L.name }
@@ -61,7 +61,8 @@ fn look_up_alone<L: Ledger>(
     )
 }
 
-// What decides an entry of which it is known whether it is skipped itself, if no directory above it is.
+// What decides an entry of which it is known whether it is skipped itself, if no directory above it
+// is.
 fn decide_alone(
     alloc: Global,
     input: &WalkInput<'_>,
@@ -70,7 +71,7 @@ fn decide_alone(
     scratch: &mut Scratch,
 ) -> Result<Option<u32>, OutOfMemory>
     requires fit { IsFit input.now }
-    requires entry { e < count (walk_of input.now) }
+    requires entry { e < walk_count (walk_of input.now) }
     requires skipped { skipped ≡ skippable (walk_of input.now) e }
     requires own { IsScratchOf input.now.rules.now.rules scratch.old }
     ensures own { IsScratchOf input.now.rules.now.rules scratch.new }
@@ -91,7 +92,7 @@ fn find_alone(
     buffers: &mut Buffers,
 ) -> Result<Finding, OutOfMemory>
     requires fit { IsFit input.now }
-    requires entry { e < count (walk_of input.now) }
+    requires entry { e < walk_count (walk_of input.now) }
     requires listings { AreListingsFor input.now listings.now }
     requires own { IsScratchOf input.now.rules.now.rules buffers.old.scratch }
     ensures own { IsScratchOf input.now.rules.now.rules buffers.new.scratch }
@@ -117,12 +118,12 @@ pub fn note_of(
     buffers: &mut Buffers,
 ) -> Result<Note, OutOfMemory>
     requires fit { IsFit input.now }
-    requires entry { e < count (walk_of input.now) }
+    requires entry { e < walk_count (walk_of input.now) }
     requires listings { AreListingsFor input.now listings.now }
     requires own { IsScratchOf input.now.rules.now.rules buffers.old.scratch }
     ensures own { IsScratchOf input.now.rules.now.rules buffers.new.scratch }
     ensures entry { IfOk result (λ note. note.entry ≡ e) }
-    ensures noted { IfOk result (λ note. IsNoted (walk_of input.now) note) }
+    ensures noted { IfOk result (λ note. IsNoteOf (walk_of input.now) note) }
 {
     let finding = find_alone(alloc, input, e, listings, buffers)?;
     let decided = decide_alone(alloc, input, e, finding.skippable, &mut buffers.scratch)?;

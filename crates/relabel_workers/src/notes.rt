@@ -6,7 +6,8 @@ use label_base::OutOfMemory;
 use std::alloc::Global;
 use std::marker::Model;
 
-/// What was found of entries, in the order in which it was noted. Contracts see the list of the notes.
+/// What was found of entries, in the order in which it was noted. Contracts see the list of the
+/// notes.
 #[derive(Drop)]
 pub struct Notes {
     // Behind one another; the last one follows them.
@@ -34,7 +35,8 @@ fn add_rows(rows: &mut Vec<Vec<Note>>, more: Vec<Vec<Note>>) -> Result<(), OutOf
     Ok(())
 }
 
-// One note behind others. The look at its digest tells the check of a type that it would miss at the push.
+// One note behind others. The look at its digest tells the check of a type that it would miss at
+// the push.
 fn add_note(notes: &mut Vec<Note>, note: Note) -> Result<(), OutOfMemory>
     ensures { OnOk result (notes.new.items ≡ notes.old.items ++ note ∷ []) }
 {

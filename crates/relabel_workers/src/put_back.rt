@@ -1,15 +1,17 @@
-ghost use Rattle.std.specs.Prelude.{◌≡◌, ℕ, ◌+◌, ◌<◌, ◌^◌, ◌++◌, ◌∷◌, [], true, false, All, List, IfOk, IfSome, None, OnOk, length};
+ghost use Rattle.std.specs.Prelude.{◌≡◌, ℕ, ◌+◌, ◌<◌, ◌^◌, ◌++◌, ◌∷◌, [], true, false, All, List};
+ghost use Rattle.std.specs.Prelude.{IfOk, IfSome, None, OnOk, length};
 ghost use Rattle.std.specs.List.{flat_map};
 ghost use Rattle.inode_claims.specs.Answers.{group_count, winner_of};
 ghost use Rattle.tree_model.specs.Extents.{extent_of};
 ghost use Rattle.tree_model.specs.Groups.{groups_in};
 ghost use Rattle.relabel_core.specs.Answer.{walk_in};
-ghost use Rattle.relabel_core.specs.Numbers.{IsPut, found_in};
+ghost use Rattle.relabel_core.specs.Numbers.{IsNumberPut, found_in};
 ghost use Rattle.relabel_core.specs.Passed.{ArePassed, renewal};
-ghost use Rattle.relabel_core.specs.Walk.{count, skippable, winner};
-ghost use Rattle.relabel_core.specs.Walked.{AreFound, HasRoom, IsFit, walk_of};
-ghost use Rattle.relabel_workers.specs.Alone.{IsNoted};
-ghost use Rattle.relabel_workers.specs.PutBack.{AreAllNoted, ArePut, AreSkippedTo, AreWinners, IsOpenNote, KeepsFirst};
+ghost use Rattle.relabel_core.specs.Walk.{walk_count, skippable, winner};
+ghost use Rattle.relabel_core.specs.Walked.{AreWalkAnswers, HasWalkRoom, IsFit, walk_of};
+ghost use Rattle.relabel_workers.specs.Alone.{IsNoteOf};
+ghost use Rattle.relabel_workers.specs.PutBack.{AreAllNoted, ArePutBack, AreSkippedTo};
+ghost use Rattle.relabel_workers.specs.PutBack.{AreWinnersClaimed, IsOpenNote, KeepsFirst};
 ghost use Rattle.relabel_workers.specs.declared.note.Note.{Note};
 
 use crate::note::Note;
@@ -50,7 +52,7 @@ fn keep_renewed(passed: &mut Passed, d: u32, renewed: Option<Digest>) -> Result<
 
 // Puts a directory back that is skipped by itself.
 fn put_skipped(input: &WalkInput<'_>, d: u32, passed: &mut Passed)
-    requires entry { d < count (walk_of input.now) }
+    requires entry { d < walk_count (walk_of input.now) }
     ensures skips { AreSkippedTo passed.old.skips.items d (extent_of input.now.tree.now d)
         passed.new.skips.items }
     ensures made { passed.new.made ≡ passed.old.made }
@@ -83,8 +85,8 @@ fn put_note(
 ) -> Result<(), OutOfMemory>
     requires fit { IsFit input.now }
     requires note { IsOpenNote (walk_of input.now) note.now }
-    ensures put { (done : List Note) → ArePut (walk_of input.now) done noted.old passed.old
-        → OnOk result (ArePut (walk_of input.now) (done ++ note.now ∷ []) noted.new passed.new) }
+    ensures put { (done : List Note) → ArePutBack (walk_of input.now) done noted.old passed.old
+        → OnOk result (ArePutBack (walk_of input.now) (done ++ note.now ∷ []) noted.new passed.new) }
 {
     input.tree.rises();
     let _ = input.rules.rules.len();
@@ -104,8 +106,8 @@ fn put_row(
 ) -> Result<(), OutOfMemory>
     requires fit { IsFit input.now }
     requires notes { All (IsOpenNote (walk_of input.now)) notes.now }
-    ensures put { (done : List Note) → ArePut (walk_of input.now) done noted.old passed.old
-        → OnOk result (ArePut (walk_of input.now) (done ++ notes.now) noted.new passed.new) }
+    ensures put { (done : List Note) → ArePutBack (walk_of input.now) done noted.old passed.old
+        → OnOk result (ArePutBack (walk_of input.now) (done ++ notes.now) noted.new passed.new) }
 {
     'notes: for note in notes {
         put_note(input, note, noted, passed)?;
@@ -121,8 +123,8 @@ fn put_rows(
 ) -> Result<(), OutOfMemory>
     requires fit { IsFit input.now }
     requires notes { All (IsOpenNote (walk_of input.now)) (flat_map (λ row. row.items) rows.now) }
-    ensures put { (done : List Note) → ArePut (walk_of input.now) done noted.old passed.old
-        → OnOk result (ArePut (walk_of input.now) (done ++ flat_map (λ row. row.items) rows.now)
+    ensures put { (done : List Note) → ArePutBack (walk_of input.now) done noted.old passed.old
+        → OnOk result (ArePutBack (walk_of input.now) (done ++ flat_map (λ row. row.items) rows.now)
         noted.new passed.new) }
 {
     'rows: for row in rows {
@@ -140,8 +142,8 @@ fn put_notes(
 ) -> Result<(), OutOfMemory>
     requires fit { IsFit input.now }
     requires notes { All (IsOpenNote (walk_of input.now)) notes.now }
-    ensures put { (done : List Note) → ArePut (walk_of input.now) done noted.old passed.old
-        → OnOk result (ArePut (walk_of input.now) (done ++ notes.now) noted.new passed.new) }
+    ensures put { (done : List Note) → ArePutBack (walk_of input.now) done noted.old passed.old
+        → OnOk result (ArePutBack (walk_of input.now) (done ++ notes.now) noted.new passed.new) }
 {
     put_rows(input, notes.full.as_slice(), noted, passed)?;
     put_row(input, notes.last.as_slice(), noted, passed)
@@ -162,7 +164,7 @@ fn winner_in(winners: &Winners, g: u32) -> Option<u32>
 // Puts back the winners.
 fn put_winners(input: &WalkInput<'_>, winners: &Winners, noted: &mut Noted)
     requires fit { IsFit input.now }
-    requires winners { AreWinners (walk_of input.now) winners.now }
+    requires winners { AreWinnersClaimed (walk_of input.now) winners.now }
     requires room { length noted.old.winners.items ≡ groups_in input.now.tree.now }
     ensures winners { (g : ℕ) → g < groups_in input.now.tree.now
         → found_in noted.new.winners.items g ≡ winner (walk_of input.now) g }
@@ -175,9 +177,9 @@ fn put_winners(input: &WalkInput<'_>, winners: &Winners, noted: &mut Noted)
 
 // Nothing decides any entry.
 fn decide_none(count: u32, noted: &mut Noted)
-    requires { length noted.old.decided.items ≡ count }
-    ensures none { (e : ℕ) → e < count → found_in noted.new.decided.items e ≡ None }
-    ensures room { length noted.new.decided.items ≡ count }
+    requires { length noted.old.decided.items ≡ walk_count }
+    ensures none { (e : ℕ) → e < walk_count → found_in noted.new.decided.items e ≡ None }
+    ensures room { length noted.new.decided.items ≡ walk_count }
     ensures winners { noted.new.winners.items ≡ noted.old.winners.items }
 {
     'entries: for e in 0..count {
@@ -187,10 +189,10 @@ fn decide_none(count: u32, noted: &mut Noted)
 
 // Nothing is noted yet of any entry, and there is room for each entry and each group.
 fn none_noted(alloc: Global, input: &WalkInput<'_>) -> Result<Noted, OutOfMemory>
-    ensures none { IfOk result (λ noted. (e : ℕ) → e < count (walk_of input.now)
+    ensures none { IfOk result (λ noted. (e : ℕ) → e < walk_count (walk_of input.now)
         → found_in noted.decided.items e ≡ None) }
     ensures room { IfOk result (λ noted.
-        HasRoom (walk_of input.now) noted.decided.items noted.winners.items) }
+        HasWalkRoom (walk_of input.now) noted.decided.items noted.winners.items) }
 {
     let mut noted = Noted::none(alloc, input)?;
     decide_none(input.tree.len(), &mut noted);
@@ -205,7 +207,7 @@ pub fn walk_of_notes<'a>(
     notes: &Notes,
 ) -> Result<Walked<'a>, OutOfMemory>
     requires fit { IsFit input.now }
-    requires winners { AreWinners (walk_of input.now) winners.now }
+    requires winners { AreWinnersClaimed (walk_of input.now) winners.now }
     requires notes { AreAllNoted (walk_of input.now) notes.now }
     ensures { IfOk result (λ walked. walk_in walked ≡ walk_of input.now) }
 {

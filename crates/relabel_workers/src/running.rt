@@ -1,7 +1,8 @@
 ghost use Rattle.std.specs.Prelude.{◌≡◌, ◌+◌, [], length, IfOk};
 ghost use Rattle.std.specs.Thread.{IsSync};
 ghost use Rattle.relabel_core.specs.Walked.{walk_of};
-ghost use Rattle.relabel_workers.specs.Held.{AreDone, IsShareOf, AreRows, IsSite, StandFor, claims_stand, input_of, queue_stands};
+ghost use Rattle.relabel_workers.specs.Held.{AreDone, IsShareOf, AreFreshPasses, IsSite, StandFor};
+ghost use Rattle.relabel_workers.specs.Held.{claims_stand, input_of, queue_stands};
 
 use crate::gate::Gate;
 use crate::share::{Share, join_shares, next_share};
@@ -29,7 +30,7 @@ pub fn run_all<R: Threads + Wait + Sync, G: Gate + Sync>(
     share: Share,
 ) -> Result<Share, OutOfMemory>
     requires site { IsSite input.now queue.now claims.now }
-    requires rows { AreRows queue.now claims.now queue_passes claim_passes }
+    requires rows { AreFreshPasses queue.now claims.now queue_passes claim_passes }
     requires share { IsShareOf queue.now claims.now share }
     requires done { AreDone (walk_of input.now) [] share }
     ensures share { IfOk result (λ after. IsShareOf queue.now claims.now after) }
@@ -54,8 +55,8 @@ pub fn run_all<R: Threads + Wait + Sync, G: Gate + Sync>(
     )
 }
 
-// Runs a worker, and at once the next one with those of the rows. Each thread is lent the parts of the input: of one that is
-// lent a struct of references it isn't known what it answers.
+// Runs a worker, and at once the next one with those of the rows. Each thread is lent the parts of
+// the input: of one that is lent a struct of references it isn't known what it answers.
 #[cycle(rows)]
 fn run_both<R: Threads + Wait + Sync, G: Gate + Sync>(
     rt: &R,
@@ -71,7 +72,7 @@ fn run_both<R: Threads + Wait + Sync, G: Gate + Sync>(
     next: Share,
 ) -> Result<Share, OutOfMemory>
     requires site { IsSite input.now queue.now claims.now }
-    requires rows { AreRows queue.now claims.now queue_passes claim_passes }
+    requires rows { AreFreshPasses queue.now claims.now queue_passes claim_passes }
     requires share { IsShareOf queue.now claims.now share }
     requires done { AreDone (walk_of input.now) [] share }
     requires next { IsShareOf queue.now claims.now next }
@@ -117,7 +118,7 @@ fn run_both<R: Threads + Wait + Sync, G: Gate + Sync>(
                 × IsSite (input_of tree chosen operands rules options stored) queue.now claims.now
                 × IsShareOf queue.now claims.now next
                 × AreDone (walk_of (input_of tree chosen operands rules options stored)) [] next
-                × AreRows queue.now claims.now queue_passes claim_passes }
+                × AreFreshPasses queue.now claims.now queue_passes claim_passes }
             ensures { IfOk result (λ after. IsShareOf queue.entry.now claims.entry.now after
                 × AreDone (walk_of (input_of tree.entry chosen.entry operands.entry rules.entry
                 options stored.entry)) [] after × StandFor next (length queue_passes) after) }
@@ -158,7 +159,7 @@ fn join_rest<R: Wait>(
     mut claim_passes: Row<ClaimPass>,
     mut share: Share,
 ) -> Result<Share, OutOfMemory>
-    requires rows { AreRows queue.now claims.now queue_passes claim_passes }
+    requires rows { AreFreshPasses queue.now claims.now queue_passes claim_passes }
     requires share { IsShareOf queue.now claims.now share }
     requires done { AreDone (walk_of input.now) [] share }
     ensures share { IfOk result (λ after. IsShareOf queue.now claims.now after) }
@@ -192,7 +193,7 @@ pub fn run_if_any<R: Threads + Wait + Sync, G: Gate + Sync>(
     share: Share,
 ) -> Result<Share, OutOfMemory>
     requires site { IsSite input.now queue.now claims.now }
-    requires rows { AreRows queue.now claims.now queue_passes claim_passes }
+    requires rows { AreFreshPasses queue.now claims.now queue_passes claim_passes }
     requires share { IsShareOf queue.now claims.now share }
     requires done { AreDone (walk_of input.now) [] share }
     ensures share { IfOk result (λ after. IsShareOf queue.now claims.now after) }

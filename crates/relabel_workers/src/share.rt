@@ -1,6 +1,7 @@
 ghost use Rattle.std.specs.Prelude.{◌≡◌, ◌+◌, [], length, IfOk, IfSome, MatchOption};
 ghost use Rattle.relabel_core.specs.Walk.{Walk};
-ghost use Rattle.relabel_workers.specs.Held.{AreDone, IsShareOf, AreRows, claims_stand, queue_stands};
+ghost use Rattle.relabel_workers.specs.Held.{AreDone, IsShareOf, AreFreshPasses, claims_stand};
+ghost use Rattle.relabel_workers.specs.Held.{queue_stands};
 
 use crate::notes::Notes;
 use dir_queue::{DirQueue, QueuePass};
@@ -9,7 +10,8 @@ use label_base::{OutOfMemory, Row};
 use std::alloc::Global;
 use std::sync::Wait;
 
-/// What a worker holds, and brings back: its two passes, and what it found of the entries of the jobs that it took.
+/// What a worker holds, and brings back: its two passes, and what it found of the entries of the
+/// jobs that it took.
 #[derive(Drop)]
 pub struct Share {
     pub queue: QueuePass,
@@ -25,8 +27,8 @@ pub fn next_share(
     queue_passes: &mut Row<QueuePass>,
     claim_passes: &mut Row<ClaimPass>,
 ) -> Option<Share>
-    requires { AreRows queue.now claims.now queue_passes.old claim_passes.old }
-    ensures rows { AreRows queue.now claims.now queue_passes.new claim_passes.new }
+    requires { AreFreshPasses queue.now claims.now queue_passes.old claim_passes.old }
+    ensures rows { AreFreshPasses queue.now claims.now queue_passes.new claim_passes.new }
     ensures share { IfSome result (λ share. IsShareOf queue.now claims.now share) }
     ensures done { (w : Walk) → IfSome result (λ share. AreDone w [] share) }
     ensures stands { IfSome result (λ share.

@@ -1,8 +1,9 @@
-// What the tests walk over. Each helper has one value with a buffer and one `?`, since what has several takes long to prove.
+// What the tests walk over. Each helper has one value with a buffer and one `?`, since what has
+// several takes long to prove.
 ghost use Rattle.std.specs.Prelude.{◌≡◌, ◌<◌, ◌≤◌, IfOk};
-ghost use Rattle.find_records.specs.Record.{AreOf};
+ghost use Rattle.find_records.specs.Record.{AreOfFormat};
 ghost use Rattle.relabel_core.specs.Walked.{IsFit, walk_of};
-ghost use Rattle.relabel_workers.specs.PutBack.{AreWinners};
+ghost use Rattle.relabel_workers.specs.PutBack.{AreWinnersClaimed};
 
 use crate::gate::Gate;
 use crate::walk::walk_threads;
@@ -50,7 +51,7 @@ pub const VERBOSE: Options = Options {
 };
 
 fn tree_of(alloc: Global, records: &[u8], format: Format) -> Result<Tree, Fail>
-    ensures { IfOk result (λ tree. AreOf format tree) }
+    ensures { IfOk result (λ tree. AreOfFormat format tree) }
 {
     let mut source = MemSource::new(Bytes::copy_of(alloc, records)?, 100, Row::new(alloc));
     let limits = RecordLimits {
@@ -131,7 +132,7 @@ pub struct Answered {
 }
 
 fn first_winner(input: &WalkInput<'_>, winners: &Winners) -> Option<u64>
-    requires { AreWinners (walk_of input.now) winners.now }
+    requires { AreWinnersClaimed (walk_of input.now) winners.now }
 {
     if input.tree.groups() == 0 {
         return None;
@@ -168,7 +169,7 @@ fn answered_choice<R: Threads + Wait + Sync, G: Gate + Sync>(
     workers: u32,
     gate: &G,
 ) -> Result<Answered, OutOfMemory>
-    requires format { AreOf options.format tree.now }
+    requires format { AreOfFormat options.format tree.now }
     requires workers { (0 < workers) × (workers ≤ 64) }
 {
     let entries = tree.len();
@@ -194,7 +195,7 @@ fn answered_rules<R: Threads + Wait + Sync, G: Gate + Sync>(
     workers: u32,
     gate: &G,
 ) -> Result<Answered, Fail>
-    requires format { AreOf given.now.options.format tree.now }
+    requires format { AreOfFormat given.now.options.format tree.now }
     requires workers { (0 < workers) × (workers ≤ 64) }
 {
     let choice = choice_of(alloc, given.operands)?;
@@ -220,7 +221,7 @@ fn answered_tree<R: Threads + Wait + Sync, G: Gate + Sync>(
     workers: u32,
     gate: &G,
 ) -> Result<Answered, Fail>
-    requires format { AreOf given.now.options.format tree.now }
+    requires format { AreOfFormat given.now.options.format tree.now }
     requires workers { (0 < workers) × (workers ≤ 64) }
 {
     let rules = rules_of(alloc, given.specs)?;
@@ -235,7 +236,7 @@ fn answered_stored<R: Threads + Wait + Sync, G: Gate + Sync>(
     workers: u32,
     gate: &G,
 ) -> Result<Answered, Fail>
-    requires format { AreOf given.now.options.format tree.now }
+    requires format { AreOfFormat given.now.options.format tree.now }
     requires workers { (0 < workers) × (workers ≤ 64) }
 {
     let stored = stored_of(alloc, tree, given.kept)?;

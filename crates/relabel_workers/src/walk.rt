@@ -1,5 +1,6 @@
 ghost use Rattle.std.specs.Prelude.{◌≡◌, ◌<◌, ◌≤◌, [], IfOk};
-ghost use Rattle.inode_claims.specs.Answers.{IsPassOf, groups_of, passes_of as claim_passes_of};
+ghost use Rattle.inode_claims.specs.Answers.{IsPassOf, groups_of};
+ghost use Rattle.inode_claims.specs.Answers.{passes_of_claims as claim_passes_of};
 ghost use Rattle.dir_queue.specs.Answers.{one_worker, queue_view};
 ghost use Rattle.walk_steps.specs.Shaped.{IsValid};
 ghost use Rattle.walk_steps.specs.Sound.{Sound};
@@ -9,7 +10,7 @@ ghost use Rattle.relabel_core.specs.Answer.{walk_in};
 ghost use Rattle.relabel_core.specs.Walk.{count_wanted};
 ghost use Rattle.relabel_core.specs.Walked.{IsFit, walk_of};
 ghost use Rattle.relabel_workers.specs.Held.{AreDone, claims_stand};
-ghost use Rattle.relabel_workers.specs.PutBack.{AreAllNoted, AreWinners};
+ghost use Rattle.relabel_workers.specs.PutBack.{AreAllNoted, AreWinnersClaimed};
 
 use crate::all_jobs::take_all_jobs;
 use crate::gate::Gate;
@@ -42,7 +43,7 @@ fn close(input: &WalkInput<'_>, shape: &Shape, claims: Claims, share: Share) -> 
     requires done { AreDone (walk_of input.now) [] share }
     requires sound { Sound shape.now (one_worker (queue_view share.queue)) }
     ensures notes { AreAllNoted (walk_of input.now) result.notes }
-    ensures winners { AreWinners (walk_of input.now) result.winners }
+    ensures winners { AreWinnersClaimed (walk_of input.now) result.winners }
     ensures claims { count_wanted (walk_of input.now) ≤ result.winners.claims }
 {
     ends_are_one(shape);
@@ -69,7 +70,7 @@ fn close_all<R: Threads + Wait + Sync, G: Gate + Sync>(
     requires shape { (shape.now ≡ shape_of input.now.tree.now) × IsValid shape.now }
     requires some { 0 < workers }
     ensures notes { IfOk result (λ closed. AreAllNoted (walk_of input.now) closed.notes) }
-    ensures winners { IfOk result (λ closed. AreWinners (walk_of input.now) closed.winners) }
+    ensures winners { IfOk result (λ closed. AreWinnersClaimed (walk_of input.now) closed.winners) }
     ensures claims { IfOk result (λ closed.
         count_wanted (walk_of input.now) ≤ closed.winners.claims) }
 {
@@ -89,12 +90,13 @@ fn close_all<R: Threads + Wait + Sync, G: Gate + Sync>(
     Ok(close(input, shape, claims, share))
 }
 
-/// Walks over a tree by so many workers, and finds what the walk of one worker finds, whatever each of them does when. It
-/// answers the winners that were claimed beside it: the first name of each inode for which a context is decided. The gate is
-/// told of each job that a worker takes, and of each claim.
+/// Walks over a tree by so many workers, and finds what the walk of one worker finds, whatever each
+/// of them does when. It answers the winners that were claimed beside it: the first name of each
+/// inode for which a context is decided. The gate is told of each job that a worker takes, and of
+/// each claim.
 ///
-/// It fails for want of memory alone, and a worker's counts as its own. Where no thread can be started, one worker after the
-/// other does its work.
+/// It fails for want of memory alone, and a worker's counts as its own. Where no thread can be
+/// started, one worker after the other does its work.
 pub fn walk_threads<'a, R: Threads + Wait + Sync, G: Gate + Sync>(
     rt: &R,
     alloc: Global,
@@ -105,7 +107,7 @@ pub fn walk_threads<'a, R: Threads + Wait + Sync, G: Gate + Sync>(
     requires fit { IsFit input.now }
     requires workers { (0 < workers) × (workers ≤ 64) }
     ensures walk { IfOk result (λ found. walk_in found.0 ≡ walk_of input.now) }
-    ensures winners { IfOk result (λ found. AreWinners (walk_of input.now) found.1) }
+    ensures winners { IfOk result (λ found. AreWinnersClaimed (walk_of input.now) found.1) }
     ensures claims { IfOk result (λ found. count_wanted (walk_of input.now) ≤ found.1.claims) }
 {
     let shape = input.tree.shape(alloc)?;

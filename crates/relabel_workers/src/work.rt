@@ -1,6 +1,6 @@
 ghost use Rattle.std.specs.Prelude.{◌≡◌, [], IfNone, IfOk, OnOk};
 ghost use Rattle.dir_queue.specs.Passes.{AllIsTaken};
-ghost use Rattle.dir_queue.specs.Answers.{one_worker, passes_of, queue_view, shape_of};
+ghost use Rattle.dir_queue.specs.Answers.{one_worker, passes_of_queue, queue_view, queue_shape};
 ghost use Rattle.spec_match.specs.Scratches.{IsScratchOf};
 ghost use Rattle.walk_steps.specs.Sound.{Sound};
 ghost use Rattle.relabel_core.specs.Walked.{walk_of};
@@ -37,7 +37,8 @@ pub fn listings_for<'a>(
     Ok(Some(listings))
 }
 
-// Takes a job and does what is to be done for its entries. It answers how many jobs were given, and none if no job waits.
+// Takes a job and does what is to be done for its entries. It answers how many jobs were given, and
+// none if no job waits.
 pub fn step<R: Wait, G: Gate>(
     rt: &R,
     alloc: Global,
@@ -59,8 +60,8 @@ pub fn step<R: Wait, G: Gate>(
     ensures share { OnOk result (IsShareOf queue.now claims.now share.new) }
     ensures done { OnOk result (AreDone (walk_of input.now) [] share.new) }
     ensures stands { OnOk result (StandFor share.old 0 share.new) }
-    ensures sound { queue_stands share.old ≡ passes_of queue.now → IfOk result (λ found.
-        IfNone found (Sound (shape_of queue.now) (one_worker (queue_view share.new.queue)))) }
+    ensures sound { queue_stands share.old ≡ passes_of_queue queue.now → IfOk result (λ found.
+        IfNone found (Sound (queue_shape queue.now) (one_worker (queue_view share.new.queue)))) }
 {
     let Some(job) = queue.take(rt, &mut share.queue) else {
         return Ok(None);
@@ -107,7 +108,8 @@ fn work_with<R: Wait, G: Gate>(
     unreachable!()
 }
 
-// How often in a row nothing was taken, after one take more. Where nothing was, another thread gets its turn.
+// How often in a row nothing was taken, after one take more. Where nothing was, another thread gets
+// its turn.
 fn idle_behind(idle: u32, found: Option<u32>) -> u32 {
     if found.is_some() {
         return 0;

@@ -9,8 +9,15 @@ use Rattle.context_syntax.specs.Context.{ContextValue, context_text}
 use Rattle.context_syntax.specs.declared.label.Label.{Label}
 use Rattle.context_syntax.specs.declared.label.Label.TheVariants as label
 use Rattle.spec_reader.specs.declared.line.TheConstants.{NO_CONTEXT}
-use Rattle.report_text.specs.declared.words.TheConstants.{AND, CLOSE, COMMA, CONFLICTING, FROM, FULL_STOP, HAS_CONTEXT, HAS_NO_RECORD, LINE_FEED, NO_DEFAULT, NO_LABEL, NO_MATCHES, NO_RECORD_FOR, NOT_RESET, RELABELED, SHOULD_BE, SKIPPING, TAB, TO, USING, VERIFIED, WOULD_RELABEL}
-use Rattle.report_text.specs.Message.{MessageValue, Relabel, Customized, Conflict, NoDefault, Skipped, Absent, NoMatches, Found, Verified, Differs, NoRecord}
+use Rattle.report_text.specs.declared.words.TheConstants.{AND, CLOSE, COMMA, CONFLICTING, FROM}
+use Rattle.report_text.specs.declared.words.TheConstants.{FULL_STOP, HAS_CONTEXT, HAS_NO_RECORD}
+use Rattle.report_text.specs.declared.words.TheConstants.{LINE_FEED, NO_DEFAULT, NO_LABEL}
+use Rattle.report_text.specs.declared.words.TheConstants.{NO_MATCHES, NO_RECORD_FOR, NOT_RESET}
+use Rattle.report_text.specs.declared.words.TheConstants.{RELABELED, SHOULD_BE, SKIPPING, TAB, TO}
+use Rattle.report_text.specs.declared.words.TheConstants.{USING, VERIFIED, WOULD_RELABEL}
+use Rattle.report_text.specs.Message.{MessageValue, Relabel, Customized, Conflict, NoDefault}
+use Rattle.report_text.specs.Message.{Skipped, Absent, NoMatches, Found, Verified, Differs}
+use Rattle.report_text.specs.Message.{NoRecord}
 
 -- a context in its spelling, another label escaped
 abbrev pub label_text : Label → List ℕ
@@ -26,9 +33,9 @@ given_text (Some context) = context_text context
 abbrev pub shown_path : Path → List ℕ
 shown_path path = escaped (path_text path)
 
-abbrev pub relabel_words : Bool → List ℕ
-relabel_words true = WOULD_RELABEL.now
-relabel_words false = RELABELED.now
+abbrev pub relabelled_words : Bool → List ℕ
+relabelled_words true = WOULD_RELABEL.now
+relabelled_words false = RELABELED.now
 
 -- the type field of a specification, where it has one, and a comma
 abbrev pub kind_words : Option EntryKind → List ℕ
@@ -43,7 +50,7 @@ found_words path false = shown_path path ++ TAB.now
 -- what a message says
 abbrev pub message_text : MessageValue → List ℕ
 message_text (Relabel path was becomes dry) =
-    relabel_words dry ++ shown_path path ++ FROM.now ++ label_text was ++ TO.now
+    relabelled_words dry ++ shown_path path ++ FROM.now ++ label_text was ++ TO.now
     ++ context_text becomes
 message_text (Customized path label) = shown_path path ++ NOT_RESET.now ++ context_text label
 message_text (Conflict first second used) =
@@ -61,9 +68,9 @@ message_text (Differs path has wants) =
 message_text (NoRecord path) = shown_path path ++ HAS_NO_RECORD.now
 
 -- the line of a message, with its line feed
-abbrev pub line_of : MessageValue → List ℕ
-line_of message = message_text message ++ LINE_FEED.now
+abbrev pub message_line : MessageValue → List ℕ
+message_line message = message_text message ++ LINE_FEED.now
 
 -- the lines of all messages
 unfoldable pub report_of : List MessageValue → List ℕ
-report_of messages = flat_map line_of messages
+report_of messages = flat_map message_line messages

@@ -1,4 +1,5 @@
-//! The messages of a run and the lines of its report, in the words of setfiles(8), restorecon(8) and matchpathcon(8).
+//! The messages of a run and the lines of its report, in the words of setfiles(8), restorecon(8)
+//! and matchpathcon(8).
 #![tactic(auto)]
 
 mod laws;

@@ -4,7 +4,7 @@ ghost use Rattle.file_paths.specs.PathRef.{path_of};
 ghost use Rattle.context_syntax.specs.ContextRef.{context_lent};
 ghost use Rattle.report_text.specs.Message.{message_of};
 ghost use Rattle.report_text.specs.Message as value;
-ghost use Rattle.report_text.specs.Texts.{line_of, message_text, report_of, shown_path};
+ghost use Rattle.report_text.specs.Texts.{message_line, message_text, report_of, shown_path};
 
 use crate::message::Message;
 use crate::words::*;
@@ -181,9 +181,10 @@ fn add_message(alloc: Global, message: &Message<'_>, text: &mut Bytes) -> Result
     }
 }
 
-/// Adds the line of a message at the end. Where memory runs out, a front of the line may have been added.
+/// Adds the line of a message at the end. Where memory runs out, a front of the line may have been
+/// added.
 pub fn add_line(alloc: Global, message: &Message<'_>, text: &mut Bytes) -> Result<(), OutOfMemory>
-    ensures { OnOk result (text.new ≡ text.old ++ line_of (message_of message.now)) }
+    ensures { OnOk result (text.new ≡ text.old ++ message_line (message_of message.now)) }
 {
     add_message(alloc, message, text)?;
     add(LINE_FEED, text)
@@ -191,7 +192,7 @@ pub fn add_line(alloc: Global, message: &Message<'_>, text: &mut Bytes) -> Resul
 
 /// Adds the line of a message at the end. Where memory runs out, nothing is added.
 pub fn line(alloc: Global, message: &Message<'_>, to: &mut Bytes) -> Result<(), OutOfMemory>
-    ensures ok { OnOk result (to.new ≡ to.old ++ line_of (message_of message.now)) }
+    ensures ok { OnOk result (to.new ≡ to.old ++ message_line (message_of message.now)) }
     ensures err { OnErr result (to.new ≡ to.old) }
 {
     let mut text = Bytes::new(alloc);

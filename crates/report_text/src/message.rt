@@ -29,7 +29,8 @@ pub enum Message<'a> {
     NoDefault {
         path: PathRef<'a>,
     },
-    /// The directory is skipped with all that lies below it, since its stored digest is the one that it has.
+    /// The directory is skipped with all that lies below it, since its stored digest is the one
+    /// that it has.
     Skipped {
         path: PathRef<'a>,
     },

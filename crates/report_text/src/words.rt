@@ -2,7 +2,8 @@ ghost use Rattle.std.specs.Prelude.{◌≡◌, ◌++◌, OnOk};
 ghost use Rattle.std.specs.Option.{option_copied};
 ghost use Rattle.file_paths.specs.PathRef.{path_of};
 ghost use Rattle.context_syntax.specs.Context.{context_text};
-ghost use Rattle.report_text.specs.Texts.{found_words, given_text, kind_words, label_text, relabel_words, shown_path};
+ghost use Rattle.report_text.specs.Texts.{found_words, given_text, kind_words, label_text};
+ghost use Rattle.report_text.specs.Texts.{relabelled_words, shown_path};
 
 use context_syntax::{Context, ContextRef, Label};
 use file_paths::PathRef;
@@ -99,7 +100,7 @@ pub(crate) fn add_given(given: Option<&Context>, text: &mut Bytes) -> Result<(),
 }
 
 pub(crate) fn relabel_words(dry: bool) -> &'static str
-    ensures { result.now ≡ relabel_words dry }
+    ensures { result.now ≡ relabelled_words dry }
 {
     if dry { WOULD_RELABEL } else { RELABELED }
 }

@@ -14,11 +14,11 @@ use Rattle.run_endings.specs.declared.ending.Saved.{Saved}
 use Rattle.run_endings.specs.declared.ending.Ending.{Ending}
 
 -- the cause of a run that ends so
-abbrev pub cause_of : End → Cause
-cause_of Done = causes.Done
-cause_of (WalkErrors count) = causes.WalkErrors count
-cause_of (Differs count) = causes.Differs count
-cause_of (Denied finding) = causes.Denied finding
+abbrev pub ending_cause : End → Cause
+ending_cause Done = causes.Done
+ending_cause (WalkErrors count) = causes.WalkErrors count
+ending_cause (Differs count) = causes.Differs count
+ending_cause (Denied finding) = causes.Denied finding
 
 -- all of a text was written, and the sink didn't fail
 abbrev pub WritesAll : {O : Type 0} → (O → Option (List ℕ)) → (O → ℕ) → O → O → List ℕ → Type 0
@@ -41,17 +41,17 @@ abbrev pub writes_of : {A : Type 0} → Option A → ℕ
 writes_of None = 0
 writes_of (Some saved) = 1
 
--- the write of a file: it was saved, or the write failed, or found no memory; without a file nothing
--- is written
+-- the write of a file: it was saved, or the write failed, or found no memory; without a file
+-- nothing is written
 abbrev pub Saves : Option Files → Option Files → Option Saved → Result (Unit {0}) SaveFault → Type 0
 Saves old new None (Ok done) = new ≡ old
 Saves old new None (Err fault) = ⊥
 Saves old new (Some saved) result = SaveTold old new saved.name saved.text result
 
--- a write of the report: it was written whole and the cause is its own, or a front of it was where the
--- sink failed
+-- a write of the report: it was written whole and the cause is its own, or a front of it was where
+-- the sink failed
 abbrev pub WritesReport : {O : Type 0}
     → (O → Option (List ℕ)) → (O → ℕ) → O → O → Ending → Cause → Type 0
 WritesReport written faults old new ending cause =
-    (cause ≡ cause_of ending.end) × WritesAll written faults old new ending.report
+    (cause ≡ ending_cause ending.end) × WritesAll written faults old new ending.report
     ⊎ (cause ≡ WriteFault) × WritesFront written faults old new ending.report

@@ -1,6 +1,6 @@
 ghost use Rattle.std.specs.Prelude.{◌≡◌, ◌⊎◌, [], List};
 ghost use Rattle.run_faults.specs.Causes.{words_cause};
-ghost use Rattle.run_endings.specs.Endings.{LineOrFront, WritesReport, cause_of};
+ghost use Rattle.run_endings.specs.Endings.{LineOrFront, WritesReport, ending_cause};
 ghost use Rattle.run_faults.specs.Faults.{fault_line, status_of};
 ghost use Rattle.run_faults.specs.declared.cause.Cause.TheVariants as causes;
 ghost use Rattle.file_roles.specs.declared.list.NamedFile.{NamedFile};
@@ -25,8 +25,8 @@ fn write_line<O: Sink>(out: &mut O, line: &[u8])
     let _ = write_all(out, line);
 }
 
-/// Ends a run for want of memory, with its fault line. It takes none itself; where the sink fails, a
-/// front of the line is there.
+/// Ends a run for want of memory, with its fault line. It takes none itself; where the sink fails,
+/// a front of the line is there.
 pub fn give_up<O: Sink>(out: &mut O) -> Cause
     ensures cause { result ≡ causes.OutOfMemory }
     ensures line { (files : List NamedFile)
@@ -77,8 +77,8 @@ fn words_cause(fault: Fault<Usage>) -> Cause
     }
 }
 
-/// Ends a run whose words are wrong, or found no memory, with its fault line; no file is known then.
-/// Where there is no memory for the line, that is the cause.
+/// Ends a run whose words are wrong, or found no memory, with its fault line; no file is known
+/// then. Where there is no memory for the line, that is the cause.
 pub fn refuse_words<O: Sink>(alloc: Global, fault: Fault<Usage>, out: &mut O) -> Cause
     ensures cause { (result ≡ words_cause fault) ⊎ (result ≡ causes.OutOfMemory) }
     ensures line { LineOrFront O.written O.faults out.old out.new (fault_line [] result) }
@@ -87,7 +87,7 @@ pub fn refuse_words<O: Sink>(alloc: Global, fault: Fault<Usage>, out: &mut O) ->
 }
 
 fn cause_of(end: End) -> Cause
-    ensures { result ≡ cause_of end }
+    ensures { result ≡ ending_cause end }
 {
     match end {
         End::Done => Cause::Done,
@@ -97,8 +97,8 @@ fn cause_of(end: End) -> Cause
     }
 }
 
-/// Writes the report, and ends a run as its ending says; where the sink fails, by that, with a front
-/// of the report written.
+/// Writes the report, and ends a run as its ending says; where the sink fails, by that, with a
+/// front of the report written.
 pub fn finish<O: Sink>(ending: &Ending, out: &mut O) -> Cause
     ensures { WritesReport O.written O.faults out.old out.new ending.now result }
 {

@@ -6,8 +6,8 @@ use crate::ending::Ending;
 use input_output::{SaveFault, Store};
 use std::alloc::Global;
 
-/// Writes the text of an ending to its file, where it has one. It fails where the store does, and for
-/// want of memory; without a file nothing is written and it never fails.
+/// Writes the text of an ending to its file, where it has one. It fails where the store does, and
+/// for want of memory; without a file nothing is written and it never fails.
 pub fn save<S: Store>(alloc: Global, ending: &Ending, store: &mut S) -> Result<(), SaveFault>
     ensures files { Saves (S.files store.old) (S.files store.new) ending.now.saved result }
     ensures counts { SaveCounts (S.write_faults store.old) (S.write_faults store.new) result }

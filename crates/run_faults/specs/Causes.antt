@@ -5,7 +5,13 @@ use Rattle.label_base.specs.declared.fault.Fault.{Fault}
 use Rattle.label_base.specs.declared.fault.Fault.TheVariants as faults
 use Rattle.tool_words.specs.declared.usage.Usage as wrong_word
 use Rattle.run_faults.specs.declared.cause.Cause.{Cause}
-use Rattle.run_faults.specs.declared.cause.Cause.TheVariants.{Done, Usage, Missing, SpecRefused, SubRefused, CustomRefused, DumpRefused, TemplateRefused, UsersRefused, RecordRefused, Unended, Doubled, Limit, WalkErrors, Differs, Denied, ReadFault, WriteFault, OutOfMemory}
+use Rattle.run_faults.specs.declared.cause.Cause.TheVariants.{Done, Usage, Missing, SpecRefused}
+use Rattle.run_faults.specs.declared.cause.Cause.TheVariants.{SubRefused, CustomRefused}
+use Rattle.run_faults.specs.declared.cause.Cause.TheVariants.{DumpRefused, TemplateRefused}
+use Rattle.run_faults.specs.declared.cause.Cause.TheVariants.{UsersRefused, RecordRefused, Unended}
+use Rattle.run_faults.specs.declared.cause.Cause.TheVariants.{Doubled, Limit, WalkErrors, Differs}
+use Rattle.run_faults.specs.declared.cause.Cause.TheVariants.{Denied, ReadFault, WriteFault}
+use Rattle.run_faults.specs.declared.cause.Cause.TheVariants.{OutOfMemory}
 use Rattle.run_faults.specs.declared.cause.LimitKind.{LimitKind}
 use Rattle.run_faults.specs.declared.cause.LimitKind.TheVariants.{File, Specs, Records, RecordBytes}
 

@@ -3,21 +3,30 @@ use Rattle.std.specs.Prelude.{ℕ, Bool, List, [], ◌++◌, if◌then◌else◌
 use Rattle.std.specs.Fmt.{decimal}
 use Rattle.label_base.specs.Escape.{escaped}
 use Rattle.file_paths.specs.declared.path_fault.PathWhy.{PathWhy}
-use Rattle.file_paths.specs.declared.path_fault.PathWhy.TheVariants.{Empty, PathTooLong, HasNul, NotAbsolute, DotPart}
+use Rattle.file_paths.specs.declared.path_fault.PathWhy.TheVariants.{Empty, PathTooLong, HasNul}
+use Rattle.file_paths.specs.declared.path_fault.PathWhy.TheVariants.{NotAbsolute, DotPart}
 use Rattle.find_records.specs.declared.fault.RecordWhy.{RecordWhy}
 use Rattle.find_records.specs.declared.fault.RecordWhy.TheVariants as records
 use Rattle.file_roles.specs.declared.role.Part.TheVariants.{Customizable, Kept, Template, Users}
 use Rattle.pattern_syntax.specs.declared.pattern_fault.PatternWhy.{PatternWhy}
 use Rattle.pattern_syntax.specs.declared.pattern_fault.PatternWhy.TheVariants as pattern
 use Rattle.spec_reader.specs.declared.spec_fault.SpecWhy.{SpecWhy}
-use Rattle.spec_reader.specs.declared.spec_fault.SpecWhy.TheVariants.{MissingContext, BadKind, BadContext, BadPattern}
+use Rattle.spec_reader.specs.declared.spec_fault.SpecWhy.TheVariants.{MissingContext, BadKind}
+use Rattle.spec_reader.specs.declared.spec_fault.SpecWhy.TheVariants.{BadContext, BadPattern}
 use Rattle.setfattr_dump.specs.declared.fault.DumpWhy.{DumpWhy}
-use Rattle.setfattr_dump.specs.declared.fault.DumpWhy.TheVariants.{NoSection, BadName, NoValue, BadValue}
+use Rattle.setfattr_dump.specs.declared.fault.DumpWhy.TheVariants.{NoSection, BadName, NoValue}
+use Rattle.setfattr_dump.specs.declared.fault.DumpWhy.TheVariants.{BadValue}
 use Rattle.tool_words.specs.declared.usage.UsageWhy.{UsageWhy}
 use Rattle.tool_words.specs.declared.usage.UsageWhy.TheVariants as usage
-use Rattle.file_roles.specs.Roles.{first_name, role}
+use Rattle.file_roles.specs.Roles.{role_name, role}
 use Rattle.run_faults.specs.declared.cause.Cause.{Cause}
-use Rattle.run_faults.specs.declared.cause.Cause.TheVariants.{Done, Usage, Missing, SpecRefused, SubRefused, CustomRefused, DumpRefused, TemplateRefused, UsersRefused, RecordRefused, Unended, Doubled, Limit, WalkErrors, Differs, Denied, ReadFault, WriteFault, OutOfMemory}
+use Rattle.run_faults.specs.declared.cause.Cause.TheVariants.{Done, Usage, Missing, SpecRefused}
+use Rattle.run_faults.specs.declared.cause.Cause.TheVariants.{SubRefused, CustomRefused}
+use Rattle.run_faults.specs.declared.cause.Cause.TheVariants.{DumpRefused, TemplateRefused}
+use Rattle.run_faults.specs.declared.cause.Cause.TheVariants.{UsersRefused, RecordRefused, Unended}
+use Rattle.run_faults.specs.declared.cause.Cause.TheVariants.{Doubled, Limit, WalkErrors, Differs}
+use Rattle.run_faults.specs.declared.cause.Cause.TheVariants.{Denied, ReadFault, WriteFault}
+use Rattle.run_faults.specs.declared.cause.Cause.TheVariants.{OutOfMemory}
 use Rattle.run_faults.specs.declared.cause.LimitKind.{LimitKind}
 use Rattle.run_faults.specs.declared.cause.LimitKind.TheVariants.{File, Specs, Records, RecordBytes}
 use Rattle.file_roles.specs.declared.list.NamedFile.{NamedFile}
@@ -77,7 +86,7 @@ record_reason records.BadNumber = texts.BAD_NUMBER.now
 record_reason (records.BadPath why) = path_reason why
 
 abbrev pub limit_text : List NamedFile → LimitKind → List ℕ
-limit_text files (File of) = texts.LIMIT_BYTES.now ++ escaped (first_name files of)
+limit_text files (File of) = texts.LIMIT_BYTES.now ++ escaped (role_name files of)
 limit_text files Specs = texts.LIMIT_SPECS.now
 limit_text files Records = texts.LIMIT_RECORDS.now
 limit_text files RecordBytes = texts.LIMIT_RECORD_BYTES.now
@@ -93,17 +102,17 @@ reason_text files (Usage index why) =
     texts.USAGE_WORD.now ++ decimal index ++ texts.COLON.now ++ usage_reason why
 reason_text files (Missing name) = escaped name ++ texts.NOT_FOUND.now
 reason_text files (SpecRefused of line why) =
-    place_text (first_name files of) line ++ texts.COLON.now ++ spec_reason why
+    place_text (role_name files of) line ++ texts.COLON.now ++ spec_reason why
 reason_text files (SubRefused of line) =
-    place_text (first_name files of) line ++ texts.NOT_A_SUBSTITUTION.now
+    place_text (role_name files of) line ++ texts.NOT_A_SUBSTITUTION.now
 reason_text files (CustomRefused line) =
-    place_text (first_name files (role Customizable 0)) line ++ texts.NOT_A_TYPE.now
+    place_text (role_name files (role Customizable 0)) line ++ texts.NOT_A_TYPE.now
 reason_text files (DumpRefused line why) =
-    place_text (first_name files (role Kept 0)) line ++ texts.COLON.now ++ dump_reason why
+    place_text (role_name files (role Kept 0)) line ++ texts.COLON.now ++ dump_reason why
 reason_text files (TemplateRefused line why) =
-    place_text (first_name files (role Template 0)) line ++ texts.COLON.now ++ spec_reason why
+    place_text (role_name files (role Template 0)) line ++ texts.COLON.now ++ spec_reason why
 reason_text files (UsersRefused line) =
-    place_text (first_name files (role Users 0)) line ++ texts.NOT_A_USER.now
+    place_text (role_name files (role Users 0)) line ++ texts.NOT_A_USER.now
 reason_text files (RecordRefused number why) =
     texts.RECORD.now ++ decimal number ++ texts.COLON.now ++ record_reason why
 reason_text files (Unended number) = texts.RECORD.now ++ decimal number ++ texts.NOT_ENDED.now

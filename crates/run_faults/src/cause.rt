@@ -94,8 +94,8 @@ pub enum Cause {
     Differs {
         count: u32,
     },
-    /// The report was written, and what was audited differs from what it should be: this finding isn't
-    /// [`Finding::Agrees`].
+    /// The report was written, and what was audited differs from what it should be: this finding
+    /// isn't [`Finding::Agrees`].
     Denied {
         finding: Finding,
     },

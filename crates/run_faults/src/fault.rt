@@ -1,7 +1,9 @@
 ghost use Rattle.std.specs.Prelude.{◌≡◌, ◌++◌, OnOk, IfOk, if◌then◌else◌};
 ghost use Rattle.std.specs.Fmt.{decimal};
 ghost use Rattle.label_base.specs.Escape.{escaped};
-ghost use Rattle.run_faults.specs.Faults.{dump_reason, fault_line, limit_text, path_reason, pattern_reason, place_text, record_reason, reason_text, spec_reason, status_of, usage_reason};
+ghost use Rattle.run_faults.specs.Faults.{dump_reason, fault_line, limit_text, path_reason};
+ghost use Rattle.run_faults.specs.Faults.{pattern_reason, place_text, record_reason, reason_text};
+ghost use Rattle.run_faults.specs.Faults.{spec_reason, status_of, usage_reason};
 
 use crate::cause::{Cause, LimitKind};
 use file_paths::PathWhy;

@@ -11,7 +11,8 @@ pub enum Piece {
     End,
 }
 
-/// What an audit finds: whether a report, and a dump, are the right ones, or the first piece that isn't.
+/// What an audit finds: whether a report, and a dump, are the right ones, or the first piece that
+/// isn't.
 #[derive(Clone, Copy, Debug)]
 pub enum Finding {
     /// They are.

@@ -1,12 +1,14 @@
 -- The bytes of a file by its role, and what reading files leaves.
-use Rattle.std.specs.Prelude.{◌≡◌, ℕ, ◌+◌, ◌≤◌, nat_lt, List, [], length, Option, Some, None, Result, Ok, Err, IfErr, IfSome, if◌then◌else◌}
+use Rattle.std.specs.Prelude.{◌≡◌, ℕ, ◌+◌, ◌≤◌, nat_lt, List, [], length, Option, Some, None}
+use Rattle.std.specs.Prelude.{Result, Ok, Err, IfErr, IfSome, if◌then◌else◌}
 use Rattle.input_output.specs.Store.{Calls, Files, content}
-use Rattle.file_roles.specs.Roles.{first_name, may_be_absent, most_bytes}
+use Rattle.file_roles.specs.Roles.{role_name, may_be_absent, most_bytes}
 use Rattle.file_roles.specs.declared.list.NamedFile.{NamedFile}
 use Rattle.file_roles.specs.declared.role.FileRole.{FileRole}
 use Rattle.run_faults.specs.Causes.{Counts, Gives, IsFileCause, and_then}
 use Rattle.run_faults.specs.declared.cause.Cause.{Cause}
-use Rattle.run_faults.specs.declared.cause.Cause.TheVariants.{Missing, Limit, OutOfMemory, ReadFault}
+use Rattle.run_faults.specs.declared.cause.Cause.TheVariants.{Missing, Limit, OutOfMemory}
+use Rattle.run_faults.specs.declared.cause.Cause.TheVariants.{ReadFault}
 use Rattle.run_faults.specs.declared.cause.LimitKind.TheVariants.{File}
 
 -- what files say, or the first refusal among them, and how many are opened up to there
@@ -41,9 +43,9 @@ CauseOpens old now opened ReadFault = CallsUpTo old now opened
 CauseOpens old now opened OutOfMemory = CallsUpTo old now opened
 CauseOpens old now opened cause = Calls old now opened
 
-abbrev pub Opens : {V : Type 0} → Option ℕ → Option ℕ → (opened : ℕ) → Result V Cause → Type 0
-Opens old now opened (Ok value) = Calls old now opened
-Opens old now opened (Err cause) = CauseOpens old now opened cause
+abbrev pub OpensFile : {V : Type 0} → Option ℕ → Option ℕ → (opened : ℕ) → Result V Cause → Type 0
+OpensFile old now opened (Ok value) = Calls old now opened
+OpensFile old now opened (Err cause) = CauseOpens old now opened cause
 
 -- what is left by reading files, and what it answers
 pub record Reads {S V : Type 0} (files : S → Option Files) (calls : S → Option ℕ)
@@ -53,23 +55,23 @@ pub record Reads {S V : Type 0} (files : S → Option Files) (calls : S → Opti
   pub unwritten : write_faults store_now ≡ write_faults store
   pub gives : IfSome (files store) (λ known. Gives (meant known).says result)
   pub opens : IfSome (files store) (λ known.
-      Opens (calls store) (calls store_now) (meant known).opened result)
+      OpensFile (calls store) (calls store_now) (meant known).opened result)
   pub counts : Counts (read_faults store) (read_faults store_now) result
   pub kinds : IfErr result IsFileCause
 
 -- a file that is absent
 abbrev pub absent : List NamedFile → FileRole → Result (List ℕ) Cause
 absent files role =
-    if may_be_absent role.part then Ok [] else Err (Missing (first_name files role))
+    if may_be_absent role.part then Ok [] else Err (Missing (role_name files role))
 
-abbrev pub bytes_from : List NamedFile → FileRole → Option (List ℕ) → Result (List ℕ) Cause
-bytes_from files role None = absent files role
-bytes_from files role (Some bytes) =
+abbrev pub file_bytes : List NamedFile → FileRole → Option (List ℕ) → Result (List ℕ) Cause
+file_bytes files role None = absent files role
+file_bytes files role (Some bytes) =
     if nat_lt (most_bytes role.part) (length bytes) then Err (Limit (File role)) else Ok bytes
 
 -- the bytes of a file
 unfoldable pub part_bytes : List NamedFile → FileRole → Files → Result (List ℕ) Cause
-part_bytes files role known = bytes_from files role (content known (first_name files role))
+part_bytes files role known = file_bytes files role (content known (role_name files role))
 
 -- the same, as one file that is opened
 abbrev pub part_says : List NamedFile → FileRole → Files → FilesSay (List ℕ)

@@ -1,5 +1,5 @@
-//! What a run reads: a file by its role, at most so many bytes as it may have, and the input, as the
-//! tree of its records.
+//! What a run reads: a file by its role, at most so many bytes as it may have, and the input, as
+//! the tree of its records.
 #![tactic(auto)]
 
 mod files;

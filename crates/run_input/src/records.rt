@@ -1,9 +1,11 @@
-ghost use Rattle.std.specs.Prelude.{◌≡◌, ℕ, ◌≤◌, ◌<◌, ◌-◌, ◌^◌, [], Ok, None, Some, IsSome, IfOk, IfErr, IfSome, OnOk, length};
-ghost use Rattle.find_records.specs.Record.{AreOf};
+ghost use Rattle.std.specs.Prelude.{◌≡◌, ℕ, ◌≤◌, ◌<◌, ◌-◌, ◌^◌, [], Ok, None, Some, IsSome, IfOk};
+ghost use Rattle.std.specs.Prelude.{IfErr, IfSome, OnOk, length};
+ghost use Rattle.find_records.specs.Record.{AreOfFormat};
 ghost use Rattle.find_records.specs.declared.format.Format.{Format};
 ghost use Rattle.run_faults.specs.Causes.{Counts, Gives, IsInputCause};
 ghost use Rattle.tree_model.specs.Entries.{tree_of};
-ghost use Rattle.run_input.specs.Records.{AreTaken, entries_for, entries_from, entries_of, input_for, records_refusal};
+ghost use Rattle.run_input.specs.Records.{AreTaken, entries_for, records_or_cause, records_read};
+ghost use Rattle.run_input.specs.Records.{input_for, records_refusal};
 
 use find_records::{Format, RecordLimits, Records, RecordsFault, read_records};
 use input_output::Source;
@@ -19,12 +21,12 @@ pub const MOST_RECORD_BYTES: u64 = 536_870_912;
 #[tactic(auto, using(crate::proofs::EntryCounts::tree_few))]
 fn tree_from(alloc: Global, records: Records) -> Result<Tree, Cause>
     requires { length records < 2 ^ 32 }
-    ensures answer { Gives (entries_from (tree_of records)) result }
+    ensures answer { Gives (records_or_cause (tree_of records)) result }
     ensures counts { (count : ℕ) → Counts count count result }
     ensures kinds { IfErr result IsInputCause }
     ensures few { IfOk result (λ tree. length tree ≤ length records) }
-    ensures of_format { IfOk result (λ tree. (format : Format) → AreOf format records
-        → AreOf format tree) }
+    ensures of_format { IfOk result (λ tree. (format : Format) → AreOfFormat format records
+        → AreOfFormat format tree) }
 {
     match Tree::new(alloc, records) {
         Ok(tree) => Ok(tree),
@@ -68,12 +70,12 @@ fn no_entries(alloc: Global) -> Result<Tree, Cause>
 /// two of one path.
 #[tactic(auto, unfolding(crate::specs::Records::entries_of))]
 pub fn read_tree<I: Source>(alloc: Global, format: Format, input: &mut I) -> Result<Tree, Cause>
-    ensures answer { IfSome (I.left input.old) (λ bytes. Gives (entries_of format bytes) result) }
+    ensures answer { IfSome (I.left input.old) (λ bytes. Gives (records_read format bytes) result) }
     ensures ended { OnOk result (IfSome (I.left input.old) (λ bytes. I.left input.new ≡ Some [])) }
     ensures counts { Counts (I.faults input.old) (I.faults input.new) result }
     ensures kinds { IfErr result IsInputCause }
     ensures few { IfOk result (λ tree. length tree ≤ MOST_RECORDS) }
-    ensures of_format { IfOk result (λ tree. AreOf format tree) }
+    ensures of_format { IfOk result (λ tree. AreOfFormat format tree) }
 {
     let limits = RecordLimits {
         records: MOST_RECORDS,
@@ -85,8 +87,8 @@ pub fn read_tree<I: Source>(alloc: Global, format: Format, input: &mut I) -> Res
     }
 }
 
-/// Reads the records of a tool that takes those of a format, as a tree. One that takes none leaves the
-/// input alone, and has the tree of no records.
+/// Reads the records of a tool that takes those of a format, as a tree. One that takes none leaves
+/// the input alone, and has the tree of no records.
 ///
 /// The error is a failed read, a limit that is passed, the first record that is none, or the first
 /// two of one path.

@@ -1,5 +1,6 @@
 -- A sample refuses nothing.
-use Rattle.std.proofs.Common.{◌≡◌, ◌∙◌, ap, refl, subst, ℕ, ◌+◌, ◌≤◌, Bool, true, false, cond, List, length, arith}
+use Rattle.std.proofs.Common.{◌≡◌, ◌∙◌, ap, refl, subst, ℕ, ◌+◌, ◌≤◌, Bool, true, false, cond, List}
+use Rattle.std.proofs.Common.{length, arith}
 use Rattle.std.specs.Prelude.{Option, Some, None, Result, Ok, Err, nat_le}
 use Rattle.std.specs.Option.{option_and_then, unwrap_or}
 use Rattle.std.proofs.lemmas.Bool.Decides.{nat_tests}
@@ -19,7 +20,8 @@ use Rattle.tool_runs.specs.Plan.{answer_by, refusal_in}
 use Rattle.sample_tree.specs.Accepted.{IsAlwaysDone}
 use Rattle.sample_tree.specs.Plan.{answered_for, sample_plan}
 use Rattle.sample_tree.specs.Walks.{sample_ending}
-use Rattle.sample_tree.specs.Words.{asked_by, asked_of, end_wrong, sample, sample_words}
+use Rattle.sample_tree.specs.Words.{sample_words_by, sample_words_of, sample_end_wrong, sample}
+use Rattle.sample_tree.specs.Words.{sample_words}
 use Rattle.sample_tree.specs.declared.words.SampleWords.{SampleWords}
 use Rattle.sample_tree.specs.declared.words.TheConstants.{COUNT, MOST_FILES}
 use Rattle.sample_tree.proofs.EntryLemmas.{sample_accepted}
@@ -36,25 +38,31 @@ few_up_to : (most : ℕ) (found : Option ℕ) → unwrap_or (up_to most found) 0
 few_up_to most None = omega arith
 few_up_to most (Some n) = few_by most n (nat_le n most) refl
 
-few_named : (most : ℕ) (text : Option (List ℕ)) → unwrap_or (option_and_then (number_named most) text) 0 ≤ most
+few_named : (most : ℕ) (text : Option (List ℕ))
+    → unwrap_or (option_and_then (number_named most) text) 0 ≤ most
 few_named most None = omega arith
 few_named most (Some text) = few_up_to most _
 
-few_asked : (items : List Item) → (asked_by items).count ≤ MOST_FILES
+few_asked : (items : List Item) → (sample_words_by items).count ≤ MOST_FILES
 few_asked items = few_named MOST_FILES (value_of COUNT items)
 
-few_unless : (wrong : Option Usage) (items : List Item) (asked : SampleWords) → unless_wrong wrong (asked_by items) ≡ Ok asked → asked.count ≤ MOST_FILES
+few_unless : (wrong : Option Usage) (items : List Item) (asked : SampleWords)
+    → unless_wrong wrong (sample_words_by items) ≡ Ok asked → asked.count ≤ MOST_FILES
 few_unless None items asked e =
-    let same : asked_by items ≡ asked = cc in subst (λ (a : SampleWords). a.count ≤ MOST_FILES) same (few_asked items)
+    let same : sample_words_by items ≡ asked = cc in
+    subst (λ (a : SampleWords). a.count ≤ MOST_FILES) same (few_asked items)
 few_unless (Some wrong) items asked e = cc
 
-few_of : (count : ℕ) (items : Result (List Item) Usage) (asked : SampleWords) → asked_of count items ≡ Ok asked → asked.count ≤ MOST_FILES
-few_of count (Ok items) asked e = few_unless (end_wrong items count) items asked e
+few_of : (count : ℕ) (items : Result (List Item) Usage) (asked : SampleWords)
+    → sample_words_of count items ≡ Ok asked → asked.count ≤ MOST_FILES
+few_of count (Ok items) asked e = few_unless (sample_end_wrong items count) items asked e
 few_of count (Err wrong) asked e = cc
 
 -- words ask for no more files than a sample may have
-pub few_in_words : (first : ℕ) (words : List (List ℕ)) (asked : SampleWords) → sample_words first words ≡ Ok asked → asked.count ≤ MOST_FILES
-few_in_words first words asked e = few_of (length words + first) (items_read sample first words) asked e
+pub few_in_words : (first : ℕ) (words : List (List ℕ)) (asked : SampleWords)
+    → sample_words first words ≡ Ok asked → asked.count ≤ MOST_FILES
+few_in_words first words asked e = few_of (length words + first) (items_read sample first words)
+    asked e
 
 -- ---- what is answered
 
@@ -62,22 +70,33 @@ few_in_words first words asked e = few_of (length words + first) (items_read sam
 ending_for : ℕ → Ending
 ending_for count = sample_ending sample_rules (tree.entries_of (sampled count))
 
-answered : (count : ℕ) → count ≤ MOST_FILES → answered_for sample_rules count ≡ Ok (ending_for count)
+answered : (count : ℕ) → count ≤ MOST_FILES → answered_for sample_rules count
+    ≡ Ok (ending_for count)
 unfolding answered_for ending_for
-answered count few = ap (λ entries. and_then entries (λ (found : List Record). Ok (sample_ending sample_rules found))) (sample_accepted count few)
+answered count few =
+    ap (λ entries. and_then entries
+    (λ (found : List Record). Ok (sample_ending sample_rules found))) (sample_accepted count few)
 
 is_done : (count : ℕ) → (ending_for count).end ≡ Done
 unfolding ending_for sample_ending
 is_done count = refl
 
-answer_is : (words : SampleWords) (known : Files) (input : List ℕ) → words.count ≤ MOST_FILES → (sample_plan words).answer known input ≡ Ok (ending_for words.count)
+answer_is : (words : SampleWords) (known : Files) (input : List ℕ) → words.count ≤ MOST_FILES
+    → (sample_plan words).answer known input ≡ Ok (ending_for words.count)
 unfolding answer_by entries_for
 answer_is words known input few =
-    ap (λ rules. and_then rules (λ (found : Rules). answered_for found words.count)) own_say ∙ answered words.count few
+    ap (λ rules. and_then rules (λ (found : Rules). answered_for found words.count)) own_say
+    ∙ answered words.count few
 
 -- a sample's files and records are always accepted
-pub always_done : (words : SampleWords) → words.count ≤ MOST_FILES → IsAlwaysDone (sample_plan words)
+pub always_done : (words : SampleWords) → words.count ≤ MOST_FILES
+    → IsAlwaysDone (sample_plan words)
 always_done words few = record {
   accepts = λ known. ap refusal_in own_say;
-  answers = λ known input. (ending_for words.count, answer_is words known input few, is_done words.count);
+  answers = λ known input. (
+    ending_for words.count,
+    answer_is words known input few,
+    is_done
+        words.count,
+  );
 }

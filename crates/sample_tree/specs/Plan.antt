@@ -8,7 +8,7 @@ use Rattle.label_rules.specs.declared.rules.Rules.{Rules}
 use Rattle.run_faults.specs.Causes.{and_then}
 use Rattle.run_faults.specs.declared.cause.Cause.{Cause}
 use Rattle.run_input.specs.Files.{FilesSay, just}
-use Rattle.run_input.specs.Records.{entries_of}
+use Rattle.run_input.specs.Records.{records_read}
 use Rattle.run_endings.specs.declared.ending.Ending.{Ending}
 use Rattle.policy_files.specs.Names.{policy_names, types_name}
 use Rattle.policy_files.specs.Rules.{rules_for}
@@ -29,7 +29,7 @@ own_names = policy_names 0 OWN_FILE.now ++ types_name ∷ []
 -- what is written of a sample of so many files, by its rules
 unfoldable pub answered_for : Rules → ℕ → Result Ending Cause
 answered_for rules count =
-    and_then (entries_of One (sample_records count)) (λ entries. Ok (sample_ending rules entries))
+    and_then (records_read One (sample_records count)) (λ entries. Ok (sample_ending rules entries))
 
 -- what its own file says, for which no file of the store is opened
 abbrev pub own_rules : FilesSay Rules

@@ -1,7 +1,10 @@
 -- The records of a sample, as find(1) prints them by '%y %D %i %Z %p\0'.
 use Rattle.std.specs.Prelude.{ℕ, zero, suc, ◌+◌, ◌/◌, ◌%◌, ◌==◌, min, List, [], ◌++◌, if◌then◌else◌}
 use Rattle.std.specs.Fmt.{decimal}
-use Rattle.sample_tree.specs.declared.records.TheConstants.{DIRECTORY, END, FILE, FIRST_DIRECTORY, FIRST_FILE, IN_DIRECTORY, IN_ROOT, LABELLED_A, LABELLED_B, MOST_DIRECTORIES, ROOT, UNLABELLED}
+use Rattle.sample_tree.specs.declared.records.TheConstants.{DIRECTORY, END, FILE, FIRST_DIRECTORY}
+use Rattle.sample_tree.specs.declared.records.TheConstants.{FIRST_FILE, IN_DIRECTORY, IN_ROOT}
+use Rattle.sample_tree.specs.declared.records.TheConstants.{LABELLED_A, LABELLED_B}
+use Rattle.sample_tree.specs.declared.records.TheConstants.{MOST_DIRECTORIES, ROOT, UNLABELLED}
 
 -- the texts of the numbers below n, one behind the other
 abbrev pub texts_below : (ℕ → List ℕ) → ℕ → List ℕ
@@ -13,7 +16,8 @@ unfoldable pub directory_text : ℕ → List ℕ
 directory_text k =
     DIRECTORY.now ++ decimal (FIRST_DIRECTORY + k) ++ IN_ROOT.now ++ decimal k ++ END.now
 
--- the label of a file, by its inode: of three inodes one has the one label, one the other and one none
+-- the label of a file, by its inode: of three inodes one has the one label, one the other and one
+-- none
 unfoldable pub file_front : ℕ → List ℕ
 file_front j =
     if j % 3 == 0 then LABELLED_A.now

@@ -2,7 +2,9 @@
 use Rattle.std.specs.Prelude.{ℕ, List, ◌++◌}
 use Rattle.std.specs.Fmt.{decimal}
 use Rattle.sample_tree.specs.declared.summary.Summary.{Summary}
-use Rattle.sample_tree.specs.declared.summary.TheConstants.{CONFLICTS, ENTRIES, ERRORS, LINE_END, RELABELLED, RELABELLED_AGAIN, SKIPPED_AGAIN}
+use Rattle.sample_tree.specs.declared.summary.TheConstants.{CONFLICTS, ENTRIES, ERRORS, LINE_END}
+use Rattle.sample_tree.specs.declared.summary.TheConstants.{RELABELLED, RELABELLED_AGAIN}
+use Rattle.sample_tree.specs.declared.summary.TheConstants.{SKIPPED_AGAIN}
 
 -- a number in decimal digits behind its name
 unfoldable pub number_line : List ℕ → ℕ → List ℕ

@@ -7,7 +7,8 @@ use Rattle.tree_model.specs.Groups.{groups_in}
 use Rattle.tree_model.specs.Labelled.{labelled}
 use Rattle.report_text.specs.Message.{MessageValue, Relabel, Conflict, Skipped}
 use Rattle.relabel_core.specs.Stored.{digests_listed, no_digests}
-use Rattle.relabel_core.specs.Walk.{StoredDigests, Walk, count, digests, errors, line, new_label, one_if}
+use Rattle.relabel_core.specs.Walk.{StoredDigests, Walk, walk_count, digests, errors, line}
+use Rattle.relabel_core.specs.Walk.{new_label, one_if}
 use Rattle.relabel_core.specs.Walked.{walk_for}
 use Rattle.sample_tree.specs.Choice.{sample_choice, sample_options}
 use Rattle.label_rules.specs.declared.rules.Rules.{Rules}
@@ -54,20 +55,20 @@ abbrev pub lines_below : LineKind → Walk → ℕ → ℕ
 lines_below kind w zero = 0
 lines_below kind w (suc n) = lines_below kind w n + one_if (has_line_of kind (line w n))
 
-unfoldable pub lines_of : LineKind → Walk → ℕ
-lines_of kind w = lines_below kind w (count w)
+unfoldable pub lines_of_kind : LineKind → Walk → ℕ
+lines_of_kind kind w = lines_below kind w (walk_count w)
 
 -- the walk over what the first one leaves
 abbrev pub second_walk : Rules → List Record → Walk
 second_walk rules entries = walk_after rules (first_walk rules entries)
 
--- of the first walk the entries, the lines of labels that change, those of conflicts, and the errors;
--- of the second the lines of directories that are skipped, and of labels that change
+-- of the first walk the entries, the lines of labels that change, those of conflicts, and the
+-- errors; of the second the lines of directories that are skipped, and of labels that change
 unfoldable pub summary_of : Walk → ℕ → ℕ → Summary
 summary_of first skipped_again relabelled_again = record {
-  entries = count first;
-  relabelled = lines_of kinds.Relabelled first;
-  conflicts = lines_of kinds.Conflicting first;
+  entries = walk_count first;
+  relabelled = lines_of_kind kinds.Relabelled first;
+  conflicts = lines_of_kind kinds.Conflicting first;
   errors = errors first;
   skipped_again = skipped_again;
   relabelled_again = relabelled_again;
@@ -76,8 +77,8 @@ summary_of first skipped_again relabelled_again = record {
 abbrev pub sample_summary : Rules → List Record → Summary
 sample_summary rules entries =
     summary_of (first_walk rules entries)
-    (lines_of kinds.Skipping (second_walk rules entries))
-    (lines_of kinds.Relabelled (second_walk rules entries))
+    (lines_of_kind kinds.Skipping (second_walk rules entries))
+    (lines_of_kind kinds.Relabelled (second_walk rules entries))
 
 -- what a sample writes, by the rules of its file and the entries of its tree
 unfoldable pub sample_ending : Rules → List Record → Ending

@@ -1,5 +1,6 @@
 -- What the words of sample ask for.
-use Rattle.std.specs.Prelude.{ℕ, ◌+◌, List, [], length, Option, Some, None, Result, Ok, Err, if◌then◌else◌}
+use Rattle.std.specs.Prelude.{ℕ, ◌+◌, List, [], length, Option, Some, None, Result, Ok, Err}
+use Rattle.std.specs.Prelude.{if◌then◌else◌}
 use Rattle.std.specs.Option.{unwrap_or}
 use Rattle.tool_words.specs.Items.{Item}
 use Rattle.tool_words.specs.Tool.{Tool}
@@ -19,23 +20,24 @@ sample = record {
   others = Refused BadNumber;
 }
 
-abbrev pub count_of : List Item → ℕ
-count_of items = unwrap_or (number_given COUNT MOST_FILES items) 0
+abbrev pub sample_count : List Item → ℕ
+sample_count items = unwrap_or (number_given COUNT MOST_FILES items) 0
 
 -- what is missing at the end of so many words
-abbrev pub end_wrong : List Item → ℕ → Option Usage
-end_wrong items count = if has_value COUNT items then None else Some (usage count MissingOperand)
+abbrev pub sample_end_wrong : List Item → ℕ → Option Usage
+sample_end_wrong items count =
+    if has_value COUNT items then None else Some (usage count MissingOperand)
 
-abbrev pub asked_by : List Item → SampleWords
-asked_by items = record { count = count_of items }
+abbrev pub sample_words_by : List Item → SampleWords
+sample_words_by items = record { count = sample_count items }
 
-abbrev pub asked_in : List Item → ℕ → Result SampleWords Usage
-asked_in items count = unless_wrong (end_wrong items count) (asked_by items)
+abbrev pub sample_words_in : List Item → ℕ → Result SampleWords Usage
+sample_words_in items count = unless_wrong (sample_end_wrong items count) (sample_words_by items)
 
-abbrev pub asked_of : ℕ → Result (List Item) Usage → Result SampleWords Usage
-asked_of count (Ok items) = asked_in items count
-asked_of count (Err wrong) = Err wrong
+abbrev pub sample_words_of : ℕ → Result (List Item) Usage → Result SampleWords Usage
+sample_words_of count (Ok items) = sample_words_in items count
+sample_words_of count (Err wrong) = Err wrong
 
 -- what words ask for, the first of which has this index, or the first that is wrong
 abbrev pub sample_words : ℕ → List (List ℕ) → Result SampleWords Usage
-sample_words first words = asked_of (length words + first) (items_read sample first words)
+sample_words first words = sample_words_of (length words + first) (items_read sample first words)

@@ -1,6 +1,7 @@
 ghost use Rattle.std.specs.Prelude.{◌≡◌, ◌++◌, ◌<◌, ◌≤◌, IfOk, OnOk};
 ghost use Rattle.std.specs.Fmt.{decimal};
-ghost use Rattle.sample_tree.specs.Sample.{directory_text, file_front, file_text, sample_records, texts_below};
+ghost use Rattle.sample_tree.specs.Sample.{directory_text, file_front, file_text, sample_records};
+ghost use Rattle.sample_tree.specs.Sample.{texts_below};
 
 use label_base::{Bytes, OutOfMemory};
 use std::alloc::Global;
@@ -25,8 +26,8 @@ const DIRECTORY: &str = "d 1 ";
 
 const IN_ROOT: &str = " system_u:object_r:dir_t:s0 /d";
 
-// The record of a file: before its inode, from there to the number of its directory by its label, and
-// from there to its own number.
+// The record of a file: before its inode, from there to the number of its directory by its label,
+// and from there to its own number.
 const FILE: &str = "f 1 ";
 
 const LABELLED_A: &str = " system_u:object_r:a_t:s0 /d";

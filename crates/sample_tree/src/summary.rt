@@ -20,8 +20,9 @@ const RELABELLED_AGAIN: &str = "relabelled again ";
 
 const LINE_END: &str = "\n";
 
-/// What is counted of two walks over a sample: of the first one the entries, the labels that change, the conflicts and the
-/// errors, and of the second one the directories that are skipped and the labels that change.
+/// What is counted of two walks over a sample: of the first one the entries, the labels that
+/// change, the conflicts and the errors, and of the second one the directories that are skipped and
+/// the labels that change.
 #[derive(Clone, Copy)]
 pub struct Summary {
     pub entries: u32,

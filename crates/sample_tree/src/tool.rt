@@ -1,8 +1,8 @@
 ghost use Rattle.std.specs.Prelude.{◌≡◌, ℕ, ◌<◌, ◌≤◌, ◌^◌, IfErr, IfOk, None, length, option_map};
 ghost use Rattle.run_faults.specs.Causes.{Counts, Gives, IsFileCause, IsInputCause};
-ghost use Rattle.find_records.specs.Record.{AreOf};
+ghost use Rattle.find_records.specs.Record.{AreOfFormat};
 ghost use Rattle.find_records.specs.declared.format.Format.TheVariants.{One};
-ghost use Rattle.run_input.specs.Records.{entries_of};
+ghost use Rattle.run_input.specs.Records.{records_read};
 ghost use Rattle.run_input.specs.declared.records.TheConstants.{MOST_RECORDS};
 ghost use Rattle.sample_tree.specs.Plan.{answered_for, own_files, own_names, own_rules};
 ghost use Rattle.sample_tree.specs.Sample.{sample_records};
@@ -73,11 +73,11 @@ fn read_own_files(alloc: Global) -> Result<Rules, Cause>
 // Reads the records of a sample, by the reader of any others.
 #[tactic(auto, using(run_input::proofs::CountLemmas::calm_counts))]
 fn read_own_records(alloc: Global, count: u32) -> Result<Tree, Cause>
-    ensures answer { Gives (entries_of One (sample_records count)) result }
+    ensures answer { Gives (records_read One (sample_records count)) result }
     ensures counts { (count : ℕ) → Counts count count result }
     ensures kinds { IfErr result IsInputCause }
     ensures few { IfOk result (λ tree. length tree ≤ MOST_RECORDS) }
-    ensures of_format { IfOk result (λ tree. AreOf One tree) }
+    ensures of_format { IfOk result (λ tree. AreOfFormat One tree) }
 {
     let records = sample_records(alloc, count)?;
     let mut source = SureSource::new(records, PIECE);

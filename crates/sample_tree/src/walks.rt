@@ -1,16 +1,18 @@
 ghost use Rattle.std.specs.Prelude.{◌≡◌, ◌<◌, ◌≤◌, ◌^◌, None, IfOk, length};
-ghost use Rattle.find_records.specs.Record.{AreOf};
+ghost use Rattle.find_records.specs.Record.{AreOfFormat};
 ghost use Rattle.find_records.specs.declared.format.Format.TheVariants.{One};
 ghost use Rattle.report_text.specs.Message.{message_of};
 ghost use Rattle.relabel_core.specs.Answer.{walk_in};
 ghost use Rattle.relabel_core.specs.Stored.{digests_listed, no_digests};
-ghost use Rattle.relabel_core.specs.Walk.{count, digests, line, one_if};
+ghost use Rattle.relabel_core.specs.Walk.{walk_count, digests, line, one_if};
 ghost use Rattle.relabel_core.specs.Walked.{IsFit, walk_of};
 ghost use Rattle.relabel_core.specs.Stored as stored_digests;
 ghost use Rattle.tree_model.specs.Labelled.{DifferInLabels, labelled};
 ghost use Rattle.sample_tree.specs.Choice.{sample_choice, sample_options};
 ghost use Rattle.sample_tree.specs.declared.walks.LineKind.TheVariants as kinds;
-ghost use Rattle.sample_tree.specs.Walks.{first_walk, has_line_of, is_of, labels_after, lines_of, sample_summary, sample_walk, summary_of, sample_ending, walk_after};
+ghost use Rattle.sample_tree.specs.Walks.{first_walk, has_line_of, is_of, labels_after};
+ghost use Rattle.sample_tree.specs.Walks.{lines_of_kind, sample_summary, sample_walk, summary_of};
+ghost use Rattle.sample_tree.specs.Walks.{sample_ending, walk_after};
 
 use crate::choice::{sample_choice, sample_options};
 use crate::summary::Summary;
@@ -57,7 +59,7 @@ fn is_of(kind: LineKind, message: &Message<'_>) -> bool
 
 // One where an entry has a line of a kind, and else nothing.
 fn line_at(kind: LineKind, walked: &Walked<'_>, e: u32) -> u32
-    requires { e < count (walk_in walked.now) }
+    requires { e < walk_count (walk_in walked.now) }
     ensures value { result ≡ one_if (has_line_of kind (line (walk_in walked.now) e)) }
     ensures few { result ≤ 1 }
 {
@@ -70,7 +72,7 @@ fn line_at(kind: LineKind, walked: &Walked<'_>, e: u32) -> u32
 // How many entries have a line of a kind.
 #[tactic(auto, using(crate::proofs::WalkLemmas::one_more_line), unfolding(crate::specs::Walks::lines_of))]
 fn lines_of(kind: LineKind, walked: &Walked<'_>) -> u32
-    ensures { result ≡ lines_of kind (walk_in walked.now) }
+    ensures { result ≡ lines_of_kind kind (walk_in walked.now) }
 {
     let mut lines = 0;
     'entries: for e in 0..walked.len() {
@@ -99,9 +101,9 @@ fn walk_by<'a, L: Ledger>(
 fn walk_counted(alloc: Global, input: &WalkInput<'_>) -> Result<(u32, u32), OutOfMemory>
     requires { IsFit input.now }
     ensures skipped { IfOk result (λ lines. lines.0
-        ≡ lines_of kinds.Skipping (walk_of input.now)) }
+        ≡ lines_of_kind kinds.Skipping (walk_of input.now)) }
     ensures relabelled { IfOk result (λ lines. lines.1
-        ≡ lines_of kinds.Relabelled (walk_of input.now)) }
+        ≡ lines_of_kind kinds.Relabelled (walk_of input.now)) }
 {
     let walked = walk_by::<Brand>(alloc, input, Blank::new(1))?;
     Ok((
@@ -120,12 +122,12 @@ fn walk_again(
 ) -> Result<(u32, u32), OutOfMemory>
     requires choice { choice.now ≡ sample_choice }
     requires tree { length tree.now < 2 ^ 31 }
-    requires format { AreOf One tree.now }
+    requires format { AreOfFormat One tree.now }
     ensures skipped { IfOk result (λ lines. lines.0
-        ≡ lines_of kinds.Skipping
+        ≡ lines_of_kind kinds.Skipping
         (sample_walk rules.now tree.now (stored_digests.digests_of stored.now))) }
     ensures relabelled { IfOk result (λ lines. lines.1
-        ≡ lines_of kinds.Relabelled
+        ≡ lines_of_kind kinds.Relabelled
         (sample_walk rules.now tree.now (stored_digests.digests_of stored.now))) }
 {
     let chosen = tree.select(alloc, choice)?;
@@ -138,11 +140,11 @@ fn walk_again(
 #[tactic(auto, using(tree_model::proofs::FormatLemmas::relabelled_of))]
 fn tree_after(alloc: Global, tree: &Tree, first: &Walked<'_>) -> Result<Tree, OutOfMemory>
     requires walk { (walk_in first.now).entries ≡ tree.now }
-    requires format { AreOf One tree.now }
+    requires format { AreOfFormat One tree.now }
     ensures value { IfOk result (λ next. next
         ≡ labelled (labels_after (walk_in first.now)) tree.now) }
     ensures same { IfOk result (λ next. DifferInLabels tree.now next) }
-    ensures format { IfOk result (λ next. AreOf One next) }
+    ensures format { IfOk result (λ next. AreOfFormat One next) }
 {
     let labels = next_labels(alloc, first)?;
     tree.with_labels(alloc, &labels)
@@ -169,21 +171,22 @@ fn walk_next(
 ) -> Result<(u32, u32), OutOfMemory>
     requires choice { choice.now ≡ sample_choice }
     requires tree { length next.now < 2 ^ 31 }
-    requires format { AreOf One next.now }
+    requires format { AreOfFormat One next.now }
     requires stored { (walk_in first.now).stored ≡ no_digests }
     requires same { DifferInLabels (walk_in first.now).entries next.now }
     ensures skipped { IfOk result (λ lines. lines.0
-        ≡ lines_of kinds.Skipping
+        ≡ lines_of_kind kinds.Skipping
         (sample_walk rules.now next.now (digests_listed (digests (walk_in first.now))))) }
     ensures relabelled { IfOk result (λ lines. lines.1
-        ≡ lines_of kinds.Relabelled
+        ≡ lines_of_kind kinds.Relabelled
         (sample_walk rules.now next.now (digests_listed (digests (walk_in first.now))))) }
 {
     let stored = stored_after(alloc, next, first)?;
     walk_again(alloc, choice, rules, next, &stored)
 }
 
-// Walks over the tree that a walk leaves, with its labels and its digests. Each function from here inwards owns one value.
+// Walks over the tree that a walk leaves, with its labels and its digests. Each function from here
+// inwards owns one value.
 fn walk_after(
     alloc: Global,
     choice: &Choice,
@@ -193,13 +196,13 @@ fn walk_after(
 ) -> Result<(u32, u32), OutOfMemory>
     requires choice { choice.now ≡ sample_choice }
     requires tree { length tree.now < 2 ^ 31 }
-    requires format { AreOf One tree.now }
+    requires format { AreOfFormat One tree.now }
     requires walk { (walk_in first.now).entries ≡ tree.now }
     requires stored { (walk_in first.now).stored ≡ no_digests }
     ensures skipped { IfOk result (λ lines. lines.0
-        ≡ lines_of kinds.Skipping (walk_after rules.now (walk_in first.now))) }
+        ≡ lines_of_kind kinds.Skipping (walk_after rules.now (walk_in first.now))) }
     ensures relabelled { IfOk result (λ lines. lines.1
-        ≡ lines_of kinds.Relabelled (walk_after rules.now (walk_in first.now))) }
+        ≡ lines_of_kind kinds.Relabelled (walk_after rules.now (walk_in first.now))) }
 {
     let next = tree_after(alloc, tree, first)?;
     walk_next(alloc, choice, rules, &next, first)
@@ -232,7 +235,7 @@ fn summarize_walks(
     requires fit { IsFit input.now }
     requires choice { choice.now ≡ sample_choice }
     requires tree { length tree.now < 2 ^ 31 }
-    requires format { AreOf One tree.now }
+    requires format { AreOfFormat One tree.now }
     requires walk { walk_of input.now ≡ first_walk rules.now tree.now }
     ensures { IfOk result (λ summary. summary ≡ sample_summary rules.now tree.now) }
 {
@@ -252,7 +255,7 @@ fn summarize_chosen(
 ) -> Result<Summary, OutOfMemory>
     requires choice { choice.now ≡ sample_choice }
     requires tree { length tree.now < 2 ^ 31 }
-    requires format { AreOf One tree.now }
+    requires format { AreOfFormat One tree.now }
     requires stored { stored_digests.digests_of stored.now ≡ no_digests }
     ensures { IfOk result (λ summary. summary ≡ sample_summary rules.now tree.now) }
 {
@@ -265,7 +268,7 @@ fn summarize_chosen(
 // Walks over a tree twice.
 fn summarize(alloc: Global, rules: &Rules, tree: &Tree) -> Result<Summary, OutOfMemory>
     requires tree { length tree.now < 2 ^ 31 }
-    requires format { AreOf One tree.now }
+    requires format { AreOfFormat One tree.now }
     ensures { IfOk result (λ summary. summary ≡ sample_summary rules.now tree.now) }
 {
     let choice = sample_choice(alloc)?;
@@ -279,7 +282,7 @@ fn summarize(alloc: Global, rules: &Rules, tree: &Tree) -> Result<Summary, OutOf
 #[tactic(auto, unfolding(crate::specs::Walks::sample_ending))]
 pub fn sample_ending(alloc: Global, rules: &Rules, tree: &Tree) -> Result<Ending, OutOfMemory>
     requires tree { length tree.now < 2 ^ 31 }
-    requires format { AreOf One tree.now }
+    requires format { AreOfFormat One tree.now }
     ensures { IfOk result (λ ending. ending ≡ sample_ending rules.now tree.now) }
 {
     let summary = summarize(alloc, rules, tree)?;

@@ -1,7 +1,8 @@
 ghost use Rattle.std.specs.Prelude.{◌≡◌, ◌<◌, ◌+◌, ◌^◌, length};
-ghost use Rattle.label_base.specs.Answers.{Answers, cause_of};
+ghost use Rattle.label_base.specs.Answers.{Answers, fault_cause};
 ghost use Rattle.tool_words.specs.Words.{word_texts};
-ghost use Rattle.sample_tree.specs.Words.{asked_in, count_of, end_wrong, sample, sample_words};
+ghost use Rattle.sample_tree.specs.Words.{sample_words_in, sample_count, sample_end_wrong, sample};
+ghost use Rattle.sample_tree.specs.Words.{sample_words};
 
 use label_base::Fault;
 use std::alloc::Global;
@@ -37,14 +38,14 @@ fn sample() -> ToolLetters<'static>
 }
 
 fn count_of(items: &[Item<'_>]) -> u32
-    ensures { result ≡ count_of items.now }
+    ensures { result ≡ sample_count items.now }
 {
     number_of(COUNT, MOST_FILES, items).unwrap_or(0)
 }
 
 // What is missing at the end of the words, whose number this is.
 fn end_wrong(items: &[Item<'_>], count: u32) -> Option<Usage>
-    ensures { result ≡ end_wrong items.now count }
+    ensures { result ≡ sample_end_wrong items.now count }
 {
     if has_value(COUNT, items) {
         return None;
@@ -57,7 +58,7 @@ fn end_wrong(items: &[Item<'_>], count: u32) -> Option<Usage>
 
 // What words ask for that say this.
 fn asked_in(items: &[Item<'_>], count: u32) -> Result<SampleWords, Fault<Usage>>
-    ensures { Answers (λ words. words) cause_of result (asked_in items.now count) }
+    ensures { Answers (λ words. words) fault_cause result (sample_words_in items.now count) }
 {
     match end_wrong(items, count) {
         Some(wrong) => Err(Fault::Why(wrong)),
@@ -73,7 +74,7 @@ fn asked_in(items: &[Item<'_>], count: u32) -> Result<SampleWords, Fault<Usage>>
 /// the index behind the last.
 pub fn read_sample(alloc: Global, words: &[String], first: u32) -> Result<SampleWords, Fault<Usage>>
     requires { length words.now + first < 2 ^ 31 }
-    ensures { Answers (λ words. words) cause_of result
+    ensures { Answers (λ words. words) fault_cause result
         (sample_words first (word_texts words.now)) }
 {
     let items = read_items(alloc, &sample(), words, first)?;

@@ -1,5 +1,6 @@
 -- The grammar of a dump of extended attributes, as setfattr(1) reads it with --restore.
-use Rattle.std.specs.Prelude.{◌≡◌, ℕ, ◌+◌, ◌<◌, Bool, true, false, List, [], ◌∷◌, ◌++◌, length, Contains, Some, Result, Ok, Err}
+use Rattle.std.specs.Prelude.{◌≡◌, ℕ, ◌+◌, ◌<◌, Bool, true, false, List, [], ◌∷◌, ◌++◌, length}
+use Rattle.std.specs.Prelude.{Contains, Some, Result, Ok, Err}
 use Rattle.hex.specs.Hex.{decode_of}
 use Rattle.label_base.specs.Escape.{octal_byte, unescaped}
 use Rattle.label_base.specs.LineGrammar.{AreLines}
@@ -9,10 +10,12 @@ use Rattle.label_base.specs.declared.lines.RefusedLine.{RefusedLine}
 use Rattle.setfattr_dump.specs.declared.dump.Attr.{Attr}
 use Rattle.setfattr_dump.specs.declared.dump.Section.{Section}
 use Rattle.setfattr_dump.specs.declared.fault.DumpWhy.{DumpWhy}
-use Rattle.setfattr_dump.specs.declared.fault.DumpWhy.TheVariants.{NoSection, BadName, NoValue, BadValue}
-use Rattle.setfattr_dump.specs.declared.marks.TheConstants.{BACKSLASH, EQUALS, FILE_MARK, QUOTE, ZERO}
+use Rattle.setfattr_dump.specs.declared.fault.DumpWhy.TheVariants.{NoSection, BadName, NoValue}
+use Rattle.setfattr_dump.specs.declared.fault.DumpWhy.TheVariants.{BadValue}
+use Rattle.setfattr_dump.specs.declared.marks.TheConstants.{BACKSLASH, EQUALS, FILE_MARK, QUOTE}
+use Rattle.setfattr_dump.specs.declared.marks.TheConstants.{ZERO}
 use Rattle.setfattr_dump.specs.Reading.{with_slash}
-use Rattle.setfattr_dump.specs.Texts.{is_marked}
+use Rattle.setfattr_dump.specs.Texts.{is_file_line}
 use Rattle.setfattr_dump.specs.Values.{is_digits_mark, is_escapable}
 
 -- ---- values
@@ -66,7 +69,7 @@ pub record HasKey (line key given : List ℕ) : Type 0 where
 
 -- the line is an attribute
 pub record IsAttr (line : List ℕ) (attr : Attr) : Type 0 where
-  pub other : is_marked line ≡ false
+  pub other : is_file_line line ≡ false
   pub given : List ℕ
   pub key : HasKey line attr.key given
   pub value : IsValue given attr.value
@@ -81,7 +84,8 @@ pub data AreAttrs : List (List ℕ) → List Attr → Type 0 where
       → AreAttrs lines attrs
       → AreAttrs (line ∷ lines) (attr ∷ attrs)
 
--- the lines are these sections: a name, its attributes, and then another name, an empty line or the end
+-- the lines are these sections: a name, its attributes, and then another name, an empty line or the
+-- end
 pub data AreSections : List (List ℕ) → List Section → Type 0 where
   none : AreSections [] []
   empty : (lines : List (List ℕ)) (sections : List Section)
@@ -103,20 +107,21 @@ abbrev pub leaves_open : List (List ℕ) → Bool
 leaves_open lines = open_after false lines
 
 -- what is amiss with a line, where a section is open or none is
-abbrev pub IsBad : Bool → List ℕ → DumpWhy → Type 0
-IsBad is_open line NoSection = (0 < length line) × (is_marked line ≡ false) × (is_open ≡ false)
-IsBad is_open line BadName =
+abbrev pub IsBadLine : Bool → List ℕ → DumpWhy → Type 0
+IsBadLine is_open line NoSection = (0 < length line) × (is_file_line line ≡ false)
+    × (is_open ≡ false)
+IsBadLine is_open line BadName =
     (spelled : List ℕ) × (line ≡ FILE_MARK.now ++ spelled) × ((name : Path) → ¬ IsName line name)
-IsBad is_open line NoValue =
-    (0 < length line) × (is_marked line ≡ false) × (is_open ≡ true)
+IsBadLine is_open line NoValue =
+    (0 < length line) × (is_file_line line ≡ false) × (is_open ≡ true)
     × ((key given : List ℕ) → ¬ HasKey line key given)
-IsBad is_open line BadValue =
-    (is_marked line ≡ false) × (is_open ≡ true)
+IsBadLine is_open line BadValue =
+    (is_file_line line ≡ false) × (is_open ≡ true)
     × (key : List ℕ) × (given : List ℕ) × HasKey line key given
     × ((value : List ℕ) → ¬ IsValue given value)
 
 -- behind lines that are sections, the one with this number is refused
-pub record IsRefusedAt (bytes : List ℕ) (number : ℕ) (why : DumpWhy) : Type 0 where
+pub record IsLineRefusedAt (bytes : List ℕ) (number : ℕ) (why : DumpWhy) : Type 0 where
   pub before : List (List ℕ)
   pub line : List ℕ
   pub after : List (List ℕ)
@@ -124,10 +129,10 @@ pub record IsRefusedAt (bytes : List ℕ) (number : ℕ) (why : DumpWhy) : Type 
   pub lines : AreLines bytes (before ++ line ∷ after)
   pub good : AreSections before sections
   pub count : number ≡ length before + 1
-  pub bad : IsBad (leaves_open before) line why
+  pub bad : IsBadLine (leaves_open before) line why
 
 -- what the bytes mean
 abbrev pub DumpMeans : List ℕ → Result (List Section) (RefusedLine DumpWhy) → Type 0
 DumpMeans bytes (Ok sections) =
     (lines : List (List ℕ)) × AreLines bytes lines × AreSections lines sections
-DumpMeans bytes (Err refused) = IsRefusedAt bytes refused.number refused.why
+DumpMeans bytes (Err refused) = IsLineRefusedAt bytes refused.number refused.why

@@ -1,5 +1,6 @@
 -- What the lines of a dump say, as setfattr(1) reads it with --restore: how it is computed.
-use Rattle.std.specs.Prelude.{ℕ, ◌+◌, Bool, false, ◌==◌, List, [], ◌∷◌, ◌++◌, length, drop, Option, Some, None, is_some, Result, Ok, Err, if◌then◌else◌}
+use Rattle.std.specs.Prelude.{ℕ, ◌+◌, Bool, false, ◌==◌, List, [], ◌∷◌, ◌++◌, length, drop, Option}
+use Rattle.std.specs.Prelude.{Some, None, is_some, Result, Ok, Err, if◌then◌else◌}
 use Rattle.label_base.specs.Cut.{front, behind}
 use Rattle.label_base.specs.Escape.{unescaped}
 use Rattle.label_base.specs.Lines.{lines_of, with_front}
@@ -14,7 +15,7 @@ use Rattle.setfattr_dump.specs.declared.fault.DumpWhy.TheVariants.{NoSection, Ba
 use Rattle.setfattr_dump.specs.declared.line.Said.{Said}
 use Rattle.setfattr_dump.specs.declared.line.Said.TheVariants.{Ends, Names, Gives}
 use Rattle.setfattr_dump.specs.declared.marks.TheConstants.{EQUALS, FILE_MARK}
-use Rattle.setfattr_dump.specs.Texts.{is_marked}
+use Rattle.setfattr_dump.specs.Texts.{is_file_line}
 use Rattle.setfattr_dump.specs.Values.{value_or_bad, value_read}
 
 -- ---- one line
@@ -35,36 +36,36 @@ spelled_path (Some bytes) = path_or BadName (with_slash bytes)
 unfoldable pub name_read : List ℕ → Result Path DumpWhy
 name_read name = spelled_path (unescaped name)
 
-abbrev pub with_value : List ℕ → Result (List ℕ) DumpWhy → Result Attr DumpWhy
-with_value key (Ok value) = Ok (record { key = key; value = value })
-with_value key (Err why) = Err why
+abbrev pub value_then : List ℕ → Result (List ℕ) DumpWhy → Result Attr DumpWhy
+value_then key (Ok value) = Ok (record { key = key; value = value })
+value_then key (Err why) = Err why
 
-abbrev pub with_given : List ℕ → Option (List ℕ) → Result Attr DumpWhy
-with_given key None = Err NoValue
-with_given key (Some given) =
-    if is_nonempty key then with_value key (value_or_bad (value_read given)) else Err NoValue
+abbrev pub attr_given : List ℕ → Option (List ℕ) → Result Attr DumpWhy
+attr_given key None = Err NoValue
+attr_given key (Some given) =
+    if is_nonempty key then value_then key (value_or_bad (value_read given)) else Err NoValue
 
 abbrev pub is_equals : ℕ → Bool
 is_equals b = b == EQUALS
 
 -- the attribute that a line gives: a key up to the first =, and a value behind it
 unfoldable pub attr_read : List ℕ → Result Attr DumpWhy
-attr_read line = with_given (front is_equals line) (behind is_equals line)
+attr_read line = attr_given (front is_equals line) (behind is_equals line)
 
 abbrev pub names : Result Path DumpWhy → Result Said DumpWhy
 names (Ok name) = Ok (Names name)
 names (Err why) = Err why
 
-abbrev pub gives : Result Attr DumpWhy → Result Said DumpWhy
-gives (Ok attr) = Ok (Gives attr)
-gives (Err why) = Err why
+abbrev pub attr_said : Result Attr DumpWhy → Result Said DumpWhy
+attr_said (Ok attr) = Ok (Gives attr)
+attr_said (Err why) = Err why
 
 -- what a line says where a section is open, or none is
 unfoldable pub line_read : Bool → List ℕ → Result Said DumpWhy
 line_read is_open [] = Ok Ends
 line_read is_open (b ∷ bs) =
-    if is_marked (b ∷ bs) then names (name_read (drop (length FILE_MARK.now) (b ∷ bs)))
-    else if is_open then gives (attr_read (b ∷ bs))
+    if is_file_line (b ∷ bs) then names (name_read (drop (length FILE_MARK.now) (b ∷ bs)))
+    else if is_open then attr_said (attr_read (b ∷ bs))
     else Err NoSection
 
 -- ---- all lines
@@ -78,7 +79,8 @@ open_section (Some name) attrs = record { name = name; attrs = attrs } ∷ []
 abbrev pub SectionsOrRefusal : Type 0
 SectionsOrRefusal = Result (List Section) (RefusedLine DumpWhy)
 
--- goes on with what the line with this number says; an open section has this name and these attributes
+-- goes on with what the line with this number says; an open section has this name and these
+-- attributes
 abbrev pub said_then : ℕ → Option Path → List Attr → Result Said DumpWhy
     → (Option Path → List Attr → SectionsOrRefusal)
     → SectionsOrRefusal

@@ -9,7 +9,8 @@ use Rattle.setfattr_dump.specs.declared.line.Said.TheVariants.{Ends, Names, Give
 use Rattle.setfattr_dump.specs.declared.reading.SoFar.{SoFar}
 use Rattle.setfattr_dump.specs.Reading.{open_section}
 
--- these sections are closed, and the one that is open, if one is, has this name and these attributes
+-- these sections are closed, and the one that is open, if one is, has this name and these
+-- attributes
 pub record IsState
     (s : SoFar) (sections : List Section) (name : Option Path) (attrs : List Attr) : Type 0 where
   pub sections_are : s.sections ≡ sections
@@ -17,9 +18,9 @@ pub record IsState
   pub attrs_are : s.attrs ≡ attrs
 
 -- what a line that says this leaves
-abbrev pub Takes : Result Said DumpWhy → SoFar → SoFar → Type 0
-Takes (Err why) old new = ⊥
-Takes (Ok Ends) old new = IsState new (old.sections ++ open_section old.name old.attrs) None []
-Takes (Ok (Names name)) old new =
+abbrev pub TakesSaid : Result Said DumpWhy → SoFar → SoFar → Type 0
+TakesSaid (Err why) old new = ⊥
+TakesSaid (Ok Ends) old new = IsState new (old.sections ++ open_section old.name old.attrs) None []
+TakesSaid (Ok (Names name)) old new =
     IsState new (old.sections ++ open_section old.name old.attrs) (Some name) []
-Takes (Ok (Gives attr)) old new = IsState new old.sections old.name (old.attrs ++ attr ∷ [])
+TakesSaid (Ok (Gives attr)) old new = IsState new old.sections old.name (old.attrs ++ attr ∷ [])

@@ -33,8 +33,8 @@ dump_text sections = flat_map section_text sections
 -- ---- what can be written
 
 -- a line begins as one that names a file
-unfoldable pub is_marked : List ℕ → Bool
-is_marked line = starts_with nat_eq line FILE_MARK.now
+unfoldable pub is_file_line : List ℕ → Bool
+is_file_line line = starts_with nat_eq line FILE_MARK.now
 
 -- a key isn't empty, has no = and no line feed, and doesn't begin as a line that names a file
 abbrev pub is_key : List ℕ → Bool
@@ -42,7 +42,7 @@ is_key key =
     is_nonempty key
     && not (list_any (λ b. b == EQUALS) key)
     && not (list_any (λ b. b == LINE_FEED) key)
-    && not (is_marked key)
+    && not (is_file_line key)
 
 -- a name isn't too long to be read, and has no component . or ..
 abbrev pub is_readable : Path → Bool

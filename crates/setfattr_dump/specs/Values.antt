@@ -1,13 +1,16 @@
 -- The values of attributes: a text between quotes, or hexadecimal digits, as setfattr(1) has them.
-use Rattle.std.specs.Prelude.{ℕ, Bool, false, ◌==◌, ◌||◌, List, [], ◌∷◌, ◌++◌, Option, Some, None, Result, Ok, Err, if◌then◌else◌}
+use Rattle.std.specs.Prelude.{ℕ, Bool, false, ◌==◌, ◌||◌, List, [], ◌∷◌, ◌++◌, Option, Some, None}
+use Rattle.std.specs.Prelude.{Result, Ok, Err, if◌then◌else◌}
 use Rattle.std.specs.List.{flat_map}
 use Rattle.std.specs.Result.{result_ok}
+use Rattle.label_base.specs.Spelling.{byte}
 use Rattle.hex.specs.Hex.{decode_of, encode_lower}
-use Rattle.label_base.specs.Escape.{escaped_byte, is_plain, led_by, octal_byte}
+use Rattle.label_base.specs.Escape.{escaped_byte, is_plain_byte, led_by, octal_byte}
 use Rattle.label_base.specs.Text.{same_bytes}
 use Rattle.setfattr_dump.specs.declared.fault.DumpWhy.{DumpWhy}
 use Rattle.setfattr_dump.specs.declared.fault.DumpWhy.TheVariants.{BadValue}
-use Rattle.setfattr_dump.specs.declared.marks.TheConstants.{BACKSLASH, DIGEST_KEY, HEX_MARK, QUOTE, QUOTE_ESCAPE, QUOTE_MARK, ZERO}
+use Rattle.setfattr_dump.specs.declared.marks.TheConstants.{BACKSLASH, DIGEST_KEY, HEX_MARK, QUOTE}
+use Rattle.setfattr_dump.specs.declared.marks.TheConstants.{QUOTE_ESCAPE, QUOTE_MARK, ZERO}
 
 -- ---- how a value is read
 
@@ -23,15 +26,15 @@ abbrev pub is_escapable : ℕ → Bool
 is_escapable b = (b == QUOTE) || (b == BACKSLASH)
 
 -- nothing stands behind the quote that closes a text
-abbrev pub closed : List ℕ → Option (List ℕ)
-closed [] = Some []
-closed (b ∷ bs) = None
+abbrev pub quote_closed : List ℕ → Option (List ℕ)
+quote_closed [] = Some []
+quote_closed (b ∷ bs) = None
 
 -- the bytes of a text, up to the quote that closes it
 unfoldable pub text_read : Before → List ℕ → Option (List ℕ)
 text_read before [] = None
 text_read Nothing (b ∷ rest) =
-    if b == QUOTE then closed rest
+    if b == QUOTE then quote_closed rest
     else if b == BACKSLASH then text_read Backslash rest
     else led_by (Some b) (text_read Nothing rest)
 text_read Backslash (x ∷ rest) =
@@ -45,7 +48,7 @@ digits_read digits = result_ok (decode_of digits)
 
 -- an x of either case
 abbrev pub is_digits_mark : ℕ → Bool
-is_digits_mark x = (x == 120) || (x == 88)
+is_digits_mark x = (x == byte "x") || (x == byte "X")
 
 -- what stands behind the zero: an x and the digits
 unfoldable pub behind_zero : List ℕ → Option (List ℕ)
@@ -76,7 +79,7 @@ quoted_byte b = if b == QUOTE then QUOTE_ESCAPE.now else escaped_byte b
 
 -- a byte that stands for itself between quotes
 abbrev pub is_kept : ℕ → Bool
-is_kept b = if b == QUOTE then false else is_plain b
+is_kept b = if b == QUOTE then false else is_plain_byte b
 
 abbrev pub quoted_bytes : List ℕ → List ℕ
 quoted_bytes bytes = flat_map quoted_byte bytes

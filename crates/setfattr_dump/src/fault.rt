@@ -1,6 +1,7 @@
 use label_base::{Fault, RefusedLine};
 
-/// Why a line of a dump is refused. On one line the first of `NoSection`, `NoValue` and `BadValue` is told.
+/// Why a line of a dump is refused. On one line the first of `NoSection`, `NoValue` and `BadValue`
+/// is told.
 #[derive(Clone, Copy, Debug, PartialEq, Eq)]
 pub enum DumpWhy {
     /// An attribute stands outside a section.

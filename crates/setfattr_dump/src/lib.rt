@@ -1,4 +1,5 @@
-//! The dump of extended attributes, as getfattr(1) writes it and setfattr(1) takes it with `--restore`.
+//! The dump of extended attributes, as getfattr(1) writes it and setfattr(1) takes it with
+//! `--restore`.
 #![tactic(auto)]
 
 mod dump;

@@ -1,8 +1,9 @@
 ghost use Rattle.std.specs.Prelude.{◌≡◌, ◌≤◌, length, true};
-ghost use Rattle.label_base.specs.Answers.{Answers, cause_of};
+ghost use Rattle.label_base.specs.Answers.{Answers, fault_cause};
 ghost use Rattle.file_paths.specs.Path.{path_or};
-ghost use Rattle.setfattr_dump.specs.Reading.{attr_read, has_slash, line_read, name_read, with_slash, with_value};
-ghost use Rattle.setfattr_dump.specs.Texts.{is_marked};
+ghost use Rattle.setfattr_dump.specs.Reading.{attr_read, has_slash, line_read, name_read};
+ghost use Rattle.setfattr_dump.specs.Reading.{with_slash, value_then};
+ghost use Rattle.setfattr_dump.specs.Texts.{is_file_line};
 ghost use Rattle.setfattr_dump.specs.Values.{value_or_bad, value_read};
 
 use crate::dump::Attr;
@@ -32,7 +33,7 @@ fn has_slash(bytes: &[u8]) -> bool
 
 // The path that the bytes spell, with a slash before them if they have none.
 fn read_slashed(alloc: Global, bytes: &[u8]) -> Result<NormPath, Fault<DumpWhy>>
-    ensures { Answers (λ path. path) cause_of result
+    ensures { Answers (λ path. path) fault_cause result
         (path_or DumpWhy.BadName (with_slash bytes.now)) }
 {
     if has_slash(bytes) {
@@ -46,7 +47,7 @@ fn read_slashed(alloc: Global, bytes: &[u8]) -> Result<NormPath, Fault<DumpWhy>>
 
 // The path that a name with escapes spells.
 fn read_escaped_name(alloc: Global, name: &[u8]) -> Result<NormPath, Fault<DumpWhy>>
-    ensures { Answers (λ path. path) cause_of result (name_read name.now) }
+    ensures { Answers (λ path. path) fault_cause result (name_read name.now) }
 {
     match read_escaped(alloc, name) {
         Ok(bytes) => read_slashed(alloc, bytes.as_slice()),
@@ -57,7 +58,7 @@ fn read_escaped_name(alloc: Global, name: &[u8]) -> Result<NormPath, Fault<DumpW
 
 // The path that a name spells. A name without escapes isn't copied first.
 fn read_name(alloc: Global, name: &[u8]) -> Result<NormPath, Fault<DumpWhy>>
-    ensures { Answers (λ path. path) cause_of result (name_read name.now) }
+    ensures { Answers (λ path. path) fault_cause result (name_read name.now) }
 {
     let (plain, escapes) = cut_at(BACKSLASH, name);
     match escapes {
@@ -67,8 +68,8 @@ fn read_name(alloc: Global, name: &[u8]) -> Result<NormPath, Fault<DumpWhy>>
 }
 
 fn made_attr(alloc: Global, key: &[u8], given: &[u8]) -> Result<Attr, Fault<DumpWhy>>
-    ensures { Answers (λ attr. attr) cause_of result
-        (with_value key.now (value_or_bad (value_read given.now))) }
+    ensures { Answers (λ attr. attr) fault_cause result
+        (value_then key.now (value_or_bad (value_read given.now))) }
 {
     let value = read_value(alloc, given)?;
     let key = Bytes::copy_of(alloc, key)?;
@@ -78,7 +79,7 @@ fn made_attr(alloc: Global, key: &[u8], given: &[u8]) -> Result<Attr, Fault<Dump
 // The attribute that a line gives.
 #[tactic(auto, unfolding(crate::specs::Reading::attr_read))]
 fn read_attr(alloc: Global, line: &[u8]) -> Result<Attr, Fault<DumpWhy>>
-    ensures { Answers (λ attr. attr) cause_of result (attr_read line.now) }
+    ensures { Answers (λ attr. attr) fault_cause result (attr_read line.now) }
 {
     let (key, given) = cut_at(EQUALS, line);
     let Some(given) = given else {
@@ -92,7 +93,7 @@ fn read_attr(alloc: Global, line: &[u8]) -> Result<Attr, Fault<DumpWhy>>
 
 #[tactic(auto, unfolding(crate::specs::Texts::is_marked))]
 fn is_marked(line: &[u8]) -> bool
-    ensures value { result ≡ is_marked line.now }
+    ensures value { result ≡ is_file_line line.now }
     ensures bound { result ≡ true → length FILE_MARK.now ≤ length line.now }
 {
     line.starts_with(FILE_MARK)
@@ -101,7 +102,7 @@ fn is_marked(line: &[u8]) -> bool
 // What a line says where a section is open, or none is.
 #[tactic(auto, unfolding(crate::specs::Reading::line_read))]
 pub fn read_line(alloc: Global, is_open: bool, line: &[u8]) -> Result<Said, Fault<DumpWhy>>
-    ensures { Answers (λ said. said) cause_of result (line_read is_open line.now) }
+    ensures { Answers (λ said. said) fault_cause result (line_read is_open line.now) }
 {
     if line.is_empty() {
         return Ok(Said::Ends);

@@ -1,7 +1,8 @@
 ghost use Rattle.std.specs.Prelude.{◌≡◌, ◌++◌, OnOk};
 ghost use Rattle.std.specs.List.{list_all};
-ghost use Rattle.label_base.specs.Escape.{is_plain};
-ghost use Rattle.setfattr_dump.specs.Values.{hex_byte, hex_bytes, is_digest, is_kept, quoted_byte, quoted_bytes, value_text};
+ghost use Rattle.label_base.specs.Escape.{is_plain_byte};
+ghost use Rattle.setfattr_dump.specs.Values.{hex_byte, hex_bytes, is_digest, is_kept, quoted_byte};
+ghost use Rattle.setfattr_dump.specs.Values.{quoted_bytes, value_text};
 
 use crate::marks::{BACKSLASH, DEL, DIGEST_KEY, HEX_MARK, QUOTE, QUOTE_ESCAPE, QUOTE_MARK};
 use label_base::{BLANK, Bytes, OutOfMemory};
@@ -9,7 +10,7 @@ use label_base::{BLANK, Bytes, OutOfMemory};
 // After a refusal of these functions the text has a front of what was to be added.
 
 fn is_plain(b: u8) -> bool
-    ensures { result ≡ is_plain b }
+    ensures { result ≡ is_plain_byte b }
 {
     b != BACKSLASH && b >= BLANK && b != DEL
 }

@@ -1,7 +1,8 @@
-ghost use Rattle.std.specs.Prelude.{◌≡◌, ◌++◌, ◌<◌, ◌^◌, [], length, is_some, option_map, IfErr, None, OnOk, Some};
-ghost use Rattle.label_base.specs.Answers.{Answers, Explains, cause_of};
+ghost use Rattle.std.specs.Prelude.{◌≡◌, ◌++◌, ◌<◌, ◌^◌, [], length, is_some, option_map, IfErr};
+ghost use Rattle.std.specs.Prelude.{None, OnOk, Some};
+ghost use Rattle.label_base.specs.Answers.{Answers, Explains, fault_cause};
 ghost use Rattle.setfattr_dump.specs.Reading.{dump_read, line_read, open_section};
-ghost use Rattle.setfattr_dump.specs.SoFar.{IsState, Takes};
+ghost use Rattle.setfattr_dump.specs.SoFar.{IsState, TakesSaid};
 
 use crate::dump::{Attr, Section};
 use crate::fault::{DumpFault, DumpWhy};
@@ -43,8 +44,8 @@ fn open(alloc: Global, so_far: &mut SoFar, name: NormPath) -> Result<(), OutOfMe
 // Takes the next line.
 fn take_line(alloc: Global, so_far: &mut SoFar, line: &[u8]) -> Result<(), Fault<DumpWhy>>
     ensures ok { OnOk result
-        (Takes (line_read (is_some so_far.old.name) line.now) so_far.old so_far.new) }
-    ensures err { IfErr result (λ fault. Explains (cause_of fault)
+        (TakesSaid (line_read (is_some so_far.old.name) line.now) so_far.old so_far.new) }
+    ensures err { IfErr result (λ fault. Explains (fault_cause fault)
         (line_read (is_some so_far.old.name) line.now)) }
 {
     match read_line(alloc, so_far.name.is_some(), line)? {
@@ -55,8 +56,8 @@ fn take_line(alloc: Global, so_far: &mut SoFar, line: &[u8]) -> Result<(), Fault
 }
 
 fn refused_at(number: u32, fault: Fault<DumpWhy>) -> DumpFault
-    ensures { cause_of result
-        ≡ option_map (λ why. record { number = number; why = why }) (cause_of fault) }
+    ensures { fault_cause result
+        ≡ option_map (λ why. record { number = number; why = why }) (fault_cause fault) }
 {
     match fault {
         Fault::Why(why) => Fault::Why(RefusedLine { number, why }),
@@ -67,7 +68,7 @@ fn refused_at(number: u32, fault: Fault<DumpWhy>) -> DumpFault
 /// The sections of a dump.
 pub fn read_sections(alloc: Global, bytes: &[u8]) -> Result<Row<Section>, DumpFault>
     requires { length bytes.now < 2 ^ 32 }
-    ensures { Answers (λ sections. sections) cause_of result (dump_read bytes.now) }
+    ensures { Answers (λ sections. sections) fault_cause result (dump_read bytes.now) }
 {
     let mut so_far = SoFar {
         sections: Row::new(alloc),

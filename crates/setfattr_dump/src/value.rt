@@ -1,10 +1,13 @@
-ghost use Rattle.std.specs.Prelude.{◌≡◌, ◌+◌, ◌<◌, ◌≤◌, [], get_or, length, true, IfErr, IfNone, IfOk, IfSome, None, Some};
+ghost use Rattle.std.specs.Prelude.{◌≡◌, ◌+◌, ◌<◌, ◌≤◌, [], get_or, length, true, IfErr, IfNone};
+ghost use Rattle.std.specs.Prelude.{IfOk, IfSome, None, Some};
 ghost use Rattle.std.specs.Option.{option_copied};
-ghost use Rattle.label_base.specs.Answers.{Answers, Explains, cause_of};
+ghost use Rattle.label_base.specs.Answers.{Answers, Explains, fault_cause};
 ghost use Rattle.label_base.specs.Escape.{in_front, led_by, octal_byte};
 ghost use Rattle.label_base.specs.Pieces.{turns_left};
 ghost use Rattle.setfattr_dump.specs.Values as value;
-ghost use Rattle.setfattr_dump.specs.Values.{behind_zero, digits_read, is_digits_mark, is_escapable, text_left, text_read, value_or_bad, value_read};
+ghost use Rattle.setfattr_dump.specs.Values.{behind_zero, digits_read, is_digits_mark};
+ghost use Rattle.setfattr_dump.specs.Values.{is_escapable, text_left, text_read, value_or_bad};
+ghost use Rattle.setfattr_dump.specs.Values.{value_read};
 
 use crate::fault::DumpWhy;
 use crate::marks::{BACKSLASH, QUOTE, ZERO};
@@ -54,12 +57,13 @@ fn cut_plain(text: &[u8]) -> (&[u8], &[u8])
     }
 }
 
-// Reads up to the first escape and that, and gives what stands behind it, or nothing where the text is closed.
+// Reads up to the first escape and that, and gives what stands behind it, or nothing where the text
+// is closed.
 fn read_piece<'a>(text: &'a [u8], read: &mut Bytes) -> Result<Option<&'a [u8]>, Fault<DumpWhy>>
     ensures ok { IfOk result (λ left. in_front read.old (text_read value.Nothing text.now)
         ≡ in_front read.new (text_left (option_copied left))) }
     ensures shorter { IfOk result (λ left. turns_left (option_copied left) ≤ length text.now) }
-    ensures err { IfErr result (λ fault. Explains (cause_of fault)
+    ensures err { IfErr result (λ fault. Explains (fault_cause fault)
         (value_or_bad (text_read value.Nothing text.now))) }
 {
     let (plain, rest) = cut_plain(text);
@@ -82,7 +86,7 @@ fn read_piece<'a>(text: &'a [u8], read: &mut Bytes) -> Result<Option<&'a [u8]>, 
 
 // Reads the bytes of a text behind its first quote.
 fn read_text(alloc: Global, text: &[u8]) -> Result<Bytes, Fault<DumpWhy>>
-    ensures { Answers (λ read. read) cause_of result
+    ensures { Answers (λ read. read) fault_cause result
         (value_or_bad (text_read value.Nothing text.now)) }
 {
     let (plain, rest) = cut_plain(text);
@@ -96,7 +100,7 @@ fn read_text(alloc: Global, text: &[u8]) -> Result<Bytes, Fault<DumpWhy>>
 
 // Reads the bytes of pairs of hexadecimal digits.
 fn read_digits(alloc: Global, digits: &[u8]) -> Result<Bytes, Fault<DumpWhy>>
-    ensures { Answers (λ read. read) cause_of result (value_or_bad (digits_read digits.now)) }
+    ensures { Answers (λ read. read) fault_cause result (value_or_bad (digits_read digits.now)) }
 {
     match hex::decode(alloc, digits) {
         Ok(read) => Ok(Bytes::from(read)),
@@ -113,7 +117,7 @@ fn is_digits_mark(x: u8) -> bool
 
 // Reads what stands behind the zero of `0x`.
 fn read_behind_zero(alloc: Global, rest: &[u8]) -> Result<Bytes, Fault<DumpWhy>>
-    ensures { Answers (λ read. read) cause_of result (value_or_bad (behind_zero rest.now)) }
+    ensures { Answers (λ read. read) fault_cause result (value_or_bad (behind_zero rest.now)) }
 {
     let [x, digits @ ..] = rest else {
         return Err(Fault::Why(DumpWhy::BadValue));
@@ -126,7 +130,7 @@ fn read_behind_zero(alloc: Global, rest: &[u8]) -> Result<Bytes, Fault<DumpWhy>>
 
 /// Reads a value: a text between quotes, or pairs of hexadecimal digits behind `0x`.
 pub fn read_value(alloc: Global, given: &[u8]) -> Result<Bytes, Fault<DumpWhy>>
-    ensures { Answers (λ read. read) cause_of result (value_or_bad (value_read given.now)) }
+    ensures { Answers (λ read. read) fault_cause result (value_or_bad (value_read given.now)) }
 {
     let [first, rest @ ..] = given else {
         return Err(Fault::Why(DumpWhy::BadValue));

@@ -6,7 +6,8 @@ ghost use Rattle.setfattr_dump.specs.Grammar.{IsValue};
 ghost use Rattle.setfattr_dump.specs.ReadsBack.{AttrReads, NameReads, SectionReads};
 ghost use Rattle.setfattr_dump.specs.Values.{value_text};
 ghost use Rattle.setfattr_dump.specs.declared.marks.TheConstants.{LINE_END};
-ghost use Rattle.setfattr_dump.specs.Texts.{attr_line, attrs_text, dump_text, is_readable, name_line, section_text};
+ghost use Rattle.setfattr_dump.specs.Texts.{attr_line, attrs_text, dump_text, is_readable};
+ghost use Rattle.setfattr_dump.specs.Texts.{name_line, section_text};
 
 use crate::dump::{Attr, Section};
 use crate::marks::{FILE_MARK, KEY_END, LINE_END};
@@ -15,8 +16,8 @@ use file_paths::PathRef;
 use label_base::{Bytes, OutOfMemory, write_escaped};
 use std::alloc::Global;
 
-/// Adds the line that names a file, and so begins a section. Where memory runs out, a front of the line may
-/// have been added.
+/// Adds the line that names a file, and so begins a section. Where memory runs out, a front of the
+/// line may have been added.
 pub fn add_name(alloc: Global, name: &PathRef<'_>, text: &mut Bytes) -> Result<(), OutOfMemory>
     ensures { OnOk result (text.new ≡ text.old ++ name_line (path_of name.now)) }
 {
@@ -25,8 +26,8 @@ pub fn add_name(alloc: Global, name: &PathRef<'_>, text: &mut Bytes) -> Result<(
     text.push(LINE_END)
 }
 
-/// Adds the line of an attribute: the value of `security.sehash` in hexadecimal digits, any other between
-/// quotes. Where memory runs out, a front of the line may have been added.
+/// Adds the line of an attribute: the value of `security.sehash` in hexadecimal digits, any other
+/// between quotes. Where memory runs out, a front of the line may have been added.
 pub fn add_attr(key: &[u8], value: &[u8], text: &mut Bytes) -> Result<(), OutOfMemory>
     ensures { OnOk result (text.new ≡ text.old ++ attr_line key.now value.now) }
 {

@@ -1,34 +1,39 @@
 -- That each rule of skipping, and each premise of the theorem, is needed: other ways of skipping,
 -- or runs without one of the premises, after which some label is another than with skipping off.
-use Rattle.std.specs.Prelude.{◌≡◌, ◌≢◌, ℕ, Bool, true, false, not, ◌==◌, ◌&&◌, if◌then◌else◌, List, [], ◌∷◌, Option, Some, None}
+use Rattle.std.specs.Prelude.{◌≡◌, ◌≢◌, ℕ, Bool, true, false, not, ◌==◌, ◌&&◌, if◌then◌else◌, List}
+use Rattle.std.specs.Prelude.{[], ◌∷◌, Option, Some, None}
 use Rattle.label_base.specs.Bounded.{all_below, implies}
-use Rattle.skip_runs.specs.Relabel.{Kinds, Tree, Run, State, whole, digests_in, is_current, zeroed, walked, new_label, above_change, after_all, after_all_off, skippable, after}
-use Rattle.skip_runs.specs.Skipping.{AreRuns, ClosedHold, EachSettles, ListingsTell, NoClash, HasRun, IsBare}
+use Rattle.skip_runs.specs.Relabel.{Kinds, WalkedTree, Relabelling, State, whole, digests_used}
+use Rattle.skip_runs.specs.Relabel.{is_current_in, zeroed, walked_in, new_label_in, above_change}
+use Rattle.skip_runs.specs.Relabel.{after_all, after_all_off, skippable_in, after}
+use Rattle.skip_runs.specs.Skipping.{AreRelabellings, ClosedHold, EachSettles, ListingsTell}
+use Rattle.skip_runs.specs.Skipping.{NoClash, HasRelabelling, IsBare}
 
 -- A way of skipping: which directories count as whole, which stored digests as current, what
 -- becomes of a stored digest that isn't renewed, and whether a run renews.
 pub record Way (K : Kinds) : Type 0 where
-  pub counts_as_whole : Tree → Run K → ℕ → Bool
+  pub counts_as_whole : WalkedTree → Relabelling K → ℕ → Bool
   pub counts_as_current : Option K.Digest → K.Listing → Bool
   pub left_over : Option K.Digest → Bool → Option K.Digest
-  pub renews_in : Run K → Bool
+  pub renews_in : Relabelling K → Bool
 
 -- the way of this crate
 abbrev pub right_way : (K : Kinds) → Way K
 right_way K =
     record {
       counts_as_whole = whole;
-      counts_as_current = is_current K;
+      counts_as_current = is_current_in K;
       left_over = zeroed K;
-      renews_in = λ r. not r.dry && digests_in r;
+      renews_in = λ r. not r.dry && digests_used r;
     }
 
-abbrev pub skip_by : {K : Kinds} → Way K → Tree → Run K → State K → ℕ → Bool
+abbrev pub skip_by : {K : Kinds} → Way K → WalkedTree → Relabelling K → State K → ℕ → Bool
 skip_by way t r s d =
     t.is_directory d && (r.skips && not r.renews) && way.counts_as_whole t r d
     && way.counts_as_current (s.digests d) (r.listing d)
 
-abbrev pub new_digest_by : {K : Kinds} → Way K → Tree → Run K → (ℕ → Bool) → State K → ℕ
+abbrev pub new_digest_by : {K : Kinds} → Way K → WalkedTree → Relabelling K → (ℕ → Bool) → State K
+    → ℕ
     → Option K.Digest
 new_digest_by {K} way t r walk s d =
     if t.is_directory d && walk d && way.counts_as_whole t r d && way.renews_in r
@@ -36,17 +41,19 @@ new_digest_by {K} way t r walk s d =
     else way.left_over (s.digests d) (not r.dry && above_change t r walk s.labels d)
 
 -- what is left after a run, and after all of the runs, in this way
-abbrev pub leaves_by : {K : Kinds} → Way K → Tree → Run K → (ℕ → Bool) → State K → State K
+abbrev pub leaves_by : {K : Kinds} → Way K → WalkedTree → Relabelling K → (ℕ → Bool) → State K
+    → State K
 leaves_by way t r walk s =
     record {
-      labels = λ g. if r.dry then s.labels g else new_label t r walk s.labels g;
+      labels = λ g. if r.dry then s.labels g else new_label_in t r walk s.labels g;
       digests = new_digest_by way t r walk s;
     }
 
-abbrev pub after_all_by : {K : Kinds} → Way K → Tree → State K → List (Run K) → State K
+abbrev pub after_all_by : {K : Kinds} → Way K → WalkedTree → State K → List (Relabelling K)
+    → State K
 after_all_by way t s [] = s
 after_all_by way t s (r ∷ runs) =
-    after_all_by way t (leaves_by way t r (walked t r (skip_by way t r s)) s) runs
+    after_all_by way t (leaves_by way t r (walked_in t r (skip_by way t r s)) s) runs
 
 -- Labels, contexts, listings and digests are numbers.
 abbrev pub numbers_by : (ℕ → ℕ) → Kinds
@@ -72,10 +79,10 @@ numbers = numbers_by itself
 -- There are runs from a state without digests that meet all that is asked of runs, and some group
 -- has another label after them, in this way, than after the same runs with skipping off.
 pub record Breaks (way : Way numbers) : Type 0 where
-  pub t : Tree
-  pub runs : List (Run numbers)
+  pub t : WalkedTree
+  pub runs : List (Relabelling numbers)
   pub s : State numbers
-  pub are_runs : AreRuns t (HasRun runs)
+  pub are_runs : AreRelabellings t (HasRelabelling runs)
   pub bare : IsBare s
   pub group : ℕ
   pub other : (after_all_by way t s runs).labels group ≢ (after_all_off t s runs).labels group
@@ -105,26 +112,27 @@ zero_counts = record (right_way numbers) { counts_as_current = equal_digest }
 
 -- as the right way, but a dry run stores digests
 abbrev pub dry_renews : Way numbers
-dry_renews = record (right_way numbers) { renews_in = digests_in }
+dry_renews = record (right_way numbers) { renews_in = digests_used }
 
 -- runs that meet all that is asked, of which the second skips a directory
 pub record Happens : Type 0 where
-  pub t : Tree
-  pub first : Run numbers
-  pub second : Run numbers
+  pub t : WalkedTree
+  pub first : Relabelling numbers
+  pub second : Relabelling numbers
   pub s : State numbers
-  pub are_runs : AreRuns t (HasRun (first ∷ second ∷ []))
+  pub are_runs : AreRelabellings t (HasRelabelling (first ∷ second ∷ []))
   pub bare : IsBare s
   pub directory : ℕ
-  pub skips_it : skippable t second (after t s first) directory ≡ true
+  pub skips_it : skippable_in t second (after t s first) directory ≡ true
 
 -- There are runs of which this much is true, and some group has another label after them than with
 -- skipping off.
-pub record Differ (K : Kinds) (Asked : Tree → (Run K → Type 0) → State K → Type 0) : Type 0 where
-  pub t : Tree
-  pub runs : List (Run K)
+pub record Differ (K : Kinds) (Asked : WalkedTree → (Relabelling K → Type 0) → State K
+    → Type 0) : Type 0 where
+  pub t : WalkedTree
+  pub runs : List (Relabelling K)
   pub s : State K
-  pub asked : Asked t (HasRun runs) s
+  pub asked : Asked t (HasRelabelling runs) s
   pub group : ℕ
   pub other : (after_all t s runs).labels group ≢ (after_all_off t s runs).labels group
 

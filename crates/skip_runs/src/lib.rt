@@ -1,28 +1,34 @@
-//! Runs that relabel one tree, and why skipping directories by their digests changes no label. The functions do
-//! nothing: their contracts are laws on the definitions of `specs/`, which are read in the order `Relabel`,
-//! `Skipping`, `Ways`.
+//! Runs that relabel one tree, and why skipping directories by their digests changes no label. The
+//! functions do nothing: their contracts are laws on the definitions of `specs/`, which are read in
+//! the order `Relabel`, `Skipping`, `Ways`.
 //!
-//! A tree, its runs and its states are plain functions here. What labels, listings and digests are is left open, so
-//! that a crate above says it of its own.
+//! A tree, its runs and its states are plain functions here. What labels, listings and digests are
+//! is left open, so that a crate above says it of its own.
 #![tactic(auto)]
 
 ghost use Rattle.skip_runs.specs.Relabel.{HoldsOf};
-ghost use Rattle.skip_runs.specs.Skipping.{AlikeStaysAlike, OneMoreKeepsLabels, SkippingKeepsLabels};
-ghost use Rattle.skip_runs.specs.Ways.{Breaks, DifferByClash, DifferByClosed, DifferByListings, DifferByOldDigests, DifferByUnsettled, Happens, dry_renews, left_standing, names_outside, numbers, right_way, with_exclusions, zero_counts};
+ghost use Rattle.skip_runs.specs.Skipping.{AlikeStaysAlike, OneMoreKeepsLabels};
+ghost use Rattle.skip_runs.specs.Skipping.{SkippingKeepsLabelsOf};
+ghost use Rattle.skip_runs.specs.Ways.{Breaks, DifferByClash, DifferByClosed, DifferByListings};
+ghost use Rattle.skip_runs.specs.Ways.{DifferByOldDigests, DifferByUnsettled, Happens, dry_renews};
+ghost use Rattle.skip_runs.specs.Ways.{left_standing, names_outside, numbers, right_way};
+ghost use Rattle.skip_runs.specs.Ways.{with_exclusions, zero_counts};
 
 /// From a state without digests, runs leave the labels that the same runs leave with skipping off.
 ///
-/// Each run may skip, store digests, be dry, or none of these, and has entries that it is asked for, decisions,
-/// listings, a way to change labels and directories that it takes as closed of its own. Asked of the runs: a label
-/// that was given is kept where the same is wanted; each group that has a name in the extent of a directory which a
-/// run takes as closed lies in it; runs with equal listings of a directory decide the same in its extent, and change
-/// labels alike; and no two listings that are digested differ and have one digest. Nothing is asked of the tree.
+/// Each run may skip, store digests, be dry, or none of these, and has entries that it is asked
+/// for, decisions, listings, a way to change labels and directories that it takes as closed of its
+/// own. Asked of the runs: a label that was given is kept where the same is wanted; each group that
+/// has a name in the extent of a directory which a run takes as closed lies in it; runs with equal
+/// listings of a directory decide the same in its extent, and change labels alike; and no two
+/// listings that are digested differ and have one digest. Nothing is asked of the tree.
 pub fn skipping_keeps_labels<Label, Context, Listing, Digest>()
-    ensures { HoldsOf SkippingKeepsLabels Label Context Listing Digest }
+    ensures { HoldsOf SkippingKeepsLabelsOf Label Context Listing Digest }
 {}
 
-/// After runs that began without digests, one more run leaves the labels that all of them leave with skipping off. Of
-/// the state before it only the labels of the tree's groups and the digests of its directories are asked.
+/// After runs that began without digests, one more run leaves the labels that all of them leave
+/// with skipping off. Of the state before it only the labels of the tree's groups and the digests
+/// of its directories are asked.
 pub fn one_more_run_keeps_labels<Label, Context, Listing, Digest>()
     ensures { HoldsOf OneMoreKeepsLabels Label Context Listing Digest }
 {}

@@ -13,7 +13,8 @@ pub record Carrying : Type 0 where
   pub alive : List Alive
   pub is_root : Bool
 
--- the list is that of the specifications that are alive behind the text of a path, where that path is `/` or isn't
+-- the list is that of the specifications that are alive behind the text of a path, where that path
+-- is `/` or isn't
 abbrev pub IsAliveAt : List Rule → Bool → List Alive → Path → Type 0
 IsAliveAt rules is_root list path =
     (is_root ≡ is_root_path path)

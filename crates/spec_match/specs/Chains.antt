@@ -1,5 +1,7 @@
--- Specifications by the bytes that every text of their pattern begins with: a chain for each bucket of hashes.
-use Rattle.std.specs.Prelude.{◌≡◌, ℕ, suc, ◌+◌, ◌*◌, ◌%◌, ◌<◌, ◌==◌, ◌&&◌, Bool, false, List, [], ◌∷◌, length, map, Option, Some, None, slice_get, slice_index}
+-- Specifications by the bytes that every text of their pattern begins with: a chain for each bucket
+-- of hashes.
+use Rattle.std.specs.Prelude.{◌≡◌, ℕ, suc, ◌+◌, ◌*◌, ◌%◌, ◌<◌, ◌==◌, ◌&&◌, Bool, false, List, []}
+use Rattle.std.specs.Prelude.{◌∷◌, length, map, Option, Some, None, slice_get, slice_index}
 use Rattle.label_base.specs.Bounded.{greatest_below}
 use Rattle.label_base.specs.declared.kind.Asked.{Asked}
 use Rattle.pattern_syntax.specs.Literal.{literal_start_of}
@@ -32,19 +34,20 @@ bucket_of count text = hashed 0 text % count
 abbrev pub own_bucket : List Rule → ℕ → ℕ → ℕ
 own_bucket rules count i = bucket_of count (literal_start_of (pattern_at (patterns_of rules) i))
 
-abbrev pub is_in : List Rule → ℕ → ℕ → ℕ → Bool
-is_in rules count bucket i = own_bucket rules count i == bucket
+abbrev pub is_in_bucket : List Rule → ℕ → ℕ → ℕ → Bool
+is_in_bucket rules count bucket i = own_bucket rules count i == bucket
 
--- of the first n specifications, each bucket leads to its last one, and each of them to the one before it in its bucket
+-- of the first n specifications, each bucket leads to its last one, and each of them to the one
+-- before it in its bucket
 pub record AreChained (rules : List Rule) (count n : ℕ) (heads previous : List ℕ) : Type 0 where
   pub some : 0 < count
   pub buckets : length heads ≡ count
   pub all : length previous ≡ n
   pub last : (b : ℕ) → b < count
-      → slice_index heads b ≡ link (greatest_below n (is_in rules count b))
+      → slice_index heads b ≡ link (greatest_below n (is_in_bucket rules count b))
   pub before : (i : ℕ) → i < n
       → slice_index previous i
-      ≡ link (greatest_below i (is_in rules count (own_bucket rules count i)))
+      ≡ link (greatest_below i (is_in_bucket rules count (own_bucket rules count i)))
 
 -- the starts are those of the specifications
 abbrev pub AreStartsOf : List Rule → Starts → Type 0

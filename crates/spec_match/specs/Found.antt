@@ -1,11 +1,12 @@
 -- How the specifications that can decide at or below a path are found: by the bytes that the texts
 -- of their patterns begin with.
-use Rattle.std.specs.Prelude.{◌≡◌, ℕ, ◌+◌, ◌<◌, ◌%◌, true, List, [], ◌∷◌, ◌++◌, length, map, Some, slice_get}
+use Rattle.std.specs.Prelude.{◌≡◌, ℕ, ◌+◌, ◌<◌, ◌%◌, true, List, [], ◌∷◌, ◌++◌, length, map, Some}
+use Rattle.std.specs.Prelude.{slice_get}
 use Rattle.std.specs.List.{Contains}
 use Rattle.file_paths.specs.Path.{Path, path_text}
 use Rattle.pattern_syntax.specs.Literal.{literal_start_of}
 use Rattle.spec_match.specs.Alive.{pattern_at}
-use Rattle.spec_match.specs.Chains.{is_in, starts_at}
+use Rattle.spec_match.specs.Chains.{is_in_bucket, starts_at}
 use Rattle.spec_match.specs.Fronts.{front_key}
 use Rattle.spec_match.specs.Relevant.{can_decide}
 use Rattle.spec_match.specs.StatesFor.{patterns_of, spec_in}
@@ -44,7 +45,8 @@ IsAddedFrom path rules at i =
 abbrev pub AreAddedIn : Path → List Rule → ℕ → ℕ → ℕ → List ℕ → List ℕ → Type 0
 AreAddedIn path rules count bucket at =
     IsAdded path (map spec_in rules)
-    (λ j. (j < length rules) × (is_in rules count bucket j ≡ true) × (starts_at rules at j ≡ true))
+    (λ j. (j < length rules) × (is_in_bucket rules count bucket j ≡ true)
+    × (starts_at rules at j ≡ true))
 
 -- those with whose literal start a text begins
 abbrev pub AreAddedAbove : Path → List Rule → List ℕ → List ℕ → List ℕ → Type 0

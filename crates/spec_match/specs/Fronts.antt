@@ -1,6 +1,7 @@
 -- The fronts of literal starts that end with a slash, each as its hash and the index of its
 -- specification.
-use Rattle.std.specs.Prelude.{◌≡◌, ℕ, ◌+◌, ◌*◌, ◌==◌, Bool, true, List, [], ◌∷◌, ◌++◌, if◌then◌else◌}
+use Rattle.std.specs.Prelude.{◌≡◌, ℕ, ◌+◌, ◌*◌, ◌==◌, Bool, true, List, [], ◌∷◌, ◌++◌}
+use Rattle.std.specs.Prelude.{if◌then◌else◌}
 use Rattle.std.specs.List.Sorted.{IsNonDecreasing, IsPermutation}
 use Rattle.file_paths.specs.declared.path.TheConstants.{SLASH}
 use Rattle.pattern_syntax.specs.Literal.{literal_start_of}

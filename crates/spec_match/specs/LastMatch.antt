@@ -1,5 +1,6 @@
 -- The specification that decides: the last one that applies and whose language holds the text.
-use Rattle.std.specs.Prelude.{◌≡◌, ◌<◌, ℕ, Bool, true, ◌&&◌, List, Option, Some, None, filter, map, slice_get}
+use Rattle.std.specs.Prelude.{◌≡◌, ◌<◌, ℕ, Bool, true, ◌&&◌, List, Option, Some, None, filter, map}
+use Rattle.std.specs.Prelude.{slice_get}
 use Rattle.std.specs.List.{enumerate_from, last_or}
 use Rattle.label_base.specs.Kind.{applies}
 use Rattle.label_base.specs.declared.kind.Asked.{Asked}

@@ -1,12 +1,13 @@
--- The lists of a table. Where a specification decides whatever text goes on with the bytes that were read, none before it
--- need be listed.
+-- The lists of a table. Where a specification decides whatever text goes on with the bytes that
+-- were read, none before it need be listed.
 use Rattle.std.specs.Prelude.{◌≡◌, ℕ, ◌⊎◌, ◌++◌, Bool, true, List, length, Some, None, slice_get}
 use Rattle.pattern_match.specs.Onwards.{AreTextBytes, TakesAll}
 use Rattle.pattern_syntax.specs.Tree.{Tree}
 use Rattle.spec_match.specs.Alive.{Alive, AreAliveFrom}
 use Rattle.spec_reader.specs.SpecValue.{SpecValue}
 
--- the specification of an index fits the text and each text that begins with it, whatever kind is asked for
+-- the specification of an index fits the text and each text that begins with it, whatever kind is
+-- asked for
 pub record Covers (specs : List SpecValue) (text : List ℕ) (i : ℕ) : Type 0 where
   pub spec : SpecValue
   pub found : slice_get specs i ≡ Some spec

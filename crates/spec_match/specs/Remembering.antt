@@ -1,6 +1,8 @@
--- What look-ups remember. An entry that is 0 is not known, and any other is right behind every text for which its list
--- is.
-use Rattle.std.specs.Prelude.{◌≡◌, ℕ, zero, suc, ◌+◌, ◌*◌, ◌/◌, ◌%◌, ◌<◌, Bool, false, true, List, [], ◌∷◌, ◌++◌, Option, Some, None, IfSome, length, option_and_then, replicate, slice_get, slice_index}
+-- What look-ups remember. An entry that is 0 is not known, and any other is right behind every text
+-- for which its list is.
+use Rattle.std.specs.Prelude.{◌≡◌, ℕ, zero, suc, ◌+◌, ◌*◌, ◌/◌, ◌%◌, ◌<◌, Bool, false, true, List}
+use Rattle.std.specs.Prelude.{[], ◌∷◌, ◌++◌, Option, Some, None, IfSome, length, option_and_then}
+use Rattle.std.specs.Prelude.{replicate, slice_get, slice_index}
 use Rattle.std.specs.List.{All, slice_index_or}
 use Rattle.label_base.specs.declared.kind.Asked.{Asked}
 use Rattle.label_base.specs.declared.kind.Asked.TheVariants.{Any, Of}
@@ -8,14 +10,14 @@ use Rattle.label_base.specs.declared.kind.EntryKind.TheVariants as kind
 use Rattle.label_base.specs.Kind.{kind_number}
 use Rattle.pattern_syntax.specs.Tree.{Tree}
 use Rattle.spec_reader.specs.SpecValue.{SpecValue}
-use Rattle.spec_match.specs.Alive.{Alive, AreAlive, IsOwn, LeadsBy, list_of}
+use Rattle.spec_match.specs.Alive.{Alive, AreAlive, IsOwn, LeadsBy, alive_list}
 use Rattle.spec_match.specs.Listed.{IsListed, Stays}
 use Rattle.spec_match.specs.Written.{Written}
 use Rattle.spec_match.specs.LastMatch.{Decides, last_index, last_match}
 
--- whether lists are cut; those that were reached; for each of them and each byte the number of the list to which the byte
--- leads; for each of them and each kind that may be asked for one more than the code of the answer; whether whatever
--- follows leaves it as it is, as far as that is known
+-- whether lists are cut; those that were reached; for each of them and each byte the number of the
+-- list to which the byte leads; for each of them and each kind that may be asked for one more than
+-- the code of the answer; whether whatever follows leaves it as it is, as far as that is known
 pub record Kept : Type 0 where
   pub cuts : Bool
   pub lists : List (List Alive)
@@ -47,7 +49,7 @@ pub record HasStep (IsFor : List ℕ → List Alive → Type 0) (lists : List (L
     (from byte to : ℕ) : Type 0 where
   pub from_within : from < length lists
   pub to_within : to < length lists
-  pub leads : LeadsBy IsFor (byte ∷ []) (list_of lists from) (list_of lists to)
+  pub leads : LeadsBy IsFor (byte ∷ []) (alive_list lists from) (alive_list lists to)
 
 abbrev pub IsStep : (List ℕ → List Alive → Type 0) → List (List Alive) → ℕ → ℕ → Type 0
 IsStep IsFor lists p v = HasStep IsFor lists (p / 256) (p % 256) (suc v)
@@ -56,16 +58,16 @@ abbrev pub asked_number : Asked → ℕ
 asked_number Any = 0
 asked_number (Of k) = kind_number k + 1
 
-abbrev pub asked_of : ℕ → Asked
-asked_of zero = Any
-asked_of (suc zero) = Of kind.Regular
-asked_of (suc (suc zero)) = Of kind.Directory
-asked_of (suc (suc (suc zero))) = Of kind.Link
-asked_of (suc (suc (suc (suc zero)))) = Of kind.Pipe
-asked_of (suc (suc (suc (suc (suc zero))))) = Of kind.Socket
-asked_of (suc (suc (suc (suc (suc (suc zero)))))) = Of kind.Block
-asked_of (suc (suc (suc (suc (suc (suc (suc zero))))))) = Of kind.Char
-asked_of (suc (suc (suc (suc (suc (suc (suc (suc n)))))))) = Of kind.Other
+abbrev pub asked_numbered : ℕ → Asked
+asked_numbered zero = Any
+asked_numbered (suc zero) = Of kind.Regular
+asked_numbered (suc (suc zero)) = Of kind.Directory
+asked_numbered (suc (suc (suc zero))) = Of kind.Link
+asked_numbered (suc (suc (suc (suc zero)))) = Of kind.Pipe
+asked_numbered (suc (suc (suc (suc (suc zero))))) = Of kind.Socket
+asked_numbered (suc (suc (suc (suc (suc (suc zero)))))) = Of kind.Block
+asked_numbered (suc (suc (suc (suc (suc (suc (suc zero))))))) = Of kind.Char
+asked_numbered (suc (suc (suc (suc (suc (suc (suc (suc n)))))))) = Of kind.Other
 
 -- what a look-up answers
 pub record IsAnswer (asked : Asked) (text : List ℕ) (specs : List SpecValue) (found : Option ℕ)
@@ -82,26 +84,27 @@ decoded (suc i) = Some i
 pub record HasAnswer (IsFor : List ℕ → List Alive → Type 0) (specs : List SpecValue)
     (lists : List (List Alive)) (number asked code : ℕ) : Type 0 where
   pub within : number < length lists
-  pub told : (text : List ℕ) → IsFor text (list_of lists number)
-      → IsAnswer (asked_of asked) text specs (decoded code)
+  pub told : (text : List ℕ) → IsFor text (alive_list lists number)
+      → IsAnswer (asked_numbered asked) text specs (decoded code)
 
-abbrev pub IsNoted : (List ℕ → List Alive → Type 0) → List SpecValue → List (List Alive)
+abbrev pub IsListNoted : (List ℕ → List Alive → Type 0) → List SpecValue → List (List Alive)
     → ℕ → ℕ → Type 0
-IsNoted IsFor specs lists p v = HasAnswer IsFor specs lists (p / 9) (p % 9) v
+IsListNoted IsFor specs lists p v = HasAnswer IsFor specs lists (p / 9) (p % 9) v
 
 -- each list of which it is told stays
 abbrev pub AreStaying : (List ℕ → List Alive → Type 0) → List (List Alive) → List Bool → Type 0
 AreStaying IsFor lists row =
-    (i : ℕ) → i < length lists → slice_index_or row i false ≡ true → Stays IsFor (list_of lists i)
+    (i : ℕ) → i < length lists → slice_index_or row i false ≡ true
+    → Stays IsFor (alive_list lists i)
 
 -- list 0 has all specifications, and what is remembered is right
 pub record IsTableOf (patterns : List Tree) (specs : List SpecValue) (k : Kept) : Type 0 where
-  pub own : (i : ℕ) → i < length k.lists → All (IsOwn patterns) (list_of k.lists i)
-  pub first : 0 < length k.lists → AreAlive patterns [] (length patterns) (list_of k.lists 0)
+  pub own : (i : ℕ) → i < length k.lists → All (IsOwn patterns) (alive_list k.lists i)
+  pub first : 0 < length k.lists → AreAlive patterns [] (length patterns) (alive_list k.lists 0)
   pub rows : length k.next ≡ 256 * length k.lists
   pub answer_rows : length k.answers ≡ 9 * length k.lists
   pub steps : Remembers (IsStep (IsListed k.cuts patterns specs) k.lists) k.next
-  pub answers : Remembers (IsNoted (IsListed k.cuts patterns specs) specs k.lists) k.answers
+  pub answers : Remembers (IsListNoted (IsListed k.cuts patterns specs) specs k.lists) k.answers
   pub stays_rows : length k.stays ≡ length k.lists
   pub stays : AreStaying (IsListed k.cuts patterns specs) k.lists k.stays
 

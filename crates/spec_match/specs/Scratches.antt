@@ -31,7 +31,7 @@ pub record Room : Type 0 where
   pub are_made : Bool
   pub fronts : List ℕ
 
-pub record IsReady (patterns : List Tree) (specs : List SpecValue) (room : Room)
+pub record IsRoomReady (patterns : List Tree) (specs : List SpecValue) (room : Room)
     : Type 0 where
   pub states : AreStatesFor patterns room.states
   pub table : IsTableReady patterns specs room.table
@@ -41,4 +41,4 @@ pub record IsReady (patterns : List Tree) (specs : List SpecValue) (room : Room)
 
 -- the scratch was made for this list
 unfoldable pub IsScratchOf : List SpecValue → Room → Type 0
-IsScratchOf specs room = IsReady (map pattern_in specs) specs room
+IsScratchOf specs room = IsRoomReady (map pattern_in specs) specs room

@@ -5,16 +5,16 @@ use Rattle.pattern_match.specs.Onwards.{TakesAll}
 use Rattle.pattern_match.specs.States.{AreStatesOf, Progress, StandsFor}
 use Rattle.pattern_syntax.specs.Language.{Opens}
 use Rattle.pattern_syntax.specs.Tree.{Tree}
-use Rattle.spec_match.specs.Alive.{Alive, IsOwn, alive, list_of, wanted}
+use Rattle.spec_match.specs.Alive.{Alive, IsOwn, alive, alive_list, wanted_byte}
 use Rattle.spec_reader.specs.SpecValue.{SpecValue}
 
 abbrev pub AreOwnLists : List Tree → List (List Alive) → Type 0
-AreOwnLists patterns lists = (i : ℕ) → i < length lists → All (IsOwn patterns) (list_of lists i)
+AreOwnLists patterns lists = (i : ℕ) → i < length lists → All (IsOwn patterns) (alive_list lists i)
 
 -- the specification was written with states before the first byte of a text
 pub record IsBegun (pattern : Tree) (index : ℕ) (old new : List Alive) : Type 0 where
   pub states : Progress
-  pub more : new ≡ old ++ alive index states (wanted pattern states) ∷ []
+  pub more : new ≡ old ++ alive index states (wanted_byte pattern states) ∷ []
   pub made : AreStatesOf pattern states
   pub stands : StandsFor pattern states []
 
@@ -26,17 +26,17 @@ pub record IsDropped (pattern : Tree) (tail : List ℕ) (one : Alive) (old new :
       → Opens pattern (text ++ tail) → ⊥
 
 -- the specification was written with states that stand for these bytes more
-pub record IsWritten (pattern : Tree) (tail : List ℕ) (one : Alive) (old new : List Alive)
+pub record IsStepWritten (pattern : Tree) (tail : List ℕ) (one : Alive) (old new : List Alive)
     : Type 0 where
   pub states : Progress
-  pub more : new ≡ old ++ alive one.index states (wanted pattern states) ∷ []
+  pub more : new ≡ old ++ alive one.index states (wanted_byte pattern states) ∷ []
   pub made : AreStatesOf pattern states
   pub stands : (text : List ℕ) → StandsFor pattern one.states text
       → StandsFor pattern states (text ++ tail)
 
 abbrev pub GoesOn : Tree → List ℕ → Alive → List Alive → List Alive → Type 0
 GoesOn pattern tail one old new =
-    IsDropped pattern tail one old new ⊎ IsWritten pattern tail one old new
+    IsDropped pattern tail one old new ⊎ IsStepWritten pattern tail one old new
 
 -- a list that may be cut ends at the specification: behind the bytes it fits whatever text follows
 pub record IsEnd (cuts : Bool) (spec : SpecValue) (tail : List ℕ) (one : Alive) : Type 0 where

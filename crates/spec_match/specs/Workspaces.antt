@@ -1,6 +1,6 @@
 -- What a scratch has, as contracts see it.
 use Rattle.std.specs.Prelude.{List, map}
-use Rattle.spec_match.specs.Scratches.{IsReady, Remembered, Room}
+use Rattle.spec_match.specs.Scratches.{IsRoomReady, Remembered, Room}
 use Rattle.spec_match.specs.StatesFor.{patterns_of, spec_in}
 use Rattle.spec_match.specs.Tables.{kept_in}
 use Rattle.spec_match.specs.Trail.{trace_in}
@@ -23,4 +23,4 @@ room_in w = record {
 
 -- look-ups in these specifications may work in it
 abbrev pub IsWorkspaceFor : List Rule → Workspace → Type 0
-IsWorkspaceFor rules w = IsReady (patterns_of rules) (map spec_in rules) (room_in w)
+IsWorkspaceFor rules w = IsRoomReady (patterns_of rules) (map spec_in rules) (room_in w)

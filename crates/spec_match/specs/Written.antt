@@ -10,19 +10,19 @@ pub record Written : Type 0 where
   pub lists : List (List Alive)
   pub draft : List Alive
 
-abbrev pub written : List (List Alive) → List Alive → Written
-written lists draft = record { lists = lists; draft = draft }
+abbrev pub lists_written : List (List Alive) → List Alive → Written
+lists_written lists draft = record { lists = lists; draft = draft }
 
 abbrev pub list_at : List Alive → Span → List Alive
 list_at members span = take span.len (drop span.start members)
 
 abbrev pub written_in : Inside → Written
-written_in l = written (map (list_at l.members) l.spans.items) (drop l.done l.members)
+written_in l = lists_written (map (list_at l.members) l.spans.items) (drop l.done l.members)
 
-abbrev pub IsWithin : ℕ → Span → Type 0
-IsWithin done span = span.start + span.len ≤ done
+abbrev pub IsSpanWithin : ℕ → Span → Type 0
+IsSpanWithin done span = span.start + span.len ≤ done
 
 -- the complete lists lie among the members that are done
-pub record AreWritten (l : Inside) : Type 0 where
-  pub within : AllByRecursion (IsWithin l.done) l.spans.items
+pub record AreListsWritten (l : Inside) : Type 0 where
+  pub within : AllByRecursion (IsSpanWithin l.done) l.spans.items
   pub done : l.done ≤ length l.members

@@ -1,6 +1,6 @@
 ghost use Rattle.std.specs.Prelude.{◌≡◌, ◌<◌, ℕ, Bool, List, length, map};
 ghost use Rattle.pattern_match.specs.States.{AreStatesOf, StandsFor};
-ghost use Rattle.spec_match.specs.Alive.{alive_at, list_of};
+ghost use Rattle.spec_match.specs.Alive.{alive_at, alive_list};
 ghost use Rattle.spec_match.specs.Listed.{IsListed};
 ghost use Rattle.spec_match.specs.LastMatch.{fits};
 ghost use Rattle.spec_match.specs.Remembering.{IsAnswer, asked_number};
@@ -23,7 +23,8 @@ pub fn asked_number(asked: Asked) -> usize
     }
 }
 
-// Whether the specification at a place of a list applies, and its language holds the text that was read.
+// Whether the specification at a place of a list applies, and its language holds the text that was
+// read.
 fn does_fit(
     lists: &Lists,
     rule: &Rule,
@@ -33,20 +34,21 @@ fn does_fit(
     asked: Asked,
 ) -> bool
     requires list { list < length lists.now.lists }
-    requires within { k < length (list_of lists.now.lists list) }
+    requires within { k < length (alive_list lists.now.lists list) }
     requires made { AreStatesOf rule.now.spec.pattern states.old }
     requires kept { AreStatesOf rule.now.spec.pattern
-        (alive_at (list_of lists.now.lists list) k).states }
+        (alive_at (alive_list lists.now.lists list) k).states }
     ensures made { AreStatesOf rule.now.spec.pattern states.new }
     ensures value { (text : List ℕ)
-        → StandsFor rule.now.spec.pattern (alive_at (list_of lists.now.lists list) k).states text
+        → StandsFor rule.now.spec.pattern (alive_at (alive_list lists.now.lists list) k).states text
         → result ≡ fits asked text rule.now.spec }
 {
     lists.load(list, k, states);
     rule.fits_read(states, asked)
 }
 
-/// The first specification of a list that fits. The list goes from the last one back, so it is the last match.
+/// The first specification of a list that fits. The list goes from the last one back, so it is the
+/// last match.
 pub fn first_fit(
     lists: &Lists,
     rules: &[Rule],
@@ -60,7 +62,7 @@ pub fn first_fit(
     ensures states { AreStatesFor (patterns_of rules.now) states.new.items }
     ensures told { (cuts : Bool) (text : List ℕ)
         → IsListed cuts (patterns_of rules.now) (map spec_in rules.now) text
-        (list_of lists.now.lists list)
+        (alive_list lists.now.lists list)
         → IsAnswer asked text (map spec_in rules.now) result }
 {
     'alive: for k in 0..lists.list_len(list) {

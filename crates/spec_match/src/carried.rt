@@ -14,8 +14,9 @@ use std::alloc::Global;
 use std::marker::Model;
 use std::sync::ledger::Ledger;
 
-/// What is carried down a tree to a directory: which specifications of a [`RuleSet`] are alive behind its path, with the
-/// states of their patterns. It stands for a path, which isn't kept, and what lies directly below is looked up by its name.
+/// What is carried down a tree to a directory: which specifications of a [`RuleSet`] are alive
+/// behind its path, with the states of their patterns. It stands for a path, which isn't kept, and
+/// what lies directly below is looked up by its name.
 #[derive(Drop)]
 pub struct Carried {
     // Alive behind the path's text, which for `/` is a slash.
@@ -63,7 +64,8 @@ impl Carried {
         })
     }
 
-    /// What [`RuleSet::last_match`] finds for a child of the path. It takes no memory, and counts one step.
+    /// What [`RuleSet::last_match`] finds for a child of the path. It takes no memory, and counts
+    /// one step.
     pub fn last_match<L: Ledger>(
         &self,
         rules: &RuleSet,

@@ -1,4 +1,5 @@
-ghost use Rattle.std.specs.Prelude.{◌≡◌, ◌<◌, ◌^◌, ◌++◌, ◌∷◌, [], false, IfOk, IfSome, OnOk, length, map};
+ghost use Rattle.std.specs.Prelude.{◌≡◌, ◌<◌, ◌^◌, ◌++◌, ◌∷◌, [], false, IfOk, IfSome, OnOk};
+ghost use Rattle.std.specs.Prelude.{length, map};
 ghost use Rattle.std.specs.List.{All};
 ghost use Rattle.file_paths.specs.Path.{Path, path_text};
 ghost use Rattle.pattern_match.specs.States.{AreStatesOf, StandsFor};
@@ -113,8 +114,8 @@ pub fn enter(
     go_on(alloc, rules, &below, name)
 }
 
-// Whether a specification fits the text of a child of the path for which its states are. It counts as tried where the
-// whole text can be read.
+// Whether a specification fits the text of a child of the path for which its states are. It counts
+// as tried where the whole text can be read.
 fn does_fit_child(
     rule: &Rule,
     states: &mut States,
@@ -136,8 +137,8 @@ fn does_fit_child(
     rule.fits_read(states, asked)
 }
 
-/// The first member of a list that fits the text of a child of the path for which the list is. The list goes from the
-/// last one back, so it is the last match.
+/// The first member of a list that fits the text of a child of the path for which the list is. The
+/// list goes from the last one back, so it is the last match.
 pub fn first_child_fit(
     rules: &[Rule],
     states: &mut Vec<States>,
@@ -185,7 +186,8 @@ fn can_member_decide(
     Ok(rule.can_decide_behind(&mut states, is_root))
 }
 
-/// The indices of the members of a list that can decide at or below the path for which it is, in ascending order.
+/// The indices of the members of a list that can decide at or below the path for which it is, in
+/// ascending order.
 pub fn relevant_members(
     alloc: Global,
     rules: &[Rule],

@@ -1,6 +1,6 @@
 ghost use Rattle.std.specs.Prelude.{◌≡◌, ◌<◌, ◌++◌, ◌∷◌, [], true, IfOk, length, if◌then◌else◌};
-ghost use Rattle.spec_match.specs.Alive.{WantsOther, alive, alive_at, list_of};
-ghost use Rattle.spec_match.specs.Written.{written};
+ghost use Rattle.spec_match.specs.Alive.{WantsOther, alive, alive_at, alive_list};
+ghost use Rattle.spec_match.specs.Written.{lists_written};
 
 use crate::members::{Members, have_same};
 use label_base::OutOfMemory;
@@ -15,7 +15,8 @@ pub struct Span {
     len: usize,
 }
 
-/// Lists of specifications that are alive, and one that is being written, in memory that was reserved for them.
+/// Lists of specifications that are alive, and one that is being written, in memory that was
+/// reserved for them.
 #[derive(Drop)]
 pub struct Lists {
     members: Members,
@@ -50,14 +51,15 @@ fn hash_of(hash: u64, members: &Members, k: usize) -> u64
 }
 
 impl Lists {
-    /// No lists, with room for so many, for so many members of all of them, and so many words of marks.
+    /// No lists, with room for so many, for so many members of all of them, and so many words of
+    /// marks.
     pub fn new(
         alloc: Global,
         lists: usize,
         members: usize,
         words: usize,
     ) -> Result<Lists, OutOfMemory>
-        ensures { IfOk result (λ lists. lists ≡ written [] []) }
+        ensures { IfOk result (λ lists. lists ≡ lists_written [] []) }
     {
         Ok(Lists {
             members: Members::new(alloc, members, words)?,
@@ -81,7 +83,7 @@ impl Lists {
     /// How many specifications a list has.
     pub fn list_len(&self, i: usize) -> usize
         requires { i < length self.now.lists }
-        ensures { result ≡ length (list_of self.now.lists i) }
+        ensures { result ≡ length (alive_list self.now.lists i) }
     {
         self.spans[i].len
     }
@@ -89,18 +91,19 @@ impl Lists {
     /// Which specification is at a place of a list.
     pub fn index(&self, i: usize, k: usize) -> usize
         requires list { i < length self.now.lists }
-        requires within { k < length (list_of self.now.lists i) }
-        ensures { result ≡ (alive_at (list_of self.now.lists i) k).index }
+        requires within { k < length (alive_list self.now.lists i) }
+        ensures { result ≡ (alive_at (alive_list self.now.lists i) k).index }
     {
         let _ = self.members.len();
         self.members.index(self.spans[i].start + k)
     }
 
-    /// Whether the literal start of the specification at a place of a list goes on with another byte.
+    /// Whether the literal start of the specification at a place of a list goes on with another
+    /// byte.
     pub fn wants_other(&self, i: usize, k: usize, byte: u8) -> bool
         requires list { i < length self.now.lists }
-        requires within { k < length (list_of self.now.lists i) }
-        ensures { result ≡ true → WantsOther (alive_at (list_of self.now.lists i) k) byte }
+        requires within { k < length (alive_list self.now.lists i) }
+        ensures { result ≡ true → WantsOther (alive_at (alive_list self.now.lists i) k) byte }
     {
         let _ = self.members.len();
         self.members.wants_other(self.spans[i].start + k, byte)
@@ -109,10 +112,10 @@ impl Lists {
     /// Makes states those at a place of a list.
     pub fn load(&self, i: usize, k: usize, states: &mut States)
         requires list { i < length self.now.lists }
-        requires within { k < length (list_of self.now.lists i) }
-        requires width { length (alive_at (list_of self.now.lists i) k).states.marks
+        requires within { k < length (alive_list self.now.lists i) }
+        requires width { length (alive_at (alive_list self.now.lists i) k).states.marks
             ≡ length states.old.marks }
-        ensures { states.new ≡ (alive_at (list_of self.now.lists i) k).states }
+        ensures { states.new ≡ (alive_at (alive_list self.now.lists i) k).states }
     {
         let _ = self.members.len();
         self.members.load(self.spans[i].start + k, states);
@@ -121,17 +124,18 @@ impl Lists {
     /// Writes a specification to the end of the list that is being written, where there is room.
     pub fn push(&mut self, index: usize, states: &States, wants: Option<u8>) -> bool
         ensures { self.new ≡ (if result
-            then written self.old.lists (self.old.draft ++ alive index states.now wants ∷ [])
+            then lists_written self.old.lists (self.old.draft ++ alive index states.now wants ∷ [])
             else self.old) }
     {
         self.members.push(index, states, wants)
     }
 
-    /// Completes the list that is being written, and begins the next. Where there is no room for it, it is lost.
+    /// Completes the list that is being written, and begins the next. Where there is no room for
+    /// it, it is lost.
     pub fn close(&mut self) -> bool
         ensures { self.new ≡ (if result
-            then written (self.old.lists ++ self.old.draft ∷ []) []
-            else written self.old.lists []) }
+            then lists_written (self.old.lists ++ self.old.draft ∷ []) []
+            else lists_written self.old.lists []) }
     {
         if self.spans.len() == self.spans.capacity() {
             self.members.truncate(self.done);
@@ -150,14 +154,14 @@ impl Lists {
 
     /// Begins the list that is being written anew.
     pub fn drop_draft(&mut self)
-        ensures { self.new ≡ written self.old.lists [] }
+        ensures { self.new ≡ lists_written self.old.lists [] }
     {
         self.members.truncate(self.done);
     }
 
     /// Forgets all lists. The room for them stays.
     pub fn clear(&mut self)
-        ensures { self.new ≡ written [] [] }
+        ensures { self.new ≡ lists_written [] [] }
     {
         self.spans.clear();
         self.members.truncate(0);
@@ -167,7 +171,7 @@ impl Lists {
     /// Whether a list is the one that is being written.
     pub fn is_draft(&self, i: usize) -> bool
         requires { i < length self.now.lists }
-        ensures { result ≡ true → list_of self.now.lists i ≡ self.now.draft }
+        ensures { result ≡ true → alive_list self.now.lists i ≡ self.now.draft }
     {
         let span = self.spans[i];
         if span.len != self.members.len() - self.done {

@@ -1,4 +1,5 @@
-ghost use Rattle.std.specs.Prelude.{◌≡◌, ◌<◌, ◌≤◌, ◌+◌, ◌++◌, ◌∷◌, [], true, IfOk, IfSome, OnOk, drop, length, take, if◌then◌else◌};
+ghost use Rattle.std.specs.Prelude.{◌≡◌, ◌<◌, ◌≤◌, ◌+◌, ◌++◌, ◌∷◌, [], true, IfOk, IfSome, OnOk};
+ghost use Rattle.std.specs.Prelude.{drop, length, take, if◌then◌else◌};
 ghost use Rattle.spec_match.specs.Alive.{WantsOther, alive, alive_at};
 
 use label_base::OutOfMemory;
@@ -6,8 +7,9 @@ use pattern_match::States;
 use std::alloc::Global;
 use std::marker::Model;
 
-/// A specification that is alive, where its marks stand among the words, how many bytes of its literal start were read, and
-/// which byte that wants next, where one is lacking. By that byte most members are dropped when a list is stepped.
+/// A specification that is alive, where its marks stand among the words, how many bytes of its
+/// literal start were read, and which byte that wants next, where one is lacking. By that byte most
+/// members are dropped when a list is stepped.
 #[derive(Clone, Copy)]
 pub struct Member {
     index: u32,
@@ -168,8 +170,8 @@ impl Members {
         true
     }
 
-    /// Adds a specification, and takes memory for it where there is no room. It may have none for an index or a number
-    /// of words past 32 bits, and for states past 16 bits.
+    /// Adds a specification, and takes memory for it where there is no room. It may have none for
+    /// an index or a number of words past 32 bits, and for states past 16 bits.
     pub fn add(
         &mut self,
         index: usize,

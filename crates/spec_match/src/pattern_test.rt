@@ -94,7 +94,8 @@ impl PatternTest {
         }
     }
 
-    /// Whether the language holds the text that was read and each text that begins with it. It may say false where it does.
+    /// Whether the language holds the text that was read and each text that begins with it. It may
+    /// say false where it does.
     pub fn takes_all(&self, pattern: &Pattern, states: &States) -> bool
         requires test { IsTestOf pattern.now self.now }
         requires own { AreStatesOf pattern.now states.now }
@@ -107,8 +108,8 @@ impl PatternTest {
         }
     }
 
-    /// Whether the states stand as well for the text with one more byte, whichever it is, other than 0. It may say false
-    /// where they do.
+    /// Whether the states stand as well for the text with one more byte, whichever it is, other
+    /// than 0. It may say false where they do.
     pub fn stays(&self, pattern: &Pattern, states: &States) -> bool
         requires test { IsTestOf pattern.now self.now }
         requires own { AreStatesOf pattern.now states.now }

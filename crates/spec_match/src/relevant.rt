@@ -1,8 +1,9 @@
-ghost use Rattle.std.specs.Prelude.{◌≡◌, ◌<◌, ◌^◌, ◌++◌, ◌∷◌, [], List, IfOk, OnOk, length, map, if◌then◌else◌};
+ghost use Rattle.std.specs.Prelude.{◌≡◌, ◌<◌, ◌^◌, ◌++◌, ◌∷◌, [], List, IfOk, OnOk, length, map};
+ghost use Rattle.std.specs.Prelude.{if◌then◌else◌};
 ghost use Rattle.file_paths.specs.Path.{Path, path_text};
 ghost use Rattle.file_paths.specs.PathRef.{path_of};
 ghost use Rattle.pattern_match.specs.States.{AreStatesOf, StandsFor};
-ghost use Rattle.spec_match.specs.Alive.{AreAlive, alive_at, list_of};
+ghost use Rattle.spec_match.specs.Alive.{AreAlive, alive_at, alive_list};
 ghost use Rattle.spec_match.specs.Chains.{AreStartsOf};
 ghost use Rattle.spec_match.specs.Found.{AreFound, IsAddedFrom, IsAddedOne, front_text};
 ghost use Rattle.spec_match.specs.Fronts.{AreFronts};
@@ -124,7 +125,8 @@ pub fn relevant_by_starts(
     Ok(in_order(found))
 }
 
-// Whether the specification at a place of a list can decide at or below the path whose text was read.
+// Whether the specification at a place of a list can decide at or below the path whose text was
+// read.
 fn can_decide(
     lists: &Lists,
     rule: &Rule,
@@ -134,13 +136,13 @@ fn can_decide(
     is_root: bool,
 ) -> bool
     requires list { list < length lists.now.lists }
-    requires within { k < length (list_of lists.now.lists list) }
+    requires within { k < length (alive_list lists.now.lists list) }
     requires made { AreStatesOf rule.now.spec.pattern states.old }
     requires kept { AreStatesOf rule.now.spec.pattern
-        (alive_at (list_of lists.now.lists list) k).states }
+        (alive_at (alive_list lists.now.lists list) k).states }
     ensures made { AreStatesOf rule.now.spec.pattern states.new }
     ensures value { (path : Path) → is_root ≡ is_root_path path
-        → StandsFor rule.now.spec.pattern (alive_at (list_of lists.now.lists list) k).states
+        → StandsFor rule.now.spec.pattern (alive_at (alive_list lists.now.lists list) k).states
         (path_text path)
         → result ≡ can_decide path rule.now.spec }
 {
@@ -148,8 +150,8 @@ fn can_decide(
     rule.can_decide_behind(states, is_root)
 }
 
-/// The indices of the specifications that can decide at or below a path, in ascending order, from the list of those
-/// that are alive behind its text. The list goes from the last one back.
+/// The indices of the specifications that can decide at or below a path, in ascending order, from
+/// the list of those that are alive behind its text. The list goes from the last one back.
 pub fn listed_relevant(
     alloc: Global,
     lists: &Lists,
@@ -165,7 +167,7 @@ pub fn listed_relevant(
     ensures states { AreStatesFor (patterns_of rules.now) states.new.items }
     ensures value { IfOk result (λ found. (path : Path) → is_root ≡ is_root_path path
         → AreAlive (patterns_of rules.now) (path_text path) (length (patterns_of rules.now))
-        (list_of lists.now.lists list)
+        (alive_list lists.now.lists list)
         → found.items ≡ relevant_at path (map spec_in rules.now)) }
 {
     let mut found = Vec::new(alloc);

@@ -1,4 +1,5 @@
-ghost use Rattle.std.specs.Prelude.{◌≡◌, ◌↔◌, ◌<◌, ◌++◌, ◌∷◌, ℕ, List, [], false, true, None, IfOk, IsTrue, slice_get};
+ghost use Rattle.std.specs.Prelude.{◌≡◌, ◌↔◌, ◌<◌, ◌++◌, ◌∷◌, ℕ, List, [], false, true, None, IfOk};
+ghost use Rattle.std.specs.Prelude.{IsTrue, slice_get};
 ghost use Rattle.label_base.specs.Kind.{applies, same_kind};
 ghost use Rattle.pattern_syntax.specs.Language.{Opens, holds};
 ghost use Rattle.pattern_syntax.specs.Literal.{literal_start_of};
@@ -64,7 +65,8 @@ impl Rule {
         self.spec.pattern.start()
     }
 
-    /// Whether the text begins with the pattern's literal start. Where it doesn't, its language doesn't hold it.
+    /// Whether the text begins with the pattern's literal start. Where it doesn't, its language
+    /// doesn't hold it.
     pub fn may_hold(&self, text: &[u8]) -> bool
         ensures { result ≡ false → holds self.now.spec.pattern text.now ≡ false }
     {
@@ -118,8 +120,8 @@ impl Rule {
         self.test.alive(&self.spec.pattern, states)
     }
 
-    /// Whether the specification fits the text that was read and each text that begins with it, whatever kind is asked
-    /// for. It may say false where that is so.
+    /// Whether the specification fits the text that was read and each text that begins with it,
+    /// whatever kind is asked for. It may say false where that is so.
     pub fn covers(&self, states: &States) -> bool
         requires { AreStatesOf self.now.spec.pattern states.now }
         ensures any { result ≡ true → self.now.spec.kind ≡ None }
@@ -133,8 +135,8 @@ impl Rule {
         self.test.takes_all(&self.spec.pattern, states)
     }
 
-    /// Whether the states stand as well for the text with one more byte, whichever it is, other than 0. It may say false
-    /// where they do.
+    /// Whether the states stand as well for the text with one more byte, whichever it is, other
+    /// than 0. It may say false where they do.
     pub fn stays(&self, states: &States) -> bool
         requires { AreStatesOf self.now.spec.pattern states.now }
         ensures { result ≡ true → (byte : ℕ) → 0 < byte → byte < 256
@@ -165,7 +167,8 @@ impl Rule {
         self.test.accepts(&self.spec.pattern, states)
     }
 
-    /// Reads on. Where no text of the language begins with all that is read, it may stop early and say false.
+    /// Reads on. Where no text of the language begins with all that is read, it may stop early and
+    /// say false.
     pub fn read_on(&self, states: &mut States, text: &[u8]) -> bool
         requires { AreStatesOf self.now.spec.pattern states.old }
         ensures made { AreStatesOf self.now.spec.pattern states.new }
@@ -185,8 +188,8 @@ impl Rule {
         true
     }
 
-    /// Reads on from a path's text to that of a child of the path. Where no text of the language begins with it, it may
-    /// stop early and say false.
+    /// Reads on from a path's text to that of a child of the path. Where no text of the language
+    /// begins with it, it may stop early and say false.
     pub fn read_child(&self, states: &mut States, is_root: bool, name: &[u8]) -> bool
         requires { AreStatesOf self.now.spec.pattern states.old }
         ensures made { AreStatesOf self.now.spec.pattern states.new }
@@ -204,7 +207,8 @@ impl Rule {
         self.read_on(states, name)
     }
 
-    /// Whether the language holds the path or something below it, where the states stand for the path's text.
+    /// Whether the language holds the path or something below it, where the states stand for the
+    /// path's text.
     pub fn can_decide_behind(&self, states: &mut States, is_root: bool) -> bool
         requires { AreStatesOf self.now.spec.pattern states.old }
         ensures made { AreStatesOf self.now.spec.pattern states.new }

@@ -1,4 +1,5 @@
-ghost use Rattle.std.specs.Prelude.{◌≡◌, ◌+◌, ◌<◌, ◌^◌, [], false, IfOk, IfSome, Some, length, map, option_and_then, slice_get};
+ghost use Rattle.std.specs.Prelude.{◌≡◌, ◌+◌, ◌<◌, ◌^◌, [], false, IfOk, IfSome, Some, length, map};
+ghost use Rattle.std.specs.Prelude.{option_and_then, slice_get};
 ghost use Rattle.file_paths.specs.Path.{path_text};
 ghost use Rattle.file_paths.specs.PathRef.{path_of};
 ghost use Rattle.spec_match.specs.LastMatch.{Decides, last_index, last_match};
@@ -22,8 +23,8 @@ use std::alloc::Global;
 use std::marker::Model;
 use std::sync::ledger::Ledger;
 
-// For how many lists, specifications in all of them, and words of their marks a scratch reserves room: 18 MB, of which
-// only what is used is touched.
+// For how many lists, specifications in all of them, and words of their marks a scratch reserves
+// room: 18 MB, of which only what is used is touched.
 const MOST_LISTS: usize = 16384;
 
 const MOST_MEMBERS: usize = 262_144;
@@ -95,7 +96,8 @@ fn states_of(alloc: Global, rules: &[Rule]) -> Result<Vec<States>, OutOfMemory>
     Ok(states)
 }
 
-// A table with whole lists, with room for so many lists, specifications and words, as far as it may have it.
+// A table with whole lists, with room for so many lists, specifications and words, as far as it may
+// have it.
 fn whole_table(
     alloc: Global,
     lists: usize,
@@ -141,8 +143,9 @@ impl RuleSet {
         &self.rules[i as usize].spec
     }
 
-    /// The index of the last specification whose kind applies to what is asked and whose language holds the path's text,
-    /// or none where there is no such specification. It takes no memory, and counts one step.
+    /// The index of the last specification whose kind applies to what is asked and whose language
+    /// holds the path's text, or none where there is no such specification. It takes no memory, and
+    /// counts one step.
     ///
     /// A specification without a kind applies always, one with a kind to it and to [`Asked::Any`].
     pub fn last_match<L: Ledger>(
@@ -171,8 +174,9 @@ impl RuleSet {
         }
     }
 
-    /// The indices of the specifications that can decide at or below a path, in ascending order: those whose language
-    /// holds the path's text or a text that begins with it and a slash, and for `/` a text that begins with a slash.
+    /// The indices of the specifications that can decide at or below a path, in ascending order:
+    /// those whose language holds the path's text or a text that begins with it and a slash, and
+    /// for `/` a text that begins with a slash.
     pub fn relevant(
         &self,
         alloc: Global,
@@ -198,8 +202,8 @@ impl Scratch {
         Scratch::with_room(alloc, rules, MOST_LISTS, MOST_MEMBERS, MOST_WORDS)
     }
 
-    /// The same with room for so many lists, so many specifications in all of them, and so many words of marks, in each
-    /// table.
+    /// The same with room for so many lists, so many specifications in all of them, and so many
+    /// words of marks, in each table.
     pub(crate) fn with_room(
         alloc: Global,
         rules: &RuleSet,

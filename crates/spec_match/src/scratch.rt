@@ -1,8 +1,8 @@
 use crate::workspace::Workspace;
 use std::marker::Model;
 
-/// What look-ups in one [`RuleSet`](crate::RuleSet) work in, so that they take no memory: the states in which its patterns
-/// are matched, and what earlier look-ups found out.
+/// What look-ups in one [`RuleSet`](crate::RuleSet) work in, so that they take no memory: the
+/// states in which its patterns are matched, and what earlier look-ups found out.
 #[derive(Drop)]
 pub struct Scratch {
     // It stands apart, so that a scratch is a word to whoever owns it.
@@ -19,7 +19,8 @@ impl Model for Scratch {
 }
 
 impl Scratch {
-    /// How many specifications' states were looked at by all look-ups in this scratch, as far as a number of 64 bits goes.
+    /// How many specifications' states were looked at by all look-ups in this scratch, as far as a
+    /// number of 64 bits goes.
     pub fn tried(&self) -> u64 {
         let by_tables = self.room.table.tried.saturating_add(self.room.whole.tried);
         self.room.tried.saturating_add(by_tables)

@@ -1,7 +1,7 @@
 ghost use Rattle.std.specs.Prelude.{◌≡◌, ◌<◌, ◌%◌, ◌^◌, ◌&&◌, ◌==◌, IfOk, OnOk, length, map};
 ghost use Rattle.file_paths.specs.PathRef.{path_of};
 ghost use Rattle.label_base.specs.Bounded.{greatest_below};
-ghost use Rattle.spec_match.specs.Chains.{AreStartsOf, fits_from, hashed, is_in, mixed};
+ghost use Rattle.spec_match.specs.Chains.{AreStartsOf, fits_from, hashed, is_in_bucket, mixed};
 ghost use Rattle.pattern_match.specs.States.{AreStatesOf};
 ghost use Rattle.pattern_syntax.specs.Literal.{literal_start_of};
 ghost use Rattle.spec_match.specs.Found.{AreAddedAbove, AreAddedIn};
@@ -17,13 +17,15 @@ use label_base::{Asked, OutOfMemory, greater};
 use pattern_match::States;
 use std::alloc::Global;
 
-// A text's hash is that of a number whose digits are the bytes, in this base, up to a prime below 2^32.
+// A text's hash is that of a number whose digits are the bytes, in this base, up to a prime below
+// 2^32.
 const BASE: u64 = 257;
 
 const MODULUS: u64 = 4_294_967_291;
 
-/// Specifications by the bytes that every text of their pattern begins with, so that a text that begins otherwise needn't
-/// be compared to them: for each bucket of hashes its specifications, from the last one back.
+/// Specifications by the bytes that every text of their pattern begins with, so that a text that
+/// begins otherwise needn't be compared to them: for each bucket of hashes its specifications, from
+/// the last one back.
 #[derive(Drop)]
 pub struct Starts {
     // For each bucket one more than the index of its last specification, or 0.
@@ -108,7 +110,7 @@ impl Starts {
         requires states { AreStatesFor (patterns_of rules.now) states.old.items }
         ensures states { AreStatesFor (patterns_of rules.now) states.new.items }
         ensures found { result ≡ greatest_below (length rules.now)
-            (λ i. is_in rules.now (length self.now.heads.items) bucket i
+            (λ i. is_in_bucket rules.now (length self.now.heads.items) bucket i
             && fits_from at asked text.now rules.now i) }
     {
         let mut next = self.heads[bucket] as usize;
@@ -124,7 +126,8 @@ impl Starts {
         None
     }
 
-    /// The last of all specifications that fits: those are tried with whose pattern's start the text begins.
+    /// The last of all specifications that fits: those are tried with whose pattern's start the
+    /// text begins.
     pub fn last_fit(
         &self,
         rules: &[Rule],

@@ -1,10 +1,12 @@
-ghost use Rattle.std.specs.Prelude.{◌≡◌, ◌<◌, ◌≤◌, ◌+◌, ◌++◌, ◌∷◌, ℕ, List, [], true, IfOk, IfSome, IfNone, length, map, replicate, suc};
+ghost use Rattle.std.specs.Prelude.{◌≡◌, ◌<◌, ◌≤◌, ◌+◌, ◌++◌, ◌∷◌, ℕ, List, [], true, IfOk, IfSome};
+ghost use Rattle.std.specs.Prelude.{IfNone, length, map, replicate, suc};
 ghost use Rattle.std.specs.List.{All};
 ghost use Rattle.std.specs.Vec.{vec_capacity, vec_len};
 ghost use Rattle.pattern_syntax.specs.Tree.{Tree};
 ghost use Rattle.spec_reader.specs.SpecValue.{SpecValue};
-ghost use Rattle.spec_match.specs.Alive.{IsOwn, LeadsBy, list_of};
-ghost use Rattle.spec_match.specs.Remembering.{CanBeAdded, IsAnswer, IsGrown, IsTableOf, decoded, kept, with_list};
+ghost use Rattle.spec_match.specs.Alive.{IsOwn, LeadsBy, alive_list};
+ghost use Rattle.spec_match.specs.Remembering.{CanBeAdded, IsAnswer, IsGrown, IsTableOf, decoded};
+ghost use Rattle.spec_match.specs.Remembering.{kept, with_list};
 ghost use Rattle.spec_match.specs.StatesFor.{AreStatesFor, patterns_of, spec_in};
 ghost use Rattle.spec_match.specs.Tables.{IsOnWayFor, IsTableFor, IsTrailFor, kept_in, list_for};
 ghost use Rattle.spec_match.specs.Trail.{trace_in};
@@ -24,24 +26,27 @@ const TRIES: usize = 8;
 // After how many look-ups the lists are begun. Fewer are found sooner without them.
 const FIRST_LOOK_UPS: u64 = 32;
 
-// How many look-ups there are for each list at least, before all lists are forgotten. There is another for each of
-// their members, since to write them anew takes as long.
+// How many look-ups there are for each list at least, before all lists are forgotten. There is
+// another for each of their members, since to write them anew takes as long.
 const LOOK_UPS_A_LIST: u64 = 16;
 
 // How many bytes of the last text are kept.
 const LONGEST_TRAIL: usize = 4096;
 
-/// Which list of specifications each byte leads to from which, and what is answered where, as far as earlier look-ups found
-/// out. All memory is reserved when it is made.
+/// Which list of specifications each byte leads to from which, and what is answered where, as far
+/// as earlier look-ups found out. All memory is reserved when it is made.
 pub struct Table {
     // Whether lists end at the first specification that covers whatever follows.
     pub(crate) cuts: bool,
     pub(crate) lists: Lists,
-    // For each list and each byte the number of the list that the byte leads to, or 0 where it isn't known.
+    // For each list and each byte the number of the list that the byte leads to, or 0 where it
+    // isn't known.
     pub(crate) next: Vec<u16>,
-    // For each list and each kind that may be asked for one more than the code of the answer, or 0 where it isn't known.
+    // For each list and each kind that may be asked for one more than the code of the answer, or 0
+    // where it isn't known.
     pub(crate) answers: Vec<u32>,
-    // For each list whether whatever follows leaves it as it is. No byte is read behind such a list.
+    // For each list whether whatever follows leaves it as it is. No byte is read behind such a
+    // list.
     pub(crate) stays: Vec<bool>,
     // Guesses at which list may be one, by its hash.
     slots: Vec<u32>,
@@ -84,10 +89,11 @@ fn add_copies<T: Copy>(row: &mut Vec<T>, n: usize, value: T)
     };
 }
 
-// The number of a list that equals the one that is being written, or a slot for its number. What the slots hold is but a guess.
+// The number of a list that equals the one that is being written, or a slot for its number. What
+// the slots hold is but a guess.
 fn find(lists: &Lists, slots: &[u32]) -> Result<usize, usize>
     ensures within { IfOk result (λ number. number < length lists.now.lists) }
-    ensures found { IfOk result (λ number. list_of lists.now.lists number ≡ lists.now.draft) }
+    ensures found { IfOk result (λ number. alive_list lists.now.lists number ≡ lists.now.draft) }
 {
     let n = slots.len();
     if n == 0 {
@@ -152,8 +158,8 @@ fn coded(found: Option<usize>) -> u32
 }
 
 impl Table {
-    /// Room for so many lists, so many specifications in all of them, and so many words of marks. Where it `cuts`, lists end
-    /// at the first specification that covers whatever follows.
+    /// Room for so many lists, so many specifications in all of them, and so many words of marks.
+    /// Where it `cuts`, lists end at the first specification that covers whatever follows.
     pub fn new(
         alloc: Global,
         cuts: bool,
@@ -190,7 +196,8 @@ impl Table {
         })
     }
 
-    // Completes the list that was written, of which nothing is known yet. Where there is no room, it is lost.
+    // Completes the list that was written, of which nothing is known yet. Where there is no room,
+    // it is lost.
     fn add(&mut self) -> Option<usize>
         ensures none { IfNone result (kept_in self.new ≡ kept_in self.old) }
         ensures some { IfSome result (λ number. kept_in self.new
@@ -255,7 +262,7 @@ impl Table {
         ensures grown { IsGrown self.old.lists.lists self.new.lists.lists }
         ensures within { IfSome result (λ number. number < length self.new.lists.lists) }
         ensures found { IfSome result (λ number.
-            list_of self.new.lists.lists number ≡ self.old.lists.draft) }
+            alive_list self.new.lists.lists number ≡ self.old.lists.draft) }
     {
         match find(&self.lists, self.slots.as_slice()) {
             Ok(number) => {
@@ -304,7 +311,7 @@ impl Table {
         ensures trail { trace_in self.new.trail ≡ trace_in self.old.trail }
         ensures within { IfSome result (λ to. to < length self.new.lists.lists) }
         ensures leads { IfSome result (λ to. LeadsBy (list_for rules.now self.old) (byte ∷ [])
-            (list_of self.old.lists.lists from) (list_of self.new.lists.lists to)) }
+            (alive_list self.old.lists.lists from) (alive_list self.new.lists.lists to)) }
     {
         if byte == 0 {
             return None;
@@ -425,7 +432,7 @@ impl Table {
         ensures lists { self.new.lists.lists ≡ self.old.lists.lists }
         ensures trail { trace_in self.new.trail ≡ trace_in self.old.trail }
         ensures told { (text : List ℕ)
-            → list_for rules.now self.old text (list_of self.old.lists.lists list)
+            → list_for rules.now self.old text (alive_list self.old.lists.lists list)
             → IsAnswer asked text (map spec_in rules.now) result }
     {
         let place = 9 * list + asked_number(asked);
@@ -513,7 +520,7 @@ impl Table {
         ensures trail { IsTrailFor rules.now self.new }
         ensures within { IfSome result (λ list. list < length self.new.lists.lists) }
         ensures alive { IfSome result (λ list.
-            list_for rules.now self.old text.now (list_of self.new.lists.lists list)) }
+            list_for rules.now self.old text.now (alive_list self.new.lists.lists list)) }
     {
         self.prepare(rules, states);
         if self.lists.len() == 0 {

@@ -185,7 +185,8 @@ fn are_rounds_right(alloc: Global, rules: &RuleSet, scratch: &mut Scratch) -> bo
     true
 }
 
-// Whether all is found in a scratch with room for so many lists, and for so many specifications in them.
+// Whether all is found in a scratch with room for so many lists, and for so many specifications in
+// them.
 fn found_with(alloc: Global, lists: usize, members: usize) -> Option<bool> {
     let text = b"/[ab].* <<none>>\n/a <<none>>\n/b/.*d <<none>>\n".as_slice();
     let specs = read_specs(alloc, text, Part::Base, 9).ok()?;

@@ -1,11 +1,12 @@
-ghost use Rattle.std.specs.Prelude.{◌≡◌, ◌≤◌, ◌<◌, ◌+◌, ◌++◌, ◌*◌, ℕ, Bool, List, length, min, take, set, true, IfOk, if◌then◌else◌, nat_lt};
+ghost use Rattle.std.specs.Prelude.{◌≡◌, ◌≤◌, ◌<◌, ◌+◌, ◌++◌, ◌*◌, ℕ, Bool, List, length, min};
+ghost use Rattle.std.specs.Prelude.{take, set, true, IfOk, if◌then◌else◌, nat_lt};
 ghost use Rattle.pattern_match.specs.Onwards.{AreTextBytes};
 ghost use Rattle.pattern_syntax.specs.Tree.{Tree};
 ghost use Rattle.spec_reader.specs.SpecValue.{SpecValue};
 ghost use Rattle.spec_match.specs.Alive.{Alive};
 ghost use Rattle.spec_match.specs.Listed.{IsListed};
 ghost use Rattle.spec_match.specs.Remembering.{IsStep, Remembers};
-ghost use Rattle.spec_match.specs.Trail.{AreNumbers, IsRead, list_behind};
+ghost use Rattle.spec_match.specs.Trail.{AreNumbers, IsTrailRead, list_behind};
 
 use label_base::OutOfMemory;
 use std::alloc::Global;
@@ -106,8 +107,8 @@ pub fn note(lists: &mut Vec<usize>, at: usize, list: usize)
     }
 }
 
-/// Reads a text on from a place while it is known where to, and notes the lists. `next` has a row of 256 numbers for each of
-/// so many lists.
+/// Reads a text on from a place while it is known where to, and notes the lists. `next` has a row
+/// of 256 numbers for each of so many lists.
 pub fn follow(
     next: &[u16],
     count: usize,
@@ -123,8 +124,9 @@ pub fn follow(
     ensures read { (cuts : Bool) (patterns : List Tree) (specs : List SpecValue)
         (all : List (List Alive)) → length all ≡ count
         → Remembers (IsStep (IsListed cuts patterns specs) all) next.now
-        → IsRead (IsListed cuts patterns specs) all text.now lists.old.items from.at from.list
-        → IsRead (IsListed cuts patterns specs) all text.now lists.new.items result.at result.list }
+        → IsTrailRead (IsListed cuts patterns specs) all text.now lists.old.items from.at from.list
+        → IsTrailRead (IsListed cuts patterns specs) all text.now lists.new.items result.at
+        result.list }
 {
     let mut list = from.list;
     'text: for i in from.at..text.len() {
@@ -155,7 +157,8 @@ impl Trail {
         })
     }
 
-    /// How many bytes a text has in common with the one that was read last, as far as the lists are known.
+    /// How many bytes a text has in common with the one that was read last, as far as the lists are
+    /// known.
     pub fn common(&self, text: &[u8]) -> usize
         ensures known { result ≤ self.now.known }
         ensures lists { result ≤ length self.now.lists.items }
@@ -167,8 +170,8 @@ impl Trail {
         most.min(self.known).min(self.lists.len())
     }
 
-    /// Takes another text in place of the last one, with which it has so many bytes in common. What there is no room for
-    /// is left out.
+    /// Takes another text in place of the last one, with which it has so many bytes in common. What
+    /// there is no room for is left out.
     pub fn begin(&mut self, text: &[u8], start: usize)
         requires own { start ≤ length self.old.text.items }
         requires text { start ≤ length text.now }

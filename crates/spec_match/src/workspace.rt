@@ -26,7 +26,8 @@ use std::alloc::Global;
 pub struct Workspace {
     pub(crate) states: Vec<States>,
     pub(crate) table: Table,
-    // Its lists are whole, since each specification can decide below a path, whether a later one hides it or not.
+    // Its lists are whole, since each specification can decide below a path, whether a later one
+    // hides it or not.
     pub(crate) whole: Table,
     pub(crate) fronts: Fronts,
     // How many specifications were tried by themselves.

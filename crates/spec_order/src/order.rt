@@ -6,8 +6,9 @@ use pattern_syntax::is_exact;
 use spec_reader::Spec;
 use std::alloc::Global;
 
-/// The specifications of file_contexts, file_contexts.homedirs and file_contexts.local in this order, those with
-/// patterns first and those with exact texts last: a later specification wins, so an exact text beats a pattern.
+/// The specifications of file_contexts, file_contexts.homedirs and file_contexts.local in this
+/// order, those with patterns first and those with exact texts last: a later specification wins, so
+/// an exact text beats a pattern.
 #[tactic(auto, using(crate::proofs::OrderLemmas::length_in_order))]
 pub fn ordered(
     alloc: Global,

@@ -1,4 +1,5 @@
--- What the lines of a file_contexts file say, as selabel_file(5) has it: a pattern, a type or none, and a context.
+-- What the lines of a file_contexts file say, as selabel_file(5) has it: a pattern, a type or none,
+-- and a context.
 use Rattle.std.specs.Prelude.{ℕ, List, [], ◌∷◌, Option, Some, None, Result, Ok, Err, if◌then◌else◌}
 use Rattle.label_base.specs.declared.kind.EntryKind.{EntryKind}
 use Rattle.file_roles.specs.declared.role.Part.{Part}
@@ -15,7 +16,8 @@ use Rattle.spec_reader.specs.declared.line.TheConstants.{NO_CONTEXT}
 use Rattle.spec_reader.specs.declared.spec.Decision.{Decision}
 use Rattle.spec_reader.specs.declared.spec.Decision.TheVariants.{Leave, Give}
 use Rattle.spec_reader.specs.declared.spec_fault.SpecWhy.{SpecWhy}
-use Rattle.spec_reader.specs.declared.spec_fault.SpecWhy.TheVariants.{MissingContext, BadKind, BadContext, BadPattern}
+use Rattle.spec_reader.specs.declared.spec_fault.SpecWhy.TheVariants.{MissingContext, BadKind}
+use Rattle.spec_reader.specs.declared.spec_fault.SpecWhy.TheVariants.{BadContext, BadPattern}
 
 abbrev pub with_tree : Part → ℕ → List ℕ → Option EntryKind → Decision → Result Tree PatternWhy
     → Result SpecValue SpecWhy
@@ -50,13 +52,14 @@ abbrev pub with_type : Part → ℕ → List ℕ → Option EntryKind → List �
 with_type part line text None field = Err BadKind
 with_type part line text (Some kind) field = with_decision part line text (Some kind) field
 
--- what the fields of the line with this number say: pattern and context, or pattern, type and context; what
--- follows is passed over
-abbrev pub spec_in : Part → ℕ → List (List ℕ) → Result SpecValue SpecWhy
-spec_in part line (text ∷ context ∷ []) = with_decision part line text None context
-spec_in part line (text ∷ kind ∷ context ∷ more) = with_type part line text (field_kind kind) context
-spec_in part line fields = Err MissingContext
+-- what the fields of the line with this number say: pattern and context, or pattern, type and
+-- context; what follows is passed over
+abbrev pub spec_of_fields : Part → ℕ → List (List ℕ) → Result SpecValue SpecWhy
+spec_of_fields part line (text ∷ context ∷ []) = with_decision part line text None context
+spec_of_fields part line (text ∷ kind ∷ context ∷ more) =
+    with_type part line text (field_kind kind) context
+spec_of_fields part line fields = Err MissingContext
 
 -- the specifications of a file, or its first line that is refused or gives one too many
 abbrev pub specs_of : Part → ℕ → List ℕ → Result (List SpecValue) (LinesWhy SpecWhy)
-specs_of part room text = lines_within room (spec_in part) text
+specs_of part room text = lines_within room (spec_of_fields part) text

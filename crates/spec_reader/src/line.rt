@@ -1,9 +1,9 @@
 ghost use Rattle.std.specs.Prelude.{◌≡◌, ◌<◌, ◌^◌, length, true};
 ghost use Rattle.std.specs.Option.{option_map};
-ghost use Rattle.label_base.specs.Answers.{Answers, cause_of};
+ghost use Rattle.label_base.specs.Answers.{Answers, fault_cause};
 ghost use Rattle.pattern_syntax.specs.PatternCause.{pattern_cause};
 ghost use Rattle.spec_reader.specs.SpecValue.{is_spec_kind};
-ghost use Rattle.spec_reader.specs.SpecLines.{spec_in, with_decision, with_pattern};
+ghost use Rattle.spec_reader.specs.SpecLines.{spec_of_fields, with_decision, with_pattern};
 
 use crate::spec::{Decision, Spec};
 use crate::spec_fault::SpecWhy;
@@ -17,7 +17,7 @@ use std::alloc::Global;
 pub const NO_CONTEXT: &[u8] = b"<<none>>";
 
 fn refused_pattern(fault: PatternFault) -> Fault<SpecWhy>
-    ensures { cause_of result ≡ option_map SpecWhy.BadPattern (pattern_cause fault) }
+    ensures { fault_cause result ≡ option_map SpecWhy.BadPattern (pattern_cause fault) }
 {
     match fault.why() {
         Some(why) => Fault::Why(SpecWhy::BadPattern(why)),
@@ -36,7 +36,7 @@ fn read_pattern(
 ) -> Result<Spec, Fault<SpecWhy>>
     requires size { length text.now < 2 ^ 32 }
     requires kind { is_spec_kind kind ≡ true }
-    ensures { Answers (λ spec. spec) cause_of result
+    ensures { Answers (λ spec. spec) fault_cause result
         (with_pattern part line text.now kind decision) }
 {
     match Pattern::read(alloc, text) {
@@ -63,7 +63,7 @@ fn read_decision(
 ) -> Result<Spec, Fault<SpecWhy>>
     requires size { length text.now < 2 ^ 32 }
     requires kind { is_spec_kind kind ≡ true }
-    ensures { Answers (λ spec. spec) cause_of result
+    ensures { Answers (λ spec. spec) fault_cause result
         (with_decision part line text.now kind field.now) }
 {
     if field == NO_CONTEXT {
@@ -88,7 +88,7 @@ impl LineReader for SpecReader {
 
     type Why = SpecWhy;
 
-    ghost meaning = { λ reader number fields. spec_in reader.part number fields };
+    ghost meaning = { λ reader number fields. spec_of_fields reader.part number fields };
 
     fn read_line(
         &self,

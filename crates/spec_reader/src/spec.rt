@@ -13,7 +13,8 @@ pub enum Decision {
     Give(Context),
 }
 
-/// One specification of a file_contexts file. Its pattern is what its text reads as, and its kind isn't `Other`.
+/// One specification of a file_contexts file. Its pattern is what its text reads as, and its kind
+/// isn't `Other`.
 #[derive(Debug)]
 pub struct Spec {
     /// The pattern field as it stands in the line.

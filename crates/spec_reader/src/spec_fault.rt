@@ -1,7 +1,8 @@
 use label_base::{Fault, LinesWhy};
 use pattern_syntax::PatternWhy;
 
-/// What is wrong with a line that is no specification. Where several things are, the first of these is told.
+/// What is wrong with a line that is no specification. Where several things are, the first of these
+/// is told.
 #[derive(Clone, Copy, Debug, PartialEq, Eq)]
 pub enum SpecWhy {
     /// The line has one field.
@@ -14,6 +15,6 @@ pub enum SpecWhy {
     BadPattern(PatternWhy),
 }
 
-/// Why a file gave no specifications: its first refused line, more specifications than there is room for,
-/// or want of memory.
+/// Why a file gave no specifications: its first refused line, more specifications than there is
+/// room for, or want of memory.
 pub type SpecFault = Fault<LinesWhy<SpecWhy>>;

@@ -1,5 +1,6 @@
 -- Stems of texts, and the texts that may stand for paths below a first name.
-use Rattle.std.specs.Prelude.{ℕ, zero, suc, Bool, ◌==◌, ◌&&◌, ◌||◌, not, List, [], ◌∷◌, Option, Some, None, get_or, if◌then◌else◌}
+use Rattle.std.specs.Prelude.{ℕ, zero, suc, Bool, ◌==◌, ◌&&◌, ◌||◌, not, List, [], ◌∷◌, Option}
+use Rattle.std.specs.Prelude.{Some, None, get_or, if◌then◌else◌}
 use Rattle.label_base.specs.Cut.{front, behind}
 use Rattle.label_base.specs.Text.{same_bytes}
 use Rattle.file_paths.specs.Path.{Path}
@@ -10,8 +11,8 @@ abbrev pub name_before : List ℕ → Option (List ℕ) → List ℕ
 name_before name None = []
 name_before name (Some rest) = name
 
--- the stem of a text that begins with a slash, a nonempty name and a slash is that name; that of any
--- other text is empty: it has none
+-- the stem of a text that begins with a slash, a nonempty name and a slash is that name; that of
+-- any other text is empty: it has none
 abbrev pub stem_of : List ℕ → List ℕ
 stem_of [] = []
 stem_of (b ∷ bs) =
@@ -32,8 +33,8 @@ abbrev pub is_stem : List ℕ → List ℕ → Bool
 is_stem name stem = not (is_none stem) && same_bytes name stem
 
 -- there is no stem, or it is the name
-abbrev pub fits : List ℕ → List ℕ → Bool
-fits name stem = is_none stem || is_stem name stem
+abbrev pub stem_fits : List ℕ → List ℕ → Bool
+stem_fits name stem = is_none stem || is_stem name stem
 
 abbrev pub stem_at : List (List ℕ) → ℕ → List ℕ
 stem_at stems i = get_or stems i []
@@ -42,5 +43,5 @@ stem_at stems i = get_or stems i []
 abbrev pub candidates_below : List (List ℕ) → ℕ → List ℕ → List ℕ
 candidates_below stems zero name = []
 candidates_below stems (suc n) name =
-    if fits name (stem_at stems n) then n ∷ candidates_below stems n name
+    if stem_fits name (stem_at stems n) then n ∷ candidates_below stems n name
     else candidates_below stems n name

@@ -1,14 +1,14 @@
 ghost use Rattle.std.specs.Prelude.{◌≡◌, ◌<◌, [], List, ℕ, Some, length};
 ghost use Rattle.std.specs.Iterator.{YieldsFirst, item_count};
 ghost use Rattle.label_base.specs.Bounded.{greater};
-ghost use Rattle.stem_index.specs.Kept.{AreHeads, last_with};
+ghost use Rattle.stem_index.specs.Kept.{AreStemHeads, last_stem_with};
 ghost use Rattle.stem_index.specs.Stems.{candidates_below};
 
 use crate::stem_index::StemIndex;
 use std::marker::Model;
 
-/// Indices of texts that may stand for a path, seen as the list of those that are left, in descending
-/// order.
+/// Indices of texts that may stand for a path, seen as the list of those that are left, in
+/// descending order.
 #[derive(Drop)]
 pub struct Candidates<'a> {
     index: &'a StemIndex,
@@ -30,7 +30,7 @@ impl<'a> Model for Candidates<'a> {
 
     ghost view = { λ c. candidates_below c.index.now c.bound c.name.now };
 
-    ghost invariant = { λ c. AreHeads c.index.now c.name.now c.bound c.free c.own };
+    ghost invariant = { λ c. AreStemHeads c.index.now c.name.now c.bound c.free c.own };
 }
 
 // The greater of two numbers.
@@ -52,8 +52,8 @@ fn heads_below(
     greatest: u32,
 ) -> (Option<u32>, Option<u32>)
     requires { greatest < length index.now }
-    ensures { (name : List ℕ) (bound : ℕ) → AreHeads index.now name bound free own
-        → greater free own ≡ Some greatest → AreHeads index.now name greatest result.0 result.1 }
+    ensures { (name : List ℕ) (bound : ℕ) → AreStemHeads index.now name bound free own
+        → greater free own ≡ Some greatest → AreStemHeads index.now name greatest result.0 result.1 }
 {
     let earlier = index.before(greatest);
     if index.has_none(greatest) {
@@ -65,8 +65,8 @@ fn heads_below(
 
 // The last text with a stem of this name; none where the name is empty.
 fn last_own(index: &StemIndex, name: &[u8]) -> Option<u32>
-    ensures { (free : _) → free ≡ last_with index.now (length index.now) []
-        → AreHeads index.now name.now (length index.now) free result }
+    ensures { (free : _) → free ≡ last_stem_with index.now (length index.now) []
+        → AreStemHeads index.now name.now (length index.now) free result }
 {
     if name.is_empty() {
         return None;

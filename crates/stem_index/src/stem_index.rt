@@ -1,7 +1,8 @@
-ghost use Rattle.std.specs.Prelude.{◌≡◌, ◌++◌, ◌∷◌, ◌<◌, ◌-◌, ◌^◌, [], length, OnErr, OnOk, vec_len, vec_capacity};
+ghost use Rattle.std.specs.Prelude.{◌≡◌, ◌++◌, ◌∷◌, ◌<◌, ◌-◌, ◌^◌, [], length, OnErr, OnOk};
+ghost use Rattle.std.specs.Prelude.{vec_len, vec_capacity};
 ghost use Rattle.label_base.specs.NumberUnder.{number_under};
 ghost use Rattle.file_paths.specs.PathRef.{path_of};
-ghost use Rattle.stem_index.specs.Kept.{IsKept, last_with};
+ghost use Rattle.stem_index.specs.Kept.{AreStemsKept, last_stem_with};
 ghost use Rattle.stem_index.specs.Stems.{candidates_below, first_name, is_none, stem_at, stem_of};
 
 use crate::candidates::Candidates;
@@ -31,7 +32,7 @@ impl Model for StemIndex {
 
     ghost view = { λ s. s.stems.items };
 
-    ghost invariant = { λ s. IsKept s.stems.items s.last.entries s.before.items };
+    ghost invariant = { λ s. AreStemsKept s.stems.items s.last.entries s.before.items };
 }
 
 // Adds an item behind the others. There is room for it.
@@ -53,9 +54,9 @@ fn add_stem(
     before: &mut Vec<Option<u32>>,
     stem: &[u8],
 ) -> Result<(), OutOfMemory>
-    requires kept { IsKept stems.old.items last.old.entries before.old.items }
+    requires kept { AreStemsKept stems.old.items last.old.entries before.old.items }
     requires few { length stems.old.items < 2 ^ 32 - 1 }
-    ensures kept { IsKept stems.new.items last.new.entries before.new.items }
+    ensures kept { AreStemsKept stems.new.items last.new.entries before.new.items }
     ensures ok { OnOk result (stems.new.items ≡ stems.old.items ++ stem.now ∷ []) }
     ensures err { OnErr result (stems.new.items ≡ stems.old.items) }
 {
@@ -117,14 +118,14 @@ impl StemIndex {
     // The text before one that has the same stem.
     pub fn before(&self, i: u32) -> Option<u32>
         requires { i < length self.now }
-        ensures { result ≡ last_with self.now i (stem_at self.now i) }
+        ensures { result ≡ last_stem_with self.now i (stem_at self.now i) }
     {
         self.before[i as usize]
     }
 
     // The last text with a stem.
     pub fn last_with(&self, stem: &[u8]) -> Option<u32>
-        ensures { result ≡ last_with self.now (length self.now) stem.now }
+        ensures { result ≡ last_stem_with self.now (length self.now) stem.now }
     {
         number_under(&self.last, stem)
     }
@@ -136,8 +137,8 @@ impl StemIndex {
         self.stems.len() as u32
     }
 
-    /// The indices of the texts without a stem and of those whose stem is the path's first name, each
-    /// once, in descending order.
+    /// The indices of the texts without a stem and of those whose stem is the path's first name,
+    /// each once, in descending order.
     pub fn candidates<'a>(&'a self, path: &PathRef<'a>) -> Candidates<'a>
         ensures { result
             ≡ candidates_below self.now (length self.now) (first_name (path_of path.now)) }

@@ -9,7 +9,8 @@ use tree_relabelling::MOST_WORKERS;
 /// longer than all else; but each worker learns for itself what can decide in a directory.
 pub const FEWEST_WITH_DIGESTS: u32 = 60_000;
 
-/// The fewest where none are made: lines and sections alone take a fifth as long, and starting threads as long as before.
+/// The fewest where none are made: lines and sections alone take a fifth as long, and starting
+/// threads as long as before.
 pub const FEWEST: u32 = 100_000;
 
 // The number, brought into what may be asked for.
@@ -27,8 +28,8 @@ fn within(count: u32) -> u32
     MOST_WORKERS
 }
 
-/// How many workers there are where so many are asked for: as many as there are cores where that is none, from 1 to
-/// [`MOST_WORKERS`].
+/// How many workers there are where so many are asked for: as many as there are cores where that is
+/// none, from 1 to [`MOST_WORKERS`].
 pub fn workers_for(asked: u32, cores: u32) -> u32
     ensures value { result ≡ workers_for asked cores }
     ensures some { 0 < result }
@@ -40,7 +41,8 @@ pub fn workers_for(asked: u32, cores: u32) -> u32
     within(asked)
 }
 
-/// The fewest entries of a tree for each of several workers, where they are quicker than one, with these options.
+/// The fewest entries of a tree for each of several workers, where they are quicker than one, with
+/// these options.
 pub fn fewest_for(options: &Options) -> u32
     ensures value { result ≡ fewest_for options.now }
     ensures some { 0 < result }

@@ -1,5 +1,6 @@
-//! setfiles(8) and restorecon(8) by several workers: they make the digests of a large tree, the lines of its report and the
-//! sections of its dump at once. What is written is the same for every number of workers.
+//! setfiles(8) and restorecon(8) by several workers: they make the digests of a large tree, the
+//! lines of its report and the sections of its dump at once. What is written is the same for every
+//! number of workers.
 #![tactic(auto)]
 
 mod counts;

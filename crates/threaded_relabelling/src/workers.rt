@@ -31,7 +31,8 @@ pub struct Workers<'r, R: Threads + Wait + Sync> {
 }
 
 impl<'r, R: Threads + Wait + Sync> Workers<'r, R> {
-    /// At most so many workers, of whom each has at least so many entries of a tree, or else one works.
+    /// At most so many workers, of whom each has at least so many entries of a tree, or else one
+    /// works.
     pub fn new(rt: &'r R, count: u32, fewest: u32) -> Workers<'r, R>
         requires some { 0 < count }
         requires few { count ≤ MOST_WORKERS }
@@ -110,8 +111,9 @@ impl<'r, R: Threads + Wait + Sync> Walker for Workers<'r, R> {
 
     ghost IsReady = { λ workers. IsSync R.row };
 
-    // Workers take the directories of a queue as they come, so one after the other is seldom near the last in the tree, by
-    // which one worker saves most of a look-up. That pays where digests are made.
+    // Workers take the directories of a queue as they come, so one after the other is seldom near
+    // the last in the tree, by which one worker saves most of a look-up. That pays where digests
+    // are made.
     fn walk<'a>(&self, alloc: Global, input: &WalkInput<'a>) -> Result<Walked<'a>, OutOfMemory> {
         let workers = self.count_for(input.tree.len());
         if workers == 1 || !uses_digests(&input.options) {

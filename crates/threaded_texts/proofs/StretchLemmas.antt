@@ -1,5 +1,6 @@
 -- A row of texts, cut in two.
-use Rattle.std.proofs.Common.{◌≡◌, ◌∙◌, sym, ap, ℕ, zero, suc, ◌+◌, List, ◌++◌, arith, append-nil, append_assoc}
+use Rattle.std.proofs.Common.{◌≡◌, ◌∙◌, sym, ap, ℕ, zero, suc, ◌+◌, List, ◌++◌, arith, append-nil}
+use Rattle.std.proofs.Common.{append_assoc}
 use Rattle.threaded_texts.specs.Stretch.{stretch}
 
 -- so many texts, and others behind them

@@ -13,7 +13,8 @@ const TEXT_ROOM: usize = 64;
 /// The most workers that are at work at once: each is a call deep on the caller's stack.
 pub const MOST_AT_ONCE: u32 = 256;
 
-/// An empty text, with room for so many if there is: a text that grows step by step leaves its earlier places behind.
+/// An empty text, with room for so many if there is: a text that grows step by step leaves its
+/// earlier places behind.
 pub fn text_for(alloc: Global, texts: u32) -> Bytes
     ensures { result ≡ [] }
 {

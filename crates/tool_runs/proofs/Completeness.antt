@@ -8,12 +8,14 @@ use Rattle.tool_words.specs.declared.usage.Usage.{Usage}
 use Rattle.run_faults.specs.Causes.{IsWritten}
 use Rattle.run_faults.specs.Faults.{fault_line, status_of}
 use Rattle.run_faults.specs.declared.cause.Cause.{Cause}
-use Rattle.run_faults.specs.declared.cause.Cause.TheVariants.{Done, WalkErrors, Differs, Denied, ReadFault, WriteFault, OutOfMemory}
+use Rattle.run_faults.specs.declared.cause.Cause.TheVariants.{Done, WalkErrors, Differs, Denied}
+use Rattle.run_faults.specs.declared.cause.Cause.TheVariants.{ReadFault, WriteFault, OutOfMemory}
 use Rattle.run_endings.specs.declared.ending.Ending.{Ending}
 use Rattle.tool_runs.specs.Outside.{Outside, SinkSeen, WritesLine}
 use Rattle.tool_runs.specs.Plan.{Plan, answer_in, input_in, is_soft_in, reads_in}
-use Rattle.tool_runs.specs.Complete.{Answered, Complete, cause_in, files_in, text_in}
-use Rattle.tool_runs.specs.Run.{EndsAsMeant, FileFailed, InputFailed, LosesDump, LosesReport, Reports, Run, WritesAndSaves}
+use Rattle.tool_runs.specs.Complete.{Answered, Complete, cause_in, files_in, written_text}
+use Rattle.tool_runs.specs.Run.{EndsAsMeant, FileFailed, InputFailed, LosesDump, LosesReport}
+use Rattle.tool_runs.specs.Run.{Reports, Run, WritesAndSaves}
 
 whole_line : (sink sink_now : SinkSeen) (line : List ℕ) → (Rose sink.faults sink_now.faults → ⊥)
     → WritesLine sink sink_now line → Appends sink.written sink_now.written line
@@ -36,7 +38,7 @@ module _ {S I : Type 0} (asked : Result Plan Usage) (before after : Outside S I)
     whole_report cause is reports = record {
       cause_is = cause_is;
       status_is = is ∙ ap (status_of (is_soft_in asked)) cause_is;
-      text_is = subst Text (sym (ap (text_in (reads_in asked)) reports.is_meant))
+      text_is = subst Text (sym (ap (written_text (reads_in asked)) reports.is_meant))
           reports.done.whole;
       files_are = reports.done.saved ∙ sym (ap (λ m. Some (files_in known m)) reports.is_meant);
     }
@@ -49,7 +51,7 @@ module _ {S I : Type 0} (asked : Result Plan Usage) (before after : Outside S I)
     refused cause status_is is line same = record {
       cause_is = sym (ap cause_in is);
       status_is = status_is ∙ ap (status_of (is_soft_in asked)) (sym (ap cause_in is));
-      text_is = subst Text (sym (ap (text_in (reads_in asked)) is)) line;
+      text_is = subst Text (sym (ap (written_text (reads_in asked)) is)) line;
       files_are = same ∙ sym (ap (λ m. Some (files_in known m)) is);
     }
 

@@ -16,7 +16,8 @@ use Rattle.run_endings.specs.declared.ending.Ending.{Ending}
 use Rattle.tool_runs.specs.Outside.{InputSeen, Outside, StoreSeen, WritesLine}
 use Rattle.tool_runs.specs.Plan.{plan_by, refusal_in}
 use Rattle.tool_runs.specs.Run.{FilesDecide, OthersStay, Run}
-use Rattle.tool_runs.proofs.PartLemmas.{FilesRead, files_accepted, files_memory, if_some, line_later, same_known, stay_same, still_up_to}
+use Rattle.tool_runs.proofs.PartLemmas.{FilesRead, files_accepted, files_memory, if_some}
+use Rattle.tool_runs.proofs.PartLemmas.{line_later, same_known, stay_same, still_up_to}
 
 module _ {S I R : Type 0} (reads : List NamedFile) (takes : Option Format) (soft : Bool)
     (output : Option (List ℕ))
@@ -83,7 +84,8 @@ module _ {S I R : Type 0} (reads : List NamedFile) (takes : Option Format) (soft
       let same : after.store.files ≡ before.store.files = ap (λ (s : StoreSeen S). s.files) still in
       let counted : after.store.read_faults ≡ before.store.read_faults
       = ap (λ (s : StoreSeen S). s.read_faults) still in
-      let taken : after.input.faults ≡ before.input.faults = ap (λ (i : InputSeen I). i.faults) unread in
+      let taken : after.input.faults ≡ before.input.faults =
+      ap (λ (i : InputSeen I). i.faults) unread in
       subst Ran (sym is) (gave_up
       (all_some before.store.files (λ known. files_memory before after (read known).says unread))
       (all_some before.store.files (λ known.

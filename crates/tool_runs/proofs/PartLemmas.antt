@@ -1,8 +1,11 @@
 -- What the parts of a run say, as far as its end follows from that.
-use Rattle.std.proofs.Common.{◌≡◌, ◌∙◌, ap, sym, subst, refl, cond, ℕ, ◌+◌, ◌≤◌, arith, inl, inr, List}
-use Rattle.std.specs.Prelude.{Bool, true, false, Option, Some, None, Result, Ok, Err, is_some, IfSome, IsOkAnd, option_map}
+use Rattle.std.proofs.Common.{◌≡◌, ◌∙◌, ap, sym, subst, refl, cond, ℕ, ◌+◌, ◌≤◌, arith, inl, inr}
+use Rattle.std.proofs.Common.{List}
+use Rattle.std.specs.Prelude.{Bool, true, false, Option, Some, None, Result, Ok, Err, is_some}
+use Rattle.std.specs.Prelude.{IfSome, IsOkAnd, option_map}
 use Rattle.std.specs.FinMap as map
-use Rattle.std.specs.FinMap.{get-insert, get-remove, same_map, nat_cmp-IsAntisymmetric, slice_cmp-IsAntisymmetric}
+use Rattle.std.specs.FinMap.{get-insert, get-remove, same_map, nat_cmp-IsAntisymmetric}
+use Rattle.std.specs.FinMap.{slice_cmp-IsAntisymmetric}
 use Rattle.std.specs.Ordering.{eq_by_cmp, nat_cmp}
 use Rattle.std.specs.Cmp.Lexicographic.{slice_cmp, nat_list_cmp_total}
 use Rattle.input_output.specs.Store.{Calls, Files}
@@ -11,21 +14,25 @@ use Rattle.input_output.specs.declared.store.SaveFault.TheVariants as save
 use Rattle.input_output.specs.declared.store.Store as stores
 use Rattle.find_records.specs.Record.{Record}
 use Rattle.find_records.specs.declared.format.Format.{Format}
-use Rattle.run_faults.specs.Causes.{and_then, CauseCounts, Explained, IsFileCause, IsInputCause, IsReadingCause, IsReported, IsWritten}
+use Rattle.run_faults.specs.Causes.{and_then, CauseCounts, Explained, IsFileCause, IsInputCause}
+use Rattle.run_faults.specs.Causes.{IsReadingCause, IsReported, IsWritten}
 use Rattle.run_faults.specs.declared.cause.Cause.{Cause}
-use Rattle.run_faults.specs.declared.cause.Cause.TheVariants.{Done, RecordRefused, Unended, Doubled, Limit, WalkErrors, Differs, Denied, ReadFault, WriteFault, OutOfMemory}
+use Rattle.run_faults.specs.declared.cause.Cause.TheVariants.{Done, RecordRefused, Unended, Doubled}
+use Rattle.run_faults.specs.declared.cause.Cause.TheVariants.{Limit, WalkErrors, Differs, Denied}
+use Rattle.run_faults.specs.declared.cause.Cause.TheVariants.{ReadFault, WriteFault, OutOfMemory}
 use Rattle.run_faults.specs.declared.cause.LimitKind.TheVariants.{File, Specs, Records, RecordBytes}
 use Rattle.run_input.specs.Files.{CallsUpTo, CauseOpens, FilesSay, Reads}
 use Rattle.run_input.specs.Records.{entries_for}
 use Rattle.run_input.proofs.ReadsLemmas.{explained_next, no_calls, up_to_more}
-use Rattle.run_endings.specs.Endings.{Saves, cause_of, writes_of}
+use Rattle.run_endings.specs.Endings.{Saves, ending_cause, writes_of}
 use Rattle.run_endings.specs.declared.ending.End.{End}
 use Rattle.run_endings.specs.declared.ending.End.TheVariants as ends
 use Rattle.run_endings.specs.declared.ending.Ending.{Ending}
 use Rattle.run_endings.specs.declared.ending.Saved.{Saved}
 use Rattle.tool_runs.specs.Outside.{Outside, SinkSeen, StoreSeen, WritesLine, store_seen}
 use Rattle.tool_runs.specs.Plan.{answer_by, refusal_in}
-use Rattle.tool_runs.specs.Run.{CallsMade, EndsAsMeant, FilesDecide, OthersStay, Reports, files_with}
+use Rattle.tool_runs.specs.Run.{CallsMade, EndsAsMeant, FilesDecide, OthersStay, Reports}
+use Rattle.tool_runs.specs.Run.{files_with}
 use Rattle.tool_runs.specs.Stages.{saved_name}
 
 -- ---- what is seen
@@ -38,7 +45,8 @@ FilesRead {S} read store store_now result =
     (λ (s : StoreSeen S). s.read_faults) (λ (s : StoreSeen S). s.write_faults) read store store_now
     result
 
-pub reads_seen : {S V : Type 0} (tells : stores.Ghosts S) (read : Files → FilesSay V) (store store_now : S)
+pub reads_seen : {S V : Type 0} (tells : stores.Ghosts S) (read : Files → FilesSay V)
+    (store store_now : S)
     (result : Result V Cause)
     → Reads tells.files tells.calls tells.read_faults tells.write_faults read store store_now result
     → FilesRead read (store_seen tells store) (store_seen tells store_now) result
@@ -243,7 +251,8 @@ written_calls old now opened writes (Denied finding) kind made = made
 written_calls old now opened writes WriteFault kind made = made
 written_calls old now opened writes cause kind made = absurd kind
 
-pub writes_named : (saved : Option Saved) → writes_of saved ≡ writes_of (option_map saved_name saved)
+pub writes_named : (saved : Option Saved)
+    → writes_of saved ≡ writes_of (option_map saved_name saved)
 writes_named None = refl
 writes_named (Some saved) = refl
 
@@ -324,20 +333,20 @@ failing_named old new (Some saved) saves = refl
 
 -- ---- causes of a report
 
-pub end_written : (end : End) → IsWritten (cause_of end)
+pub end_written : (end : End) → IsWritten (ending_cause end)
 end_written ends.Done = tt
 end_written (ends.WalkErrors count) = tt
 end_written (ends.Differs count) = tt
 end_written (ends.Denied finding) = tt
 
-pub end_kept : (end : End) → cause_of end ≡ WriteFault → ⊥
+pub end_kept : (end : End) → ending_cause end ≡ WriteFault → ⊥
 end_kept ends.Done is = absurd (cc)
 end_kept (ends.WalkErrors count) is = absurd (cc)
 end_kept (ends.Differs count) is = absurd (cc)
 end_kept (ends.Denied finding) is = absurd (cc)
 
 pub ends_reported : (meant : Result Ending Cause) (IsDone : Ending → Type 0) (end : End)
-    → Reports meant IsDone (cause_of end) → EndsAsMeant meant IsDone (cause_of end)
+    → Reports meant IsDone (ending_cause end) → EndsAsMeant meant IsDone (ending_cause end)
 ends_reported meant IsDone ends.Done reports = reports
 ends_reported meant IsDone (ends.WalkErrors count) reports = reports
 ends_reported meant IsDone (ends.Differs count) reports = reports

@@ -18,7 +18,12 @@ use Rattle.tool_runs.specs.Outside.{InputSeen, Outside, WritesLine}
 use Rattle.tool_runs.specs.Plan.{answer_by, plan_by, refusal_in}
 use Rattle.tool_runs.specs.Run.{Run, Writes, WritesAndSaves}
 use Rattle.tool_runs.specs.Stages.{InputRead}
-use Rattle.tool_runs.proofs.PartLemmas.{FilesRead, all_up_to, cause_up_to, counts_calm, counts_later, ends_explained, file_calls, file_explains, files_accepted, files_memory, files_refused, if_some, input_calls, input_explains, input_later, line_later, reported_written, same_known, stay_same, unwritten_file, unwritten_input}
+use Rattle.tool_runs.proofs.PartLemmas.{FilesRead, all_up_to, cause_up_to, counts_calm}
+use Rattle.tool_runs.proofs.PartLemmas.{counts_later, ends_explained, file_calls, file_explains}
+use Rattle.tool_runs.proofs.PartLemmas.{files_accepted, files_memory, files_refused, if_some}
+use Rattle.tool_runs.proofs.PartLemmas.{input_calls, input_explains, input_later, line_later}
+use Rattle.tool_runs.proofs.PartLemmas.{reported_written, same_known, stay_same, unwritten_file}
+use Rattle.tool_runs.proofs.PartLemmas.{unwritten_input}
 use Rattle.tool_runs.proofs.MemoryRuns.{accepted_memory, gave_up}
 
 module _ {S I R : Type 0} (reads : List NamedFile) (takes : Option Format) (soft : Bool)

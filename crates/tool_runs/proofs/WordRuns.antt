@@ -105,7 +105,7 @@ module _ {S I : Type 0} (store : StoreSeen S) (input : InputSeen I) (sink sink_n
 
     -- wrong words, or want of memory
     pub ended_by_words : (meant : Result W Usage) (fault : Fault Usage) (cause : Cause)
-        → Explains (answers.cause_of fault) meant
+        → Explains (answers.fault_cause fault) meant
         → (cause ≡ words_cause fault) ⊎ (cause ≡ OutOfMemory) → Line cause
         → Ended (planned plan meant) cause
     ended_by_words meant fault cause explains (inr is) line = no_memory meant cause is line
@@ -117,7 +117,7 @@ module _ {S I : Type 0} (store : StoreSeen S) (input : InputSeen I) (sink sink_n
 
     -- the same of a cause that is handed on
     pub ended_words : (meant : Result W Usage) (fault : Fault Usage) (given cause : Cause)
-        → cause ≡ given → Explains (answers.cause_of fault) meant
+        → cause ≡ given → Explains (answers.fault_cause fault) meant
         → (given ≡ words_cause fault) ⊎ (given ≡ OutOfMemory) → Line given
         → Ended (planned plan meant) cause
     ended_words meant fault given cause same explains is line =

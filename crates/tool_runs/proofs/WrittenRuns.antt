@@ -1,6 +1,8 @@
 -- A run that writes what its tool answers, or tries to.
-use Rattle.std.proofs.Common.{◌≡◌, ◌∙◌, ap, sym, subst, refl, ℕ, ◌+◌, ◌≤◌, arith, ◌⊎◌, inl, inr, List, []}
-use Rattle.std.specs.Prelude.{Bool, true, Option, Some, None, Result, Ok, Err, is_ok, is_some, IfSome, IsSome, option_map}
+use Rattle.std.proofs.Common.{◌≡◌, ◌∙◌, ap, sym, subst, refl, ℕ, ◌+◌, ◌≤◌, arith, ◌⊎◌, inl, inr}
+use Rattle.std.proofs.Common.{List, []}
+use Rattle.std.specs.Prelude.{Bool, true, Option, Some, None, Result, Ok, Err, is_ok, is_some}
+use Rattle.std.specs.Prelude.{IfSome, IsSome, option_map}
 use Rattle.input_output.specs.Source.{Rose}
 use Rattle.input_output.specs.Store.{Calls, Files, SaveCounts}
 use Rattle.input_output.specs.declared.store.SaveFault.{SaveFault}
@@ -15,13 +17,20 @@ use Rattle.run_faults.specs.declared.cause.Cause.TheVariants.{ReadFault, WriteFa
 use Rattle.run_input.specs.Files.{CallsUpTo, FilesSay}
 use Rattle.run_input.specs.Records.{entries_for, input_for}
 use Rattle.run_input.proofs.ReadsLemmas.{calls_on}
-use Rattle.run_endings.specs.Endings.{Saves, cause_of, writes_of}
+use Rattle.run_endings.specs.Endings.{Saves, ending_cause, writes_of}
 use Rattle.run_endings.specs.declared.ending.Ending.{Ending}
 use Rattle.tool_runs.specs.Outside.{Outside, StoreSeen, WritesLine}
 use Rattle.tool_runs.specs.Plan.{answer_by, plan_by}
-use Rattle.tool_runs.specs.Run.{EndsAsMeant, LosesDump, LosesReport, OthersStay, Run, Writes, WritesAndSaves, WritesFrontAndSaves, files_with}
+use Rattle.tool_runs.specs.Run.{EndsAsMeant, LosesDump, LosesReport, OthersStay, Run, Writes}
+use Rattle.tool_runs.specs.Run.{WritesAndSaves, WritesFrontAndSaves, files_with}
 use Rattle.tool_runs.specs.Stages.{Ended, GivesUp, InputRead, WritesBehind, saved_name}
-use Rattle.tool_runs.proofs.PartLemmas.{FilesRead, all_saved, all_up_to, answer_is, end_kept, end_written, ends_explained, ends_reported, exactly, failing_named, files_accepted, if_both, if_some, input_calls, input_later, line_later, none_named, none_saved, ok_and, others_stay, reported_written, same_known, stay_same, unwritten_input, writes_named, written_calls, written_later}
+use Rattle.tool_runs.proofs.PartLemmas.{FilesRead, all_saved, all_up_to, answer_is, end_kept}
+use Rattle.tool_runs.proofs.PartLemmas.{end_written, ends_explained, ends_reported, exactly}
+use Rattle.tool_runs.proofs.PartLemmas.{failing_named, files_accepted, if_both, if_some}
+use Rattle.tool_runs.proofs.PartLemmas.{input_calls, input_later, line_later, none_named}
+use Rattle.tool_runs.proofs.PartLemmas.{none_saved, ok_and, others_stay, reported_written}
+use Rattle.tool_runs.proofs.PartLemmas.{same_known, stay_same, unwritten_input, writes_named}
+use Rattle.tool_runs.proofs.PartLemmas.{written_calls, written_later}
 use Rattle.tool_runs.proofs.MemoryRuns.{accepted_memory, gave_up}
 
 module _ {S I R : Type 0} (reads : List NamedFile) (takes : Option Format) (soft : Bool)
@@ -268,7 +277,7 @@ module _ {S I R : Type 0} (reads : List NamedFile) (takes : Option Format) (soft
           → after.store.write_faults ≡ mid.write_faults
           → WritesBehind reads made (Ok tt) before.sink after.sink cause → Ran cause
       finished cause saves unwritten (inl done) =
-          subst Ran (sym done.0) (tried (cause_of made.end) (Ok tt) (end_written made.end) saves
+          subst Ran (sym done.0) (tried (ending_cause made.end) (Ok tt) (end_written made.end) saves
           (omega (arith, done.1.1)) (λ _. done.1.1)
           (omega (arith, unwritten, accepted.unwritten)) (λ _. unwritten ∙ accepted.unwritten)
           (if_both before.store.files (λ known accepts saved.

@@ -35,8 +35,8 @@ abbrev pub refusal_in : {V : Type 0} → Result V Cause → Option Cause
 refusal_in (Ok value) = None
 refusal_in (Err cause) = Some cause
 
--- the files are read, then the input, and then both are answered; each refusal comes before the next
--- part is looked at
+-- the files are read, then the input, and then both are answered; each refusal comes before the
+-- next part is looked at
 unfoldable pub answer_by : {R : Type 0} → Option Format → (Files → Result R Cause)
     → (R → List Record → Result Ending Cause) → Files → List ℕ → Result Ending Cause
 answer_by records read answered known input =

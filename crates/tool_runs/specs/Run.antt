@@ -1,5 +1,6 @@
 -- What a run of a tool says and does, over any store, input and sink: the headline.
-use Rattle.std.specs.Prelude.{◌≡◌, ℕ, ◌+◌, ◌≤◌, true, List, [], Option, Some, None, is_some, IsSome, Result, Ok, Err, IsOk, IsOkAnd, IfErr, IfOk, IfSome, ◌⊎◌}
+use Rattle.std.specs.Prelude.{◌≡◌, ℕ, ◌+◌, ◌≤◌, true, List, [], Option, Some, None, is_some, IsSome}
+use Rattle.std.specs.Prelude.{Result, Ok, Err, IsOk, IsOkAnd, IfErr, IfOk, IfSome, ◌⊎◌}
 use Rattle.std.specs.FinMap as map
 use Rattle.std.specs.Io.KnownBytes.{Appends}
 use Rattle.input_output.specs.Sink.{AppendsFront}
@@ -9,13 +10,14 @@ use Rattle.tool_words.specs.declared.usage.Usage.{Usage}
 use Rattle.tool_runs.specs.Outside.{Outside, WritesLine}
 use Rattle.tool_runs.specs.Plan.{Plan, answer_in, input_in, output_in, reads_in}
 use Rattle.run_faults.specs.Causes.{Gives, IsFileCause, IsReadingCause, IsReported, IsWritten}
-use Rattle.run_endings.specs.Endings.{cause_of, writes_of}
+use Rattle.run_endings.specs.Endings.{ending_cause, writes_of}
 use Rattle.run_input.specs.Files.{CallsUpTo}
 use Rattle.run_input.specs.Records.{input_for}
 use Rattle.run_faults.specs.Faults.{fault_line}
 use Rattle.run_faults.specs.declared.cause.Cause.{Cause}
 use Rattle.run_faults.specs.declared.cause.Cause.TheVariants as causes
-use Rattle.run_faults.specs.declared.cause.Cause.TheVariants.{Done, WalkErrors, Differs, Denied, ReadFault, WriteFault, OutOfMemory}
+use Rattle.run_faults.specs.declared.cause.Cause.TheVariants.{Done, WalkErrors, Differs, Denied}
+use Rattle.run_faults.specs.declared.cause.Cause.TheVariants.{ReadFault, WriteFault, OutOfMemory}
 use Rattle.run_endings.specs.declared.ending.Saved.{Saved}
 use Rattle.run_endings.specs.declared.ending.Ending.{Ending}
 
@@ -77,7 +79,7 @@ pub record Reports (meant : Result Ending Cause) (IsDone : Ending → Type 0) (c
   pub reported : Ending
   pub is_meant : meant ≡ Ok reported
   pub done : IsDone reported
-  pub cause_is : cause ≡ cause_of reported.end
+  pub cause_is : cause ≡ ending_cause reported.end
 
 -- The end of a run is the one that is meant: this is done with its ending, or it is refused. A
 -- write fails only where there is no refusal.
@@ -133,8 +135,8 @@ pub record LosesReport {S I : Type 0} (asked : Result Plan Usage) (before after 
       IfSome (input_in asked before.input.left) (λ bytes.
       IsOkAnd (answer_in asked known bytes) (WritesFrontAndSaves before after known)))
 
--- A run: what its words ask for, or the first wrong one; the outside before it and after it; and why
--- it ended.
+-- A run: what its words ask for, or the first wrong one; the outside before it and after it; and
+-- why it ended.
 pub record Run {S I : Type 0} (asked : Result Plan Usage) (before after : Outside S I)
     (cause : Cause) : Type 0 where
   -- Wrong words are known as such, and only they, whatever the objects tell. Nothing is read then.

@@ -1,5 +1,5 @@
 ghost use Rattle.std.specs.Prelude.{◌≡◌, ◌<◌, ◌^◌, [], IfOk, Ok, Result, length};
-ghost use Rattle.label_base.specs.Answers.{Answers, cause_of};
+ghost use Rattle.label_base.specs.Answers.{Answers, fault_cause};
 ghost use Rattle.input_output.specs.Store.{Files};
 ghost use Rattle.tool_words.specs.declared.usage.Usage.{Usage};
 ghost use Rattle.run_faults.specs.Faults.{status_of};
@@ -137,11 +137,11 @@ pub fn run_words<T: Tool + Drop, S: Store, I: Source, O: Sink>(
     out: &mut O,
 ) -> Outcome
     requires fit { IfOk words (λ tool. T.IsFit tool) }
-    ensures status { (meant : Result T Usage) → Answers (λ tool. tool) cause_of words meant
+    ensures status { (meant : Result T Usage) → Answers (λ tool. tool) fault_cause words meant
         → result.status ≡ status_of (is_soft_in (planned (λ tool. plan_by (T.reads tool)
         (T.records tool) (T.is_soft tool) (T.output tool) (T.files_say tool) (T.answered tool))
         meant)) result.cause }
-    ensures run { (meant : Result T Usage) → Answers (λ tool. tool) cause_of words meant
+    ensures run { (meant : Result T Usage) → Answers (λ tool. tool) fault_cause words meant
         → Run (planned (λ tool. plan_by (T.reads tool) (T.records tool) (T.is_soft tool)
         (T.output tool) (T.files_say tool) (T.answered tool)) meant)
         (outside S.Store I.Source O.Sink store.old input.old out.old)

@@ -1,4 +1,5 @@
-ghost use Rattle.std.specs.Prelude.{◌≡◌, [], ℕ, ◌<◌, ◌^◌, Bool, List, Option, Result, IfErr, IfOk, length, option_map};
+ghost use Rattle.std.specs.Prelude.{◌≡◌, [], ℕ, ◌<◌, ◌^◌, Bool, List, Option, Result, IfErr, IfOk};
+ghost use Rattle.std.specs.Prelude.{length, option_map};
 ghost use Rattle.input_output.specs.Store.{Files};
 ghost use Rattle.find_records.specs.Record.{Record};
 ghost use Rattle.find_records.specs.declared.format.Format.{Format};
@@ -19,8 +20,8 @@ use run_faults::Cause;
 use std::alloc::Global;
 use tree_model::Tree;
 
-/// What the words of a tool ask for: the files that are read, the format of the records that are, if
-/// any, and what is answered by both.
+/// What the words of a tool ask for: the files that are read, the format of the records that are,
+/// if any, and what is answered by both.
 pub trait Tool {
     /// What the files say.
     type Found: Drop;
@@ -59,8 +60,9 @@ pub trait Tool {
     fn has_soft_errors(&self) -> bool
         ensures { result ≡ is_soft self.now };
 
-    /// Reads the files, each whole before the next, and what they say; where there are none, the store
-    /// stays as it is, and has no say in it. The error is a failed read, or the first refusal among the files.
+    /// Reads the files, each whole before the next, and what they say; where there are none, the
+    /// store stays as it is, and has no say in it. The error is a failed read, or the first refusal
+    /// among the files.
     fn read_files<S: Store>(
         &self,
         alloc: Global,

@@ -1,5 +1,6 @@
 -- One letter more, and that letters are bytes of ASCII.
-use Rattle.std.proofs.Common.{◌≡◌, ◌∙◌, ap, sym, refl, ℕ, ◌<◌, ◌≤◌, true, false, cond, List, [], ◌∷◌, ◌++◌, length, drop, get_or, append_assoc, arith}
+use Rattle.std.proofs.Common.{◌≡◌, ◌∙◌, ap, sym, refl, ℕ, ◌<◌, ◌≤◌, true, false, cond, List, []}
+use Rattle.std.proofs.Common.{◌∷◌, ◌++◌, length, drop, get_or, append_assoc, arith}
 use Rattle.std.specs.Prelude.{nat_lt, Option, Some, None}
 use Rattle.std.proofs.lemmas.Bool.{ltb-true}
 use Rattle.tool_words.specs.Items.{Item, flag, letters_say, with_letter}
@@ -10,7 +11,9 @@ use Rattle.tool_words.specs.declared.letters.Takes.{Takes}
 use Rattle.tool_words.specs.declared.letters.Takes.TheVariants.{Flag as Alone, Value}
 
 -- the first letter, which is this to the tool, and what stands behind it
-pub letter_more : (tool : Tool) (index : ℕ) (text rest : List ℕ) (letter : ℕ) (role : Option Takes) → 0 < length text → get_or text 0 0 ≡ letter → role ≡ takes_of tool letter → rest ≡ drop 1 text → letters_say tool index text ≡ with_letter index letter role rest (letters_say tool index rest)
+pub letter_more : (tool : Tool) (index : ℕ) (text rest : List ℕ) (letter : ℕ) (role : Option Takes)
+    → 0 < length text → get_or text 0 0 ≡ letter → role ≡ takes_of tool letter → rest ≡ drop 1 text
+    → letters_say tool index text ≡ with_letter index letter role rest (letters_say tool index rest)
 unfolding letters_say
 letter_more tool index [] rest letter role some first is behind = absurd (omega (arith, some))
 letter_more tool index (b ∷ bs) rest letter role some first is behind =
@@ -19,7 +22,11 @@ letter_more tool index (b ∷ bs) rest letter role some first is behind =
     ∙ ap (λ r. with_letter index letter role r (letters_say tool index r)) (sym behind)
 
 -- so it goes on behind a letter that stands alone
-pub alone_more : (tool : Tool) (index : ℕ) (text rest letters : List ℕ) (letter : ℕ) (items new old : List Item) → letters_say tool index text ≡ with_letter index letter (Some Alone) rest (letters_say tool index rest) → new ≡ items ++ flag letter index ∷ [] → items ++ (letters_say tool index text).0 ≡ old ++ (letters_say tool index letters).0 → new ++ (letters_say tool index rest).0 ≡ old ++ (letters_say tool index letters).0
+pub alone_more : (tool : Tool) (index : ℕ) (text rest letters : List ℕ) (letter : ℕ)
+    (items new old : List Item) → letters_say tool index text ≡ with_letter index letter
+    (Some Alone) rest (letters_say tool index rest) → new ≡ items ++ flag letter index ∷ []
+    → items ++ (letters_say tool index text).0 ≡ old ++ (letters_say tool index letters).0
+    → new ++ (letters_say tool index rest).0 ≡ old ++ (letters_say tool index letters).0
 alone_more tool index text rest letters letter items new old says added so_far =
     ap (λ xs. xs ++ (letters_say tool index rest).0) added
     ∙ append_assoc items (flag letter index ∷ []) (letters_say tool index rest).0
@@ -27,7 +34,8 @@ alone_more tool index text rest letters letter items new old says added so_far =
     ∙ so_far
 
 -- where no letter is left
-pub letters_end : (tool : Tool) (index : ℕ) (text : List ℕ) → length text ≤ 0 → letters_say tool index text ≡ ([], Any)
+pub letters_end : (tool : Tool) (index : ℕ) (text : List ℕ) → length text ≤ 0
+    → letters_say tool index text ≡ ([], Any)
 unfolding letters_say
 letters_end tool index [] none = refl
 letters_end tool index (b ∷ bs) none = absurd (omega (arith, none))

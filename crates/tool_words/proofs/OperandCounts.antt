@@ -1,18 +1,23 @@
 -- No more operands are read than there are words.
-use Rattle.std.proofs.Common.{◌≡◌, ◌∙◌, ap, subst, refl, cond, ℕ, suc, ◌+◌, ◌≤◌, arith, Bool, true, false, List, [], ◌∷◌, ◌++◌, length}
+use Rattle.std.proofs.Common.{◌≡◌, ◌∙◌, ap, subst, refl, cond, ℕ, suc, ◌+◌, ◌≤◌, arith, Bool, true}
+use Rattle.std.proofs.Common.{false, List, [], ◌∷◌, ◌++◌, length}
 use Rattle.std.specs.Prelude.{Option, Some, None, Result, Ok, Err, IfOk, String}
 use Rattle.std.specs.List.{cons_option}
 use Rattle.std.specs.String.{string_bytes}
 use Rattle.std.specs.declared.alloc.Global.{Global}
 use Rattle.std.proofs.lemmas.List.{length-map, length-append}
 use Rattle.std.proofs.lemmas.List.Elements.{filter_map-append}
-use Rattle.label_base.specs.Answers.{Answers, cause_of}
+use Rattle.label_base.specs.Answers.{Answers, fault_cause}
 use Rattle.label_base.specs.Text.{same_bytes}
 use Rattle.file_paths.specs.Path.{path_read}
 use Rattle.label_base.specs.declared.fault.Fault.{Fault}
-use Rattle.tool_words.specs.Items.{Item, Letters, Taken, ahead, any_taken, first_says, is_cluster, item, items_from, items_of, letters_say, letters_taken, operand_says, other_says, taken, unended, with_letter, word_taken}
+use Rattle.tool_words.specs.Items.{Item, Letters, Taken, ahead, any_taken, first_says, is_cluster}
+use Rattle.tool_words.specs.Items.{item, items_from, items_of, letters_say, letters_taken}
+use Rattle.tool_words.specs.Items.{operand_says, other_says, taken, unended, with_letter}
+use Rattle.tool_words.specs.Items.{word_taken}
 use Rattle.tool_words.specs.Tool.{Tool, takes_of}
-use Rattle.tool_words.specs.Words.{is_operand, items_read, operand_paths, operands_of, path_in, paths_of, text_if, unless_wrong, word_texts}
+use Rattle.tool_words.specs.Words.{is_operand, items_read, operand_paths, operands_of, path_in}
+use Rattle.tool_words.specs.Words.{paths_of, text_if, unless_wrong, word_texts}
 use Rattle.tool_words.specs.Values.{first_wrong}
 use Rattle.tool_words.specs.declared.cutting.Ahead.{Ahead}
 use Rattle.tool_words.specs.declared.cutting.Expects.{Expects}
@@ -118,7 +123,8 @@ accepted : (found : Option Usage) (meant items : List Item)
 accepted None meant items is = cc
 accepted (Some wrong) meant items is = absurd (cc)
 
-texts_few : (tool : Tool) (index : ℕ) (words : List (List ℕ)) (wrong : Option Usage) (items : List Item)
+texts_few : (tool : Tool) (index : ℕ) (words : List (List ℕ)) (wrong : Option Usage)
+    (items : List Item)
     → unless_wrong wrong (items_of tool index words) ≡ Ok items
     → length (operand_paths items) ≤ length words
 texts_few tool index words wrong items is =
@@ -134,9 +140,14 @@ texts_few tool index words wrong items is =
 -- whatever was looked for that may be wrong
 pub operands_few : (tool : Tool) (index : ℕ) (words : List (String Global)) (wrong : Option Usage)
     → (result : Result (List Item) (Fault Usage))
-    → Answers (λ items. items) cause_of result
+    → Answers (λ items. items) fault_cause result
     (unless_wrong wrong (items_of tool index (word_texts words)))
     → IfOk result (λ items. length (operand_paths items) ≤ length words)
 operands_few tool index words wrong (Ok items) is =
-    omega (arith, texts_few tool index (word_texts words) wrong items is, length-map words string_bytes)
+    omega (
+      arith,
+      texts_few tool index (word_texts words) wrong items is,
+      length-map words
+          string_bytes,
+    )
 operands_few tool index words wrong (Err fault) is = tt

@@ -1,5 +1,7 @@
 -- What the words say stands in them, and the first that is wrong is so.
-use Rattle.std.proofs.Common.{◌≡◌, ◌∙◌, Bool, inl, inr, ap, sym, refl, subst, ℕ, ◌+◌, ◌<◌, true, false, cond, List, [], ◌∷◌, ◌++◌, length, drop, append_assoc, append-nil, arith}
+use Rattle.std.proofs.Common.{◌≡◌, ◌∙◌, Bool, inl, inr, ap, sym, refl, subst, ℕ, ◌+◌, ◌<◌, true}
+use Rattle.std.proofs.Common.{false, cond, List, [], ◌∷◌, ◌++◌, length, drop, append_assoc}
+use Rattle.std.proofs.Common.{append-nil, arith}
 use Rattle.std.specs.Prelude.{◌↔◌, ⊤, nat_le, Option, Some, None, Result, Ok, Err, slice_get}
 use Rattle.std.specs.List.{AllByRecursion, cons_option, filter_map}
 use Rattle.std.proofs.lemmas.Bool.{eqb-true, leb-false, lt-leb}
@@ -11,10 +13,15 @@ use Rattle.label_base.specs.Number.{number_of}
 use Rattle.label_base.specs.Text.{same_bytes}
 use Rattle.file_paths.specs.Path.{path_read}
 use Rattle.tool_words.specs.Grammar.{AreAlone}
-use Rattle.tool_words.specs.Items.{Item, Letters, Taken, ahead, any_taken, first_says, is_cluster, item, items_from, items_of, letters_say, letters_taken, operand_says, operand_taken, other_says, taken, unended, valued, valued_says, with_letter, word_taken}
-use Rattle.tool_words.specs.Refusals.{AreGood, HasLetter, HasWrong, IsBad, IsBadValue, IsNoPath, IsOption, IsPast, IsThere, StandsIn}
+use Rattle.tool_words.specs.Items.{Item, Letters, Taken, ahead, any_taken, first_says, is_cluster}
+use Rattle.tool_words.specs.Items.{item, items_from, items_of, letters_say, letters_taken}
+use Rattle.tool_words.specs.Items.{operand_says, operand_taken, other_says, taken, unended, valued}
+use Rattle.tool_words.specs.Items.{valued_says, with_letter, word_taken}
+use Rattle.tool_words.specs.Refusals.{AreGoodItems, HasLetter, HasWrong, IsBadUsage, IsBadValue}
+use Rattle.tool_words.specs.Refusals.{IsNoPath, IsOption, IsPast, IsThere, StandsIn}
 use Rattle.tool_words.specs.Tool.{Tool, takes_of}
-use Rattle.tool_words.specs.Values.{at_index, first_wrong, form_wrong, item_wrong, name_wrong, number_named, path_wrong, says_wrong, unless_some, up_to}
+use Rattle.tool_words.specs.Values.{at_index, first_wrong, form_wrong, item_wrong, name_wrong}
+use Rattle.tool_words.specs.Values.{number_named, path_wrong, says_wrong, unless_some, up_to}
 use Rattle.tool_words.specs.Words.{items_read, unless_wrong, usage}
 use Rattle.tool_words.specs.declared.cutting.Ahead.{Ahead}
 use Rattle.tool_words.specs.declared.cutting.Expects.{Expects}
@@ -31,19 +38,23 @@ use Rattle.tool_words.specs.declared.letters.Takes.TheVariants.{Flag as Alone, V
 use Rattle.tool_words.specs.declared.letters.Valued.{Valued}
 use Rattle.tool_words.specs.declared.usage.Usage.{Usage}
 use Rattle.tool_words.specs.declared.usage.UsageWhy.{UsageWhy}
-use Rattle.tool_words.specs.declared.usage.UsageWhy.TheVariants.{BadKind, BadNumber, BadPath, UnknownOption}
+use Rattle.tool_words.specs.declared.usage.UsageWhy.TheVariants.{BadKind, BadNumber, BadPath}
+use Rattle.tool_words.specs.declared.usage.UsageWhy.TheVariants.{UnknownOption}
 
 -- ---- lists
 
-all_join : {X : Type 0} (P : X → Type 0) → (xs ys : List X) → AllByRecursion P xs → AllByRecursion P ys → AllByRecursion P (xs ++ ys)
+all_join : {X : Type 0} (P : X → Type 0) → (xs ys : List X) → AllByRecursion P xs
+    → AllByRecursion P ys → AllByRecursion P (xs ++ ys)
 all_join P [] ys a b = b
 all_join P (x ∷ xs) ys a b = (a.0, all_join P xs ys a.1 b)
 
-all_middle : {X : Type 0} (P : X → Type 0) → (xs : List X) (x : X) (ys : List X) → AllByRecursion P (xs ++ x ∷ ys) → P x
+all_middle : {X : Type 0} (P : X → Type 0) → (xs : List X) (x : X) (ys : List X)
+    → AllByRecursion P (xs ++ x ∷ ys) → P x
 all_middle P [] x ys a = a.0
 all_middle P (z ∷ xs) x ys a = all_middle P xs x ys a.1
 
-at_end : (before : List (List ℕ)) (word : List ℕ) (words : List (List ℕ)) → slice_get (before ++ word ∷ words) (length before) ≡ Some word
+at_end : (before : List (List ℕ)) (word : List ℕ) (words : List (List ℕ))
+    → slice_get (before ++ word ∷ words) (length before) ≡ Some word
 at_end [] word words = refl
 at_end (w ∷ before) word words = at_end before word words
 
@@ -88,7 +99,8 @@ module _ (tool : Tool) (start : ℕ) (all : List (List ℕ)) (index place : ℕ)
   unfolding letters_say
   letters_stand front [] is alone = (tt, tt)
   letters_stand front (b ∷ bs) is alone =
-      letter_stands b bs (letters_say tool index bs) (takes_of tool b) refl (has front b bs is alone)
+      letter_stands b bs (letters_say tool index bs) (takes_of tool b) refl
+      (has front b bs is alone)
       (λ role. letters_stand (front ++ b ∷ []) bs
       (is ∙ ap (λ xs. DASH ∷ xs) (sym (append_assoc front (b ∷ []) bs)))
       (all_join (λ other. takes_of tool other ≡ Some Alone) front (b ∷ []) alone (role, tt)))
@@ -225,32 +237,54 @@ all_there tool index words =
 
 -- ---- what is wrong
 
-no_path : (text : List ℕ) (why : UsageWhy) → path_wrong (path_read text) ≡ Some why → (BadPath ≡ why) × IsNoPath text
+no_path : (text : List ℕ) (why : UsageWhy) → path_wrong (path_read text) ≡ Some why
+    → (BadPath ≡ why) × IsNoPath text
 no_path text why h =
-    elim (path_read text) as (λ r. path_read text ≡ r → path_wrong r ≡ Some why → (BadPath ≡ why) × IsNoPath text) [
+    elim (path_read text) as (λ r. path_read text ≡ r → path_wrong r ≡ Some why → (BadPath ≡ why)
+    × IsNoPath text) [
       | Ok path ↦ λ e k. absurd (cc)
-      | Err fault ↦ λ e k. (same_Some BadPath why k, λ path is. let both : Err fault ≡ Ok path = sym e ∙ is in cc)
+      | Err fault ↦ λ e k. (
+        same_Some BadPath why k,
+        λ path is. let both : Err fault ≡ Ok path = sym
+            e ∙ is in cc,
+      )
     ] refl h
 
-number_bad : (most : ℕ) (text : List ℕ) (why : UsageWhy) → unless_some BadNumber (number_named most text) ≡ Some why → (BadNumber ≡ why) × IsPast most text
+number_bad : (most : ℕ) (text : List ℕ) (why : UsageWhy)
+    → unless_some BadNumber (number_named most text) ≡ Some why → (BadNumber ≡ why)
+    × IsPast most text
 number_bad most text why h =
-    elim (number_of text) as (λ r. number_of text ≡ r → unless_some BadNumber (up_to most r) ≡ Some why → (BadNumber ≡ why) × IsPast most text) [
-      | None ↦ λ e k. (same_Some BadNumber why k, λ n is. let both : None ≡ Some n = sym e ∙ is in absurd (cc))
+    elim (number_of text) as (λ r. number_of text ≡ r → unless_some BadNumber (up_to most r)
+    ≡ Some why → (BadNumber ≡ why) × IsPast most text) [
+      | None ↦ λ e k. (
+        same_Some BadNumber why k,
+        λ n is. let both : None ≡ Some n = sym e ∙ is in
+            absurd (cc),
+      )
       | Some m ↦ λ e k.
-          elim (nat_le m most) as (λ v. nat_le m most ≡ v → unless_some BadNumber (cond v (Some m) None) ≡ Some why → (BadNumber ≡ why) × IsPast most text) [
+          elim (nat_le m most) as
+          (λ v. nat_le m most ≡ v → unless_some BadNumber (cond v (Some m) None) ≡ Some why
+          → (BadNumber ≡ why) × IsPast most text) [
             | true ↦ λ t l. absurd (cc)
-            | false ↦ λ f l. (same_Some BadNumber why l, λ n is. subst (λ o. most < o) (same_Some m n (sym e ∙ is)) (leb-false m most f))
+            | false ↦ λ f l. (
+              same_Some BadNumber why l,
+              λ n is. subst (λ o. most < o)
+                  (same_Some m n (sym e ∙ is)) (leb-false m most f),
+            )
           ] refl k
     ] refl h
 
-kind_bad : (text : List ℕ) (why : UsageWhy) → unless_some BadKind (class_kind text) ≡ Some why → (BadKind ≡ why) × (class_kind text ≡ None)
+kind_bad : (text : List ℕ) (why : UsageWhy) → unless_some BadKind (class_kind text) ≡ Some why
+    → (BadKind ≡ why) × (class_kind text ≡ None)
 kind_bad text why h =
-    elim (class_kind text) as (λ r. class_kind text ≡ r → unless_some BadKind r ≡ Some why → (BadKind ≡ why) × (class_kind text ≡ None)) [
+    elim (class_kind text) as (λ r. class_kind text ≡ r → unless_some BadKind r ≡ Some why
+    → (BadKind ≡ why) × (class_kind text ≡ None)) [
       | None ↦ λ e k. (same_Some BadKind why k, e)
       | Some kind ↦ λ e k. absurd (cc)
     ] refl h
 
-name_bad : (text : List ℕ) (why : UsageWhy) → name_wrong text ≡ Some why → (BadPath ≡ why) × (text ≡ [])
+name_bad : (text : List ℕ) (why : UsageWhy) → name_wrong text ≡ Some why → (BadPath ≡ why)
+    × (text ≡ [])
 name_bad [] why h = (same_Some BadPath why h, refl)
 name_bad (b ∷ bs) why h = absurd (cc)
 
@@ -267,18 +301,23 @@ value_bad Kind text why h =
     let bad = kind_bad text why h in subst (λ w. IsBadValue Kind text w) bad.0 bad.1
 
 said_bad : (says : Says) (text : List ℕ) (why : UsageWhy) → says_wrong says text ≡ Some why
-    → IsBad says text why
+    → IsBadUsage says text why
 said_bad (Flag letter) text why h = absurd (cc)
 said_bad (Given v) text why h = value_bad v.form text why h
 said_bad Operand text why h =
-    let bad = no_path text why h in subst (λ w. IsBad Operand text w) bad.0 bad.1
+    let bad = no_path text why h in subst (λ w. IsBadUsage Operand text w) bad.0 bad.1
 said_bad (Wrong other) text why h = same_Some other why h
 
-item_bad : (item : Item) (wrong : Usage) → item_wrong item ≡ Some wrong → (item.index ≡ wrong.index) × IsBad item.says item.text wrong.why
+item_bad : (item : Item) (wrong : Usage) → item_wrong item ≡ Some wrong → (item.index ≡ wrong.index)
+    × IsBadUsage item.says item.text wrong.why
 item_bad item wrong h =
-    elim (says_wrong item.says item.text) as (λ r. says_wrong item.says item.text ≡ r → at_index item.index r ≡ Some wrong → (item.index ≡ wrong.index) × IsBad item.says item.text wrong.why) [
+    elim (says_wrong item.says item.text) as (λ r. says_wrong item.says item.text ≡ r
+    → at_index item.index r ≡ Some wrong → (item.index ≡ wrong.index)
+    × IsBadUsage item.says item.text wrong.why) [
       | None ↦ λ e k. absurd (cc)
-      | Some why ↦ λ e k. subst (λ (u : Usage). (item.index ≡ u.index) × IsBad item.says item.text u.why) (same_Some _ wrong k) (refl, said_bad item.says item.text why e)
+      | Some why ↦ λ e k. subst (λ (u : Usage). (item.index ≡ u.index)
+          × IsBadUsage item.says item.text u.why) (same_Some _ wrong k)
+          (refl, said_bad item.says item.text why e)
     ] refl h
 
 -- ---- the first that is wrong
@@ -289,17 +328,34 @@ record Cut (items : List Item) (wrong : Usage) : Type 0 where
   pub item : Item
   pub rest : List Item
   pub cut : items ≡ front ++ item ∷ rest
-  pub before : AreGood front
+  pub before : AreGoodItems front
   pub here : item_wrong item ≡ Some wrong
 
 cut_at : (items : List Item) (wrong : Usage) → first_wrong items ≡ Some wrong → Cut items wrong
 cut_at [] wrong h = absurd (cc)
 cut_at (item ∷ items) wrong h =
-    elim (item_wrong item) as (λ r. item_wrong item ≡ r → first_of (cons_option r (filter_map item_wrong items)) ≡ Some wrong → Cut (item ∷ items) wrong) [
+    elim (item_wrong item) as
+    (λ r. item_wrong item ≡ r → first_of (cons_option r (filter_map item_wrong items))
+    ≡ Some wrong → Cut (item ∷ items) wrong) [
       | None ↦ λ e k.
           let more = cut_at items wrong k in
-          record { front = item ∷ more.front; item = more.item; rest = more.rest; cut = ap (λ xs. item ∷ xs) more.cut; before = (e, more.before); here = more.here }
-      | Some other ↦ λ e k. record { front = []; item = item; rest = items; cut = refl; before = tt; here = e ∙ k }
+          record {
+            front = item ∷ more.front;
+            item = more.item;
+            rest = more.rest;
+            cut = ap
+                (λ xs. item ∷ xs) more.cut;
+            before = (e, more.before);
+            here = more.here;
+          }
+      | Some other ↦ λ e k. record {
+        front = [];
+        item = item;
+        rest = items;
+        cut = refl;
+        before = tt;
+        here = e ∙ k;
+      }
     ] refl h
 
 abbrev err_or : Usage → Result (List Item) Usage → Usage
@@ -343,11 +399,14 @@ path_is text bad =
       | Err fault ↦ λ _. refl
     ] refl
 
-number_is : (most : ℕ) (text : List ℕ) → IsPast most text → unless_some BadNumber (up_to most (number_of text)) ≡ Some BadNumber
+number_is : (most : ℕ) (text : List ℕ) → IsPast most text
+    → unless_some BadNumber (up_to most (number_of text)) ≡ Some BadNumber
 number_is most text past =
-    elim (number_of text) as (λ r. number_of text ≡ r → unless_some BadNumber (up_to most r) ≡ Some BadNumber) [
+    elim (number_of text) as (λ r. number_of text ≡ r → unless_some BadNumber (up_to most r)
+    ≡ Some BadNumber) [
       | None ↦ λ _. refl
-      | Some m ↦ λ e. ap (λ v. unless_some BadNumber (cond v (Some m) None)) (lt-leb m most (past m e))
+      | Some m ↦ λ e. ap (λ v. unless_some BadNumber (cond v (Some m) None))
+          (lt-leb m most (past m e))
     ] refl
 
 name_is : (text : List ℕ) → text ≡ [] → name_wrong text ≡ Some BadPath
@@ -361,26 +420,31 @@ value_is Name text BadPath bad = name_is text bad
 value_is Kind text BadKind bad = ap (unless_some BadKind) bad
 value_is form text why bad = absurd bad
 
-operand_is : (text : List ℕ) (why : UsageWhy) → IsBad Operand text why
+operand_is : (text : List ℕ) (why : UsageWhy) → IsBadUsage Operand text why
     → path_wrong (path_read text) ≡ Some why
 operand_is text BadPath bad = path_is text bad
 operand_is text why bad = absurd bad
 
-said_is : (says : Says) (text : List ℕ) (why : UsageWhy) → IsBad says text why
+said_is : (says : Says) (text : List ℕ) (why : UsageWhy) → IsBadUsage says text why
     → says_wrong says text ≡ Some why
 said_is (Flag letter) text why bad = absurd bad
 said_is (Given v) text why bad = value_is v.form text why bad
 said_is Operand text why bad = operand_is text why bad
 said_is (Wrong other) text why bad = ap Some bad
 
-usage_is : (wrong : Usage) (index : ℕ) (why : UsageWhy) → index ≡ wrong.index → why ≡ wrong.why → usage index why ≡ wrong
+usage_is : (wrong : Usage) (index : ℕ) (why : UsageWhy) → index ≡ wrong.index → why ≡ wrong.why
+    → usage index why ≡ wrong
 usage_is wrong index why e f = ap (λ i. usage i why) e ∙ ap (usage wrong.index) f
 
-item_is : (item : Item) (wrong : Usage) → item.index ≡ wrong.index → IsBad item.says item.text wrong.why → item_wrong item ≡ Some wrong
-item_is item wrong e bad = ap (at_index item.index) (said_is item.says item.text wrong.why bad) ∙ ap Some (usage_is wrong item.index wrong.why e refl)
+item_is : (item : Item) (wrong : Usage) → item.index ≡ wrong.index
+    → IsBadUsage item.says item.text wrong.why → item_wrong item ≡ Some wrong
+item_is item wrong e bad = ap (at_index item.index) (said_is item.says item.text wrong.why bad)
+    ∙ ap Some (usage_is wrong item.index wrong.why e refl)
 
-first_is : (front : List Item) (item : Item) (rest : List Item) (wrong : Usage) → AreGood front → item_wrong item ≡ Some wrong → first_wrong (front ++ item ∷ rest) ≡ Some wrong
-first_is [] item rest wrong good here = ap (λ r. first_of (cons_option r (filter_map item_wrong rest))) here
+first_is : (front : List Item) (item : Item) (rest : List Item) (wrong : Usage) → AreGoodItems front
+    → item_wrong item ≡ Some wrong → first_wrong (front ++ item ∷ rest) ≡ Some wrong
+first_is [] item rest wrong good here =
+    ap (λ r. first_of (cons_option r (filter_map item_wrong rest))) here
 first_is (other ∷ front) item rest wrong good here =
     ap (λ r. first_of (cons_option r (filter_map item_wrong (front ++ item ∷ rest)))) good.0
     ∙ first_is front item rest wrong good.1 here
@@ -390,7 +454,8 @@ wrong_is_refused : (tool : Tool) (index : ℕ) (words : List (List ℕ)) (wrong 
 wrong_is_refused tool index words wrong has =
     ap (λ r. unless_wrong r (items_of tool index words))
     (ap first_wrong has.cut
-    ∙ first_is has.front has.item has.rest wrong has.before (item_is has.item wrong has.here has.bad))
+    ∙ first_is has.front has.item has.rest wrong has.before
+    (item_is has.item wrong has.here has.bad))
 
 pub refused_exactly : (tool : Tool) (index : ℕ) (words : List (List ℕ)) (wrong : Usage)
     → (items_read tool index words ≡ Err wrong) ↔ HasWrong tool index words wrong

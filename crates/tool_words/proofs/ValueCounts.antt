@@ -1,12 +1,14 @@
 -- No more values of a letter are read than there may be.
-use Rattle.std.proofs.Common.{◌≡◌, ◌∙◌, ap, sym, subst, refl, cond, ℕ, zero, suc, ◌+◌, ◌-◌, ◌≤◌, ◌==◌, arith, Bool, true, false, List, [], ◌∷◌, length}
+use Rattle.std.proofs.Common.{◌≡◌, ◌∙◌, ap, sym, subst, refl, cond, ℕ, zero, suc, ◌+◌, ◌-◌, ◌≤◌}
+use Rattle.std.proofs.Common.{◌==◌, arith, Bool, true, false, List, [], ◌∷◌, length}
 use Rattle.std.specs.Prelude.{◌&&◌, if◌then◌else◌, Option, Some, None, Result, Ok, Err, IfOk}
 use Rattle.std.specs.List.{cons_option}
-use Rattle.label_base.specs.Answers.{Answers, cause_of}
+use Rattle.label_base.specs.Answers.{Answers, fault_cause}
 use Rattle.label_base.specs.Lines.{first_of}
 use Rattle.label_base.specs.declared.fault.Fault.{Fault}
 use Rattle.tool_words.specs.Items.{Item, wrong}
-use Rattle.tool_words.specs.Words.{all_within, is_given, room_behind, text_if, unless_wrong, values_of, within_room}
+use Rattle.tool_words.specs.Words.{all_within, is_letter_given, room_behind, text_if, unless_wrong}
+use Rattle.tool_words.specs.Words.{values_of, within_room}
 use Rattle.tool_words.specs.Values.{first_wrong, item_wrong}
 use Rattle.tool_words.specs.declared.usage.Usage.{Usage}
 use Rattle.tool_words.specs.declared.usage.UsageWhy.TheVariants.{BadNumber}
@@ -31,7 +33,7 @@ values_within : (letter room : ℕ) (items : List Item)
 values_within letter room [] right = omega arith
 values_within letter room (item ∷ items) right =
     let parts = parts_right (item_wrong (within_room letter room item)) _ right in
-    has_room (is_given letter item.says) room item (values_of letter items) parts.0
+    has_room (is_letter_given letter item.says) room item (values_of letter items) parts.0
     (values_within letter (room_behind letter room item) items parts.1)
 
 none_wrong : (found : Option Usage) (meant items : List Item)
@@ -40,7 +42,7 @@ none_wrong None meant items is = (refl, cc)
 none_wrong (Some why) meant items is = absurd cc
 
 pub values_few : (letter most : ℕ) (meant : List Item) (result : Result (List Item) (Fault Usage))
-    → Answers (λ items. items) cause_of result
+    → Answers (λ items. items) fault_cause result
     (unless_wrong (first_wrong (all_within letter most meant)) meant)
     → IfOk result (λ items. length (values_of letter items) ≤ most)
 values_few letter most meant (Ok items) is =

@@ -1,6 +1,7 @@
 -- What the words behind a tool's name say, one thing at a time, each with the index of the word
 -- in which it stands, as it is computed; Grammar.antt has the grammar, and a law ties the two.
-use Rattle.std.specs.Prelude.{ℕ, ◌+◌, ◌-◌, Bool, true, false, ◌==◌, List, [], ◌∷◌, ◌++◌, drop, Option, Some, None, if◌then◌else◌}
+use Rattle.std.specs.Prelude.{ℕ, ◌+◌, ◌-◌, Bool, true, false, ◌==◌, List, [], ◌∷◌, ◌++◌, drop}
+use Rattle.std.specs.Prelude.{Option, Some, None, if◌then◌else◌}
 use Rattle.label_base.specs.Text.{same_bytes}
 use Rattle.tool_words.specs.Tool.{Tool, takes_of}
 use Rattle.tool_words.specs.declared.cutting.Ahead.{Ahead}

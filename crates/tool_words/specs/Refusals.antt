@@ -1,5 +1,6 @@
 -- What is wrong with words that are refused, and where it stands in them.
-use Rattle.std.specs.Prelude.{◌≡◌, ◌≢◌, ◌⊎◌, ℕ, ◌+◌, ◌<◌, List, [], ◌∷◌, ◌++◌, length, Some, None, Ok, slice_get}
+use Rattle.std.specs.Prelude.{◌≡◌, ◌≢◌, ◌⊎◌, ℕ, ◌+◌, ◌<◌, List, [], ◌∷◌, ◌++◌, length, Some, None}
+use Rattle.std.specs.Prelude.{Ok, slice_get}
 use Rattle.std.specs.List.{AllByRecursion}
 use Rattle.label_base.specs.Kind.{class_kind}
 use Rattle.label_base.specs.Number.{number_of}
@@ -18,7 +19,8 @@ use Rattle.tool_words.specs.declared.letters.Takes.TheVariants.{Flag as Alone, V
 use Rattle.tool_words.specs.declared.letters.Valued.{Valued}
 use Rattle.tool_words.specs.declared.usage.Usage.{Usage}
 use Rattle.tool_words.specs.declared.usage.UsageWhy.{UsageWhy}
-use Rattle.tool_words.specs.declared.usage.UsageWhy.TheVariants.{BadKind, BadNumber, BadPath, MissingValue, UnknownOption}
+use Rattle.tool_words.specs.declared.usage.UsageWhy.TheVariants.{BadKind, BadNumber, BadPath}
+use Rattle.tool_words.specs.declared.usage.UsageWhy.TheVariants.{MissingValue, UnknownOption}
 
 -- ---- where it stands
 
@@ -84,14 +86,14 @@ IsBadValue Kind text BadKind = class_kind text ≡ None
 IsBadValue form text why = ⊥
 
 -- this is wrong with it
-abbrev pub IsBad : Says → List ℕ → UsageWhy → Type 0
-IsBad (Given v) text why = IsBadValue v.form text why
-IsBad Operand text BadPath = IsNoPath text
-IsBad (Wrong why) text other = why ≡ other
-IsBad says text why = ⊥
+abbrev pub IsBadUsage : Says → List ℕ → UsageWhy → Type 0
+IsBadUsage (Given v) text why = IsBadValue v.form text why
+IsBadUsage Operand text BadPath = IsNoPath text
+IsBadUsage (Wrong why) text other = why ≡ other
+IsBadUsage says text why = ⊥
 
-abbrev pub AreGood : List Item → Type 0
-AreGood items = AllByRecursion (λ item. item_wrong item ≡ None) items
+abbrev pub AreGoodItems : List Item → Type 0
+AreGoodItems items = AllByRecursion (λ item. item_wrong item ≡ None) items
 
 -- this is the first wrong thing that the words say
 pub record HasWrong (tool : Tool) (index : ℕ) (words : List (List ℕ)) (wrong : Usage) : Type 0 where
@@ -99,7 +101,7 @@ pub record HasWrong (tool : Tool) (index : ℕ) (words : List (List ℕ)) (wrong
   pub item : Item
   pub rest : List Item
   pub cut : items_of tool index words ≡ front ++ item ∷ rest
-  pub before : AreGood front
+  pub before : AreGoodItems front
   pub here : item.index ≡ wrong.index
   pub there : IsThere tool index words item
-  pub bad : IsBad item.says item.text wrong.why
+  pub bad : IsBadUsage item.says item.text wrong.why

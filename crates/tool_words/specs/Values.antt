@@ -1,7 +1,8 @@
 -- The values of letters, and what is wrong with what the words say.
-use Rattle.std.specs.Prelude.{◌≡◌, ℕ, nat_le, List, [], ◌∷◌, Option, Some, None, Result, Ok, Err, if◌then◌else◌}
+use Rattle.std.specs.Prelude.{◌≡◌, ℕ, nat_le, List, [], ◌∷◌, Option, Some, None, Result, Ok, Err}
+use Rattle.std.specs.Prelude.{if◌then◌else◌}
 use Rattle.std.specs.List.{filter_map}
-use Rattle.label_base.specs.Answers.{cause_of}
+use Rattle.label_base.specs.Answers.{fault_cause}
 use Rattle.label_base.specs.Kind.{class_kind}
 use Rattle.label_base.specs.Lines.{first_of}
 use Rattle.label_base.specs.Number.{number_of}
@@ -78,4 +79,4 @@ Tells (Some why) wrong = wrong ≡ Some why
 -- a call succeeds where nothing is wrong, and else tells what is
 abbrev pub Judges : {A W : Type 0} → Result A (Fault W) → Option W → Type 0
 Judges (Ok x) wrong = wrong ≡ None
-Judges (Err e) wrong = Tells (cause_of e) wrong
+Judges (Err e) wrong = Tells (fault_cause e) wrong

@@ -1,5 +1,6 @@
 -- What the words say of each letter and of the operands, and the first that is wrong.
-use Rattle.std.specs.Prelude.{ℕ, ◌-◌, Bool, true, false, ◌==◌, ◌&&◌, List, [], ◌∷◌, map, Option, Some, None, Result, Ok, Err, if◌then◌else◌}
+use Rattle.std.specs.Prelude.{ℕ, ◌-◌, Bool, true, false, ◌==◌, ◌&&◌, List, [], ◌∷◌, map, Option}
+use Rattle.std.specs.Prelude.{Some, None, Result, Ok, Err, if◌then◌else◌}
 use Rattle.std.specs.Prelude.{String}
 use Rattle.std.specs.List.{filter_map, last_or, list_any}
 use Rattle.std.specs.Option.{option_and_then}
@@ -28,9 +29,9 @@ abbrev pub is_flag : ℕ → Says → Bool
 is_flag letter (Flag other) = other == letter
 is_flag letter says = false
 
-abbrev pub is_given : ℕ → Says → Bool
-is_given letter (Given v) = v.letter == letter
-is_given letter says = false
+abbrev pub is_letter_given : ℕ → Says → Bool
+is_letter_given letter (Given v) = v.letter == letter
+is_letter_given letter says = false
 
 abbrev pub is_operand : Says → Bool
 is_operand Operand = true
@@ -42,7 +43,7 @@ has_flag letter items = list_any (λ item. is_flag letter item.says) items
 
 -- the letter has a value somewhere
 abbrev pub has_value : ℕ → List Item → Bool
-has_value letter items = list_any (λ item. is_given letter item.says) items
+has_value letter items = list_any (λ item. is_letter_given letter item.says) items
 
 -- an operand that is a path
 abbrev pub has_operand : List Item → Bool
@@ -54,7 +55,8 @@ text_if false text = None
 
 -- the values of a letter, and the operands, in their order
 abbrev pub values_of : ℕ → List Item → List (List ℕ)
-values_of letter items = filter_map (λ item. text_if (is_given letter item.says) item.text) items
+values_of letter items = filter_map (λ item. text_if (is_letter_given letter item.says) item.text)
+    items
 
 abbrev pub operands_of : List Item → List (List ℕ)
 operands_of items = filter_map (λ item. text_if (is_operand item.says) item.text) items
@@ -112,12 +114,12 @@ where_read (Err wrong) asked = Err wrong
 
 -- for how many values there is room behind something that the words say
 abbrev pub room_behind : (letter room : ℕ) → Item → ℕ
-room_behind letter room item = if is_given letter item.says then room - 1 else room
+room_behind letter room item = if is_letter_given letter item.says then room - 1 else room
 
 -- a value for which there is no room is wrong, whatever it is
 abbrev pub within_room : (letter room : ℕ) → Item → Item
 within_room letter room item =
-    if is_given letter item.says && (room == 0) then wrong BadNumber item.index else item
+    if is_letter_given letter item.says && (room == 0) then wrong BadNumber item.index else item
 
 abbrev pub all_within : (letter room : ℕ) → List Item → List Item
 all_within letter room [] = []

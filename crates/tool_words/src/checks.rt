@@ -1,7 +1,8 @@
 ghost use Rattle.std.specs.Prelude.{◌≡◌, ◌==◌, ◌&&◌};
 ghost use Rattle.file_paths.specs.Path.{path_read};
-ghost use Rattle.tool_words.specs.Values.{first_wrong, form_wrong, item_wrong, Judges, path_wrong, says_wrong};
-ghost use Rattle.tool_words.specs.Words.{all_within, is_given, room_behind, within_room};
+ghost use Rattle.tool_words.specs.Values.{first_wrong, form_wrong, item_wrong, Judges, path_wrong};
+ghost use Rattle.tool_words.specs.Values.{says_wrong};
+ghost use Rattle.tool_words.specs.Words.{all_within, is_letter_given, room_behind, within_room};
 
 use crate::item::{Item, Says};
 use crate::letters::Form;
@@ -81,7 +82,7 @@ pub fn check_items(alloc: Global, items: &[Item<'_>]) -> Result<(), Fault<Usage>
 
 // Whether this is a value of the letter for which there is no room.
 fn is_past(letter: u8, room: u32, item: &Item<'_>) -> bool
-    ensures { result ≡ (is_given letter item.now.says && (room == 0)) }
+    ensures { result ≡ (is_letter_given letter item.now.says && (room == 0)) }
 {
     is_given(letter, item) && room == 0
 }

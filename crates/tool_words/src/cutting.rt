@@ -1,5 +1,8 @@
-ghost use Rattle.std.specs.Prelude.{◌≡◌, ◌∷◌, ◌++◌, ◌+◌, ◌<◌, ◌^◌, [], drop, get_or, length, IfOk, OnOk};
-ghost use Rattle.tool_words.specs.Items.{any_taken, ahead, is_cluster, item, items_of, letters_say, operand_says, operand_taken, other_says, taken, unended, valued_says, wrong};
+ghost use Rattle.std.specs.Prelude.{◌≡◌, ◌∷◌, ◌++◌, ◌+◌, ◌<◌, ◌^◌, [], drop, get_or, length, IfOk};
+ghost use Rattle.std.specs.Prelude.{OnOk};
+ghost use Rattle.tool_words.specs.Items.{any_taken, ahead, is_cluster, item, items_of, letters_say};
+ghost use Rattle.tool_words.specs.Items.{operand_says, operand_taken, other_says, taken, unended};
+ghost use Rattle.tool_words.specs.Items.{valued_says, wrong};
 ghost use Rattle.tool_words.specs.declared.cutting.Expects.TheVariants.{Any};
 ghost use Rattle.tool_words.specs.declared.item.Says.TheVariants.{Given};
 ghost use Rattle.tool_words.specs.Words.{word_texts};
@@ -167,7 +170,8 @@ fn add_operand<'a>(
     ensures ahead { IfOk result (λ next.
         next ≡ (operand_taken tool.now ahead.expects ahead.first index word.now).1) }
     ensures items { OnOk result
-        (items.new ≡ items.old ++ (operand_taken tool.now ahead.expects ahead.first index word.now).0) }
+        (items.new ≡ items.old
+        ++ (operand_taken tool.now ahead.expects ahead.first index word.now).0) }
 {
     add(operand_says(tool, ahead.first), index, word, items)?;
     Ok(Ahead {

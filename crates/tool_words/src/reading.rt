@@ -1,6 +1,7 @@
 ghost use Rattle.std.specs.Prelude.{◌<◌, ◌≤◌, ◌+◌, ◌^◌, IfOk, length};
-ghost use Rattle.label_base.specs.Answers.{Answers, cause_of};
-ghost use Rattle.tool_words.specs.Words.{items_read, items_within, operand_paths, values_of, word_texts};
+ghost use Rattle.label_base.specs.Answers.{Answers, fault_cause};
+ghost use Rattle.tool_words.specs.Words.{items_read, items_within, operand_paths, values_of};
+ghost use Rattle.tool_words.specs.Words.{word_texts};
 
 use crate::checks::{check_items, check_items_within};
 use crate::cutting::items_of;
@@ -18,7 +19,7 @@ fn read_checked<'a>(
     first: u32,
 ) -> Result<Row<Item<'a>>, Fault<Usage>>
     requires { length words.now + first < 2 ^ 31 }
-    ensures { Answers (λ items. items) cause_of result
+    ensures { Answers (λ items. items) fault_cause result
         (items_read tool.now first (word_texts words.now)) }
 {
     let items = items_of(alloc, tool, words, first)?;
@@ -38,7 +39,7 @@ pub fn read_items<'a>(
     first: u32,
 ) -> Result<Row<Item<'a>>, Fault<Usage>>
     requires { length words.now + first < 2 ^ 31 }
-    ensures meant { Answers (λ items. items) cause_of result
+    ensures meant { Answers (λ items. items) fault_cause result
         (items_read tool.now first (word_texts words.now)) }
     ensures few { IfOk result (λ items. length (operand_paths items) ≤ length words.now) }
 {
@@ -56,7 +57,7 @@ fn read_checked_within<'a>(
     most: u32,
 ) -> Result<Row<Item<'a>>, Fault<Usage>>
     requires { length words.now + first < 2 ^ 31 }
-    ensures { Answers (λ items. items) cause_of result
+    ensures { Answers (λ items. items) fault_cause result
         (items_within tool.now letter most first (word_texts words.now)) }
 {
     let items = items_of(alloc, tool, words, first)?;
@@ -64,8 +65,8 @@ fn read_checked_within<'a>(
     Ok(items)
 }
 
-/// Reads words as [`read_items`] does, where a letter may have at most so many values: one more is a
-/// bad number at its word, whatever it is.
+/// Reads words as [`read_items`] does, where a letter may have at most so many values: one more is
+/// a bad number at its word, whatever it is.
 pub fn read_items_within<'a>(
     alloc: Global,
     tool: &ToolLetters<'_>,
@@ -75,7 +76,7 @@ pub fn read_items_within<'a>(
     most: u32,
 ) -> Result<Row<Item<'a>>, Fault<Usage>>
     requires { length words.now + first < 2 ^ 31 }
-    ensures meant { Answers (λ items. items) cause_of result
+    ensures meant { Answers (λ items. items) fault_cause result
         (items_within tool.now letter most first (word_texts words.now)) }
     ensures few { IfOk result (λ items. length (operand_paths items) ≤ length words.now) }
     ensures counted { IfOk result (λ items. length (values_of letter items) ≤ most) }

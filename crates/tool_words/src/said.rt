@@ -1,7 +1,9 @@
 ghost use Rattle.std.specs.Prelude.{◌≡◌, ◌∷◌, [], IfOk};
 ghost use Rattle.std.specs.List.{last_or};
 ghost use Rattle.std.specs.Option.{option_copied};
-ghost use Rattle.tool_words.specs.Words.{has_flag, has_operand, has_value, is_flag, is_given, is_operand, kind_given, number_given, value_of, values_of};
+ghost use Rattle.tool_words.specs.Words.{has_flag, has_operand, has_value, is_flag};
+ghost use Rattle.tool_words.specs.Words.{is_letter_given, is_operand, kind_given, number_given};
+ghost use Rattle.tool_words.specs.Words.{value_of, values_of};
 
 use crate::item::{Item, Says};
 use crate::values::number_named;
@@ -19,7 +21,7 @@ fn is_flag(letter: u8, item: &Item<'_>) -> bool
 
 /// Whether this is a value of the letter.
 pub fn is_given(letter: u8, item: &Item<'_>) -> bool
-    ensures { result ≡ is_given letter item.now.says }
+    ensures { result ≡ is_letter_given letter item.now.says }
 {
     match item.says {
         Says::Given(valued) => valued.letter == letter,

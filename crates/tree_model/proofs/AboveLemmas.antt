@@ -15,21 +15,25 @@ name_total = nat_list_cmp_total
 
 pub below_itself : (p : Path) → at_or_below p p ≡ true
 below_itself [] = refl
-below_itself (n ∷ ns) = and_from (same_bytes n n) (at_or_below ns ns) ((bytes_decides n n).1 refl) (below_itself ns)
+below_itself (n ∷ ns) = and_from (same_bytes n n) (at_or_below ns ns) ((bytes_decides n n).1 refl)
+    (below_itself ns)
 
 pub same_head : (n m : _) (ns ms : Path) → at_or_below (n ∷ ns) (m ∷ ms) ≡ true → m ≡ n
 same_head n m ns ms h = (bytes_decides m n).0 (first_so (same_bytes m n) (at_or_below ns ms) h)
 
-pub rest_below : (n m : _) (ns ms : Path) → at_or_below (n ∷ ns) (m ∷ ms) ≡ true → at_or_below ns ms ≡ true
+pub rest_below : (n m : _) (ns ms : Path) → at_or_below (n ∷ ns) (m ∷ ms) ≡ true
+    → at_or_below ns ms ≡ true
 rest_below n m ns ms h = second_so (same_bytes m n) (at_or_below ns ms) h
 
 -- what is at or below a path is at or below all that are above it
-pub below_chain : (z y x : Path) → at_or_below z y ≡ true → at_or_below y x ≡ true → at_or_below z x ≡ true
+pub below_chain : (z y x : Path) → at_or_below z y ≡ true → at_or_below y x ≡ true
+    → at_or_below z x ≡ true
 below_chain z y [] h k = refl
 below_chain z [] (a ∷ x) h k = cc
 below_chain [] (b ∷ y) (a ∷ x) h k = cc
 below_chain (c ∷ z) (b ∷ y) (a ∷ x) h k =
-    and_from (same_bytes a c) (at_or_below z x) ((bytes_decides a c).1 (same_head b a y x k ∙ same_head c b z y h))
+    and_from (same_bytes a c) (at_or_below z x)
+    ((bytes_decides a c).1 (same_head b a y x k ∙ same_head c b z y h))
     (below_chain z y x (rest_below c b z y h) (rest_below b a y x k))
 
 then_equal : (o r : Ordering) → o ≡ Equal → ordering_then o r ≡ r
@@ -38,7 +42,8 @@ then_equal o r h = ap (λ q. ordering_then q r) h
 -- paths that begin with the same name are ordered by the rest
 same_first : (n m : _) (ns ms : Path) → n ≡ m → path_cmp (n ∷ ns) (m ∷ ms) ≡ path_cmp ns ms
 same_first n m ns ms e =
-    then_equal (slice_cmp nat_cmp n m) (path_cmp ns ms) (subst (λ k. slice_cmp nat_cmp n k ≡ Equal) e (tied_itself name_total n))
+    then_equal (slice_cmp nat_cmp n m) (path_cmp ns ms)
+    (subst (λ k. slice_cmp nat_cmp n k ≡ Equal) e (tied_itself name_total n))
 
 -- what is at or below a path is not before it
 pub not_before : (p top : Path) → at_or_below p top ≡ true → path_cmp p top ≡ Less → ⊥
@@ -46,27 +51,32 @@ not_before [] [] h l = cc
 not_before (n ∷ ns) [] h l = cc
 not_before [] (m ∷ ms) h l = cc
 not_before (n ∷ ns) (m ∷ ms) h l =
-    not_before ns ms (rest_below n m ns ms h) (sym (same_first n m ns ms (sym (same_head n m ns ms h))) ∙ l)
+    not_before ns ms (rest_below n m ns ms h)
+    (sym (same_first n m ns ms (sym (same_head n m ns ms h))) ∙ l)
 
 -- a path at or below another, and behind it, has more names
-pub longer : (p top : Path) → at_or_below p top ≡ true → path_cmp top p ≡ Less → length top < length p
+pub longer : (p top : Path) → at_or_below p top ≡ true → path_cmp top p ≡ Less
+    → length top < length p
 longer [] [] h l = cc
 longer (n ∷ ns) [] h l = omega arith
 longer [] (m ∷ ms) h l = cc
 longer (n ∷ ns) (m ∷ ms) h l =
-    let more = longer ns ms (rest_below n m ns ms h) (sym (same_first m n ms ns (same_head n m ns ms h)) ∙ l) in omega (arith, more)
+    let more = longer ns ms (rest_below n m ns ms h)
+    (sym (same_first m n ms ns (same_head n m ns ms h)) ∙ l) in omega (arith, more)
 
 tied_name : (n m : _) → slice_cmp nat_cmp n m ≡ Equal → n ≡ m
 tied_name n m h = (bytes_decides n m).0 (texts_ties n m ∙ ap is_eq h)
 
 -- the first names of paths in order, where the first and the last path begin with the same name
-middle : (o p r s : Ordering) → p ≡ ordering_reverse o → ordering_then o r ≡ Less → ordering_then p s ≡ Less → (o ≡ Equal) × (r ≡ Less) × (s ≡ Less)
+middle : (o p r s : Ordering) → p ≡ ordering_reverse o → ordering_then o r ≡ Less
+    → ordering_then p s ≡ Less → (o ≡ Equal) × (r ≡ Less) × (s ≡ Less)
 middle Less p r s e h k = absurd (cc)
 middle Equal p r s e h k = (refl, h, sym (ap (λ q. ordering_then q s) e) ∙ k)
 middle Greater p r s e h k = cc
 
 -- what stands between a path and one at or below it is at or below it
-pub between : (x y z : Path) → at_or_below z x ≡ true → path_cmp x y ≡ Less → path_cmp y z ≡ Less → at_or_below y x ≡ true
+pub between : (x y z : Path) → at_or_below z x ≡ true → path_cmp x y ≡ Less → path_cmp y z ≡ Less
+    → at_or_below y x ≡ true
 between [] y z h k l = refl
 between (a ∷ x) [] z h k l = cc
 between (a ∷ x) (b ∷ y) [] h k l = cc

@@ -1,5 +1,7 @@
 -- The numbers of doubled records are the verdict on the numbered records.
-use Rattle.std.proofs.Common.{◌≡◌, ◌∙◌, ap, sym, refl, subst, ℕ, ◌+◌, ◌≤◌, Bool, true, false, cond, List, [], ◌∷◌, ◌++◌, length, arith, append_assoc, append-nil, inl, inr}
+use Rattle.std.proofs.Common.{◌≡◌, ◌∙◌, ap, sym, refl, subst, ℕ, ◌+◌, ◌≤◌, Bool, true, false, cond}
+use Rattle.std.proofs.Common.{List, [], ◌∷◌, ◌++◌, length, arith, append_assoc, append-nil, inl}
+use Rattle.std.proofs.Common.{inr}
 use Rattle.std.specs.Prelude.{Some, None}
 use Rattle.std.specs.List.{list_any}
 use Rattle.std.proofs.lemmas.Bool.{true≢false, false_from_ne_true}
@@ -9,9 +11,11 @@ use Rattle.find_records.specs.Record.{Record}
 use Rattle.tree_model.specs.Numbered.{Numbered, numbered_from}
 use Rattle.tree_model.specs.Entries.{conflict, same_path, first_from, doubled_after, doubled}
 use Rattle.tree_model.proofs.Members.{Has, has_push, any_has, none_has}
-use Rattle.tree_model.proofs.SameLemmas.{conflict_path, conflict_back, conflict_itself, conflict_at, path_exact, path_same, peace_same}
+use Rattle.tree_model.proofs.SameLemmas.{conflict_path, conflict_back, conflict_itself, conflict_at}
+use Rattle.tree_model.proofs.SameLemmas.{path_exact, path_same, peace_same}
 use Rattle.tree_model.proofs.Verdicts.{Verdict, IsDoubled}
-use Rattle.tree_model.proofs.NumberedLemmas.{in_low, in_high, in_item, item_in, in_front_or_behind, left, middle}
+use Rattle.tree_model.proofs.NumberedLemmas.{in_low, in_high, in_item, item_in, in_front_or_behind}
+use Rattle.tree_model.proofs.NumberedLemmas.{left, middle}
 
 -- no two are in conflict
 abbrev pub Calm : List Record → Type 0
@@ -22,17 +26,23 @@ pub record First (n : ℕ) (path : Path) (records : List Record) (h : Numbered) 
   pub inside : Has (numbered_from n records) h
   pub number_is : h.number ≡ first_from n path records
   pub path_is : h.item.path ≡ path
-  pub lowest : (a : Numbered) → Has (numbered_from n records) a → a.item.path ≡ path → h.number ≤ a.number
+  pub lowest : (a : Numbered) → Has (numbered_from n records) a → a.item.path ≡ path
+      → h.number ≤ a.number
 
-first_more : (n : ℕ) (path : Path) (r : Record) (rs : List Record) (h : Numbered) → same_path r.path path ≡ false → First (n + 1) path rs h → First n path (r ∷ rs) h
+first_more : (n : ℕ) (path : Path) (r : Record) (rs : List Record) (h : Numbered)
+    → same_path r.path path ≡ false → First (n + 1) path rs h → First n path (r ∷ rs) h
 first_more n path r rs h v f = record {
   inside = inr f.inside;
   number_is = f.number_is ∙ sym (ap (λ b. cond b n (first_from (n + 1) path rs)) v);
   path_is = f.path_is;
-  lowest = λ a ha e. elim ha [ inl q ↦ absurd (true≢false (sym (path_same r.path path (ap (λ z. z.item.path) q ∙ e)) ∙ v)) | inr t ↦ f.lowest a t e ];
+  lowest = λ a ha e. elim ha [
+    | inl q ↦ absurd (true≢false (sym (path_same r.path path (ap (λ z. z.item.path) q ∙ e)) ∙ v))
+    | inr t ↦ f.lowest a t e
+  ];
 }
 
-first_here : (n : ℕ) (path : Path) (r : Record) (rs : List Record) → same_path r.path path ≡ true → First n path (r ∷ rs) (record { number = n; item = r })
+first_here : (n : ℕ) (path : Path) (r : Record) (rs : List Record) → same_path r.path path ≡ true
+    → First n path (r ∷ rs) (record { number = n; item = r })
 first_here n path r rs v = record {
   inside = inl refl;
   number_is = sym (ap (λ b. cond b n (first_from (n + 1) path rs)) v);
@@ -40,29 +50,38 @@ first_here n path r rs v = record {
   lowest = λ a ha e. in_low n (r ∷ rs) a ha;
 }
 
-by_first : (v : Bool) (n : ℕ) (path : Path) (r : Record) (rs : List Record) → same_path r.path path ≡ v → (y : Record) → Has (r ∷ rs) y → y.path ≡ path → ((y : Record) → Has rs y → y.path ≡ path → (h : Numbered) × First (n + 1) path rs h) → (h : Numbered) × First n path (r ∷ rs) h
+by_first : (v : Bool) (n : ℕ) (path : Path) (r : Record) (rs : List Record) → same_path r.path path
+    ≡ v → (y : Record) → Has (r ∷ rs) y → y.path ≡ path
+    → ((y : Record) → Has rs y → y.path ≡ path → (h : Numbered) × First (n + 1) path rs h)
+    → (h : Numbered) × First n path (r ∷ rs) h
 by_first true n path r rs v y hy e f = (record { number = n; item = r }, first_here n path r rs v)
 by_first false n path r rs v y hy e f = elim hy [
   | inl q ↦ absurd (true≢false (sym (path_same r.path path (ap (λ z. z.path) q ∙ e)) ∙ v))
   | inr t ↦ (let p = f y t e in (p.0, first_more n path r rs p.0 v p.1))
 ]
 
-first_is : (n : ℕ) (path : Path) (rs : List Record) (y : Record) → Has rs y → y.path ≡ path → (h : Numbered) × First n path rs h
+first_is : (n : ℕ) (path : Path) (rs : List Record) (y : Record) → Has rs y → y.path ≡ path
+    → (h : Numbered) × First n path rs h
 first_is n path [] y hy e = absurd hy
-first_is n path (r ∷ rs) y hy e = by_first (same_path r.path path) n path r rs refl y hy e (λ z hz f. first_is (n + 1) path rs z hz f)
+first_is n path (r ∷ rs) y hy e = by_first (same_path r.path path) n path r rs refl y hy e
+    (λ z hz f. first_is (n + 1) path rs z hz f)
 
 by_back : (a b : Record) → conflict b a ≡ false → conflict a b ≡ false
 by_back a b h = false_from_ne_true (conflict a b) (λ t. true≢false (sym (conflict_back a b t) ∙ h))
 
 module _ (earlier : List Record) (r : Record) (rs : List Record) (calm : Calm earlier) where
   -- a record in conflict with an earlier one
-  second_here : (y : Record) → Has earlier y → conflict r y ≡ true → IsDoubled (numbered_from 1 (earlier ++ r ∷ rs)) (first_from 1 r.path earlier) (length earlier + 1)
+  second_here : (y : Record) → Has earlier y → conflict r y ≡ true
+      → IsDoubled (numbered_from 1 (earlier ++ r ∷ rs)) (first_from 1 r.path earlier)
+      (length earlier + 1)
   second_here y hy k =
       let py : y.path ≡ r.path = sym (conflict_path r y k) in
       let p = first_is 1 r.path earlier y hy py in
       let f = p.1 in
       let high = in_high 1 earlier p.0 f.inside in
-      let same : p.0.item ≡ y = peace_same p.0.item y (f.path_is ∙ sym py) (calm p.0.item y (in_item 1 earlier p.0 f.inside) hy) in
+      let same : p.0.item ≡ y =
+      peace_same p.0.item y (f.path_is ∙ sym py)
+      (calm p.0.item y (in_item 1 earlier p.0 f.inside) hy) in
       record {
         head = p.0;
         other = record { number = length earlier + 1; item = r };
@@ -74,7 +93,9 @@ module _ (earlier : List Record) (r : Record) (rs : List Record) (calm : Calm ea
         clashes = conflict_back r p.0.item (conflict_at r p.0.item r y refl same ∙ k);
         least = λ a b n ha hb c an bn. elim (in_front_or_behind 1 earlier (r ∷ rs) a ha) [
           | inl ta ↦ elim (in_front_or_behind 1 earlier (r ∷ rs) b hb) [
-            | inl tb ↦ absurd (true≢false (sym c ∙ calm a.item b.item (in_item 1 earlier a ta) (in_item 1 earlier b tb)))
+            | inl tb ↦ absurd
+                (true≢false (sym c ∙ calm a.item b.item (in_item 1 earlier a ta)
+                (in_item 1 earlier b tb)))
             | inr l ↦ omega arith
           ]
           | inr l ↦ omega arith
@@ -89,7 +110,8 @@ module _ (earlier : List Record) (r : Record) (rs : List Record) (calm : Calm ea
   calm_more n = λ a b ha hb. elim (has_push earlier r a ha) [
     | inl ta ↦ elim (has_push earlier r b hb) [
       | inl tb ↦ calm a b ta tb
-      | inr q ↦ by_back a b (conflict_at b a r a (sym q) refl ∙ none_has (conflict r) earlier a n ta)
+      | inr q ↦ by_back a b (conflict_at b a r a (sym q) refl
+          ∙ none_has (conflict r) earlier a n ta)
     ]
     | inr p ↦ elim (has_push earlier r b hb) [
       | inl tb ↦ conflict_at a b r b (sym p) refl ∙ none_has (conflict r) earlier b n tb
@@ -97,16 +119,24 @@ module _ (earlier : List Record) (r : Record) (rs : List Record) (calm : Calm ea
     ]
   ]
 
-calm_verdict : (earlier : List Record) → Calm earlier → Verdict (numbered_from 1 (earlier ++ [])) None
+calm_verdict : (earlier : List Record) → Calm earlier → Verdict (numbered_from 1 (earlier ++ []))
+    None
 calm_verdict earlier calm = λ a b ha hb.
-    calm a.item b.item (subst (λ l. Has l a.item) (append-nil earlier) (in_item 1 (earlier ++ []) a ha)) (subst (λ l. Has l b.item) (append-nil earlier) (in_item 1 (earlier ++ []) b hb))
+    calm a.item b.item
+    (subst (λ l. Has l a.item) (append-nil earlier) (in_item 1 (earlier ++ []) a ha))
+    (subst (λ l. Has l b.item) (append-nil earlier) (in_item 1 (earlier ++ []) b hb))
 
-doubled_after_right : (rest earlier : List Record) → Calm earlier → Verdict (numbered_from 1 (earlier ++ rest)) (doubled_after earlier rest)
+doubled_after_right : (rest earlier : List Record) → Calm earlier
+    → Verdict (numbered_from 1 (earlier ++ rest)) (doubled_after earlier rest)
 doubled_after_right [] earlier calm = calm_verdict earlier calm
 doubled_after_right (r ∷ rs) earlier calm =
-    by_place (list_any (conflict r) earlier) (numbered_from 1 (earlier ++ r ∷ rs)) (Some (first_from 1 r.path earlier, length earlier + 1)) (doubled_after (earlier ++ r ∷ []) rs)
+    by_place (list_any (conflict r) earlier) (numbered_from 1 (earlier ++ r ∷ rs))
+    (Some (first_from 1 r.path earlier, length earlier + 1))
+    (doubled_after (earlier ++ r ∷ []) rs)
     (λ t. let y = any_has (conflict r) earlier t in second_here earlier r rs calm y.0 y.1 y.2)
-    (λ f. subst (λ l. Verdict (numbered_from 1 l) (doubled_after (earlier ++ r ∷ []) rs)) (append_assoc earlier (r ∷ []) rs) (doubled_after_right rs (earlier ++ r ∷ []) (calm_more earlier r rs calm f)))
+    (λ f. subst (λ l. Verdict (numbered_from 1 l) (doubled_after (earlier ++ r ∷ []) rs))
+    (append_assoc earlier (r ∷ []) rs)
+    (doubled_after_right rs (earlier ++ r ∷ []) (calm_more earlier r rs calm f)))
 
 pub doubled_right : (records : List Record) → Verdict (numbered_from 1 records) (doubled records)
 unfolding doubled

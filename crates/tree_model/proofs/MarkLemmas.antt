@@ -1,10 +1,14 @@
 -- The entries that stay with one in its run, marked in one pass.
-use Rattle.std.proofs.Common.{◌≡◌, ◌∙◌, ap, sym, refl, subst, ℕ, ◌+◌, ◌<◌, ◌≤◌, ◌==◌, ◌||◌, Bool, true, false, not, List, length, set, get_or, arith, ◌⊎◌, inl, inr, get_or-set_same, get_or-set_other, length-set}
+use Rattle.std.proofs.Common.{◌≡◌, ◌∙◌, ap, sym, refl, subst, ℕ, ◌+◌, ◌<◌, ◌≤◌, ◌==◌, ◌||◌, Bool}
+use Rattle.std.proofs.Common.{true, false, not, List, length, set, get_or, arith, ◌⊎◌, inl, inr}
+use Rattle.std.proofs.Common.{get_or-set_same, get_or-set_other, length-set}
 use Rattle.std.specs.Prelude.{◌&&◌}
-use Rattle.std.proofs.lemmas.Bool.{cases_lt, cases_eq, and_parts, eq-eqb, ne_eqb, eqb-true, and_from, false_from_ne_true}
+use Rattle.std.proofs.lemmas.Bool.{cases_lt, cases_eq, and_parts, eq-eqb, ne_eqb, eqb-true}
+use Rattle.std.proofs.lemmas.Bool.{and_from, false_from_ne_true}
 use Rattle.label_base.specs.Bounded.{implies}
 use Rattle.label_base.proofs.BoundedLemmas.{all_at, all_from, implies_at}
-use Rattle.tree_model.specs.LiveLists.{IsFilled, IsMarked, IsMarkedTo, IsCleared, IsClearedTo, stays_in}
+use Rattle.tree_model.specs.LiveLists.{IsFilled, AreMarkedLive, IsMarkedTo, IsCleared, IsClearedTo}
+use Rattle.tree_model.specs.LiveLists.{stays_in}
 use Rattle.tree_model.specs.RunLists.{AreEnds, in_run}
 use Rattle.tree_model.proofs.ClosedLemmas.{run_parts, run_from, implied}
 
@@ -26,10 +30,12 @@ and_false false = refl
 
 -- what stands before or behind a run is not in it
 pub before_run : (ends : List ℕ) (d e : ℕ) → e < d → in_run ends d e ≡ false
-before_run ends d e l = false_from_ne_true (in_run ends d e) (λ h. let p = run_parts ends d e h in omega (arith, p.0, l))
+before_run ends d e l = false_from_ne_true (in_run ends d e) (λ h. let p = run_parts ends d e h in
+    omega (arith, p.0, l))
 
 pub behind_run : (ends : List ℕ) (d e : ℕ) → get_or ends d 0 ≤ e → in_run ends d e ≡ false
-behind_run ends d e l = false_from_ne_true (in_run ends d e) (λ h. let p = run_parts ends d e h in omega (arith, p.1, l))
+behind_run ends d e l = false_from_ne_true (in_run ends d e) (λ h. let p = run_parts ends d e h in
+    omega (arith, p.1, l))
 
 module _ (ends : List ℕ) (f : ℕ → ℕ) (o : ℕ) where
   passes : ℕ → Bool
@@ -38,12 +44,16 @@ module _ (ends : List ℕ) (f : ℕ → ℕ) (o : ℕ) where
   pub marked_none : (start : List Bool) → IsMarkedTo ends f o o start start
   marked_none start = record {
     sized = refl;
-    before = λ e l m. sym (ap (λ b. get_or start e false || (b && stays_in ends f o e)) (before_run ends o e l) ∙ or_false (get_or start e false));
+    before = λ e l m. sym
+        (ap (λ b. get_or start e false || (b && stays_in ends f o e)) (before_run ends o e l)
+        ∙ or_false (get_or start e false));
     behind = λ e l m. refl;
     clear = λ a l m n. absurd (omega (arith, l, m));
   }
 
-  module _ (c : ℕ) (start old : List Bool) (ends_are : AreEnds ends) (sized : length start ≡ length ends) (from : o ≤ c) (upto : c < get_or ends o 0) (within : o < length ends)
+  module _ (c : ℕ) (start old : List Bool) (ends_are : AreEnds ends)
+      (sized : length start ≡ length ends) (from : o ≤ c) (upto : c < get_or ends o 0)
+      (within : o < length ends)
       (r : IsMarkedTo ends f o c start old) where
     inside : c < length ends
     inside = let w = ends_are.within o within in omega (arith, w, upto)
@@ -60,19 +70,26 @@ module _ (ends : List ℕ) (f : ℕ → ℕ) (o : ℕ) where
           | inr ge ↦ (let e : a ≡ c = omega (arith, s.0, ge) in eq-eqb (f a) (f o) (ap f e ∙ same))
         ]))
 
-    same_before : (e : ℕ) → f c ≡ f o → e < c + 1 → e < length start → (e ≡ c) ⊎ (e ≡ c → ⊥) → get_or (set old c true) e false ≡ (get_or start e false || (in_run ends o e && stays_in ends f o e))
+    same_before : (e : ℕ) → f c ≡ f o → e < c + 1 → e < length start → (e ≡ c) ⊎ (e ≡ c → ⊥)
+        → get_or (set old c true) e false
+        ≡ (get_or start e false || (in_run ends o e && stays_in ends f o e))
     same_before e same l m (inl here) =
-        subst (λ i. get_or (set old c true) i false ≡ (get_or start i false || (in_run ends o i && stays_in ends f o i))) (sym here)
+        subst (λ i. get_or (set old c true) i false
+        ≡ (get_or start i false || (in_run ends o i && stays_in ends f o i))) (sym here)
         (get_or-set_same old c true false (omega (arith, r.sized, sized, inside))
-        ∙ sym (ap (λ b. get_or start c false || b) (and_from (in_run ends o c) (stays_in ends f o c) (run_from ends o c from upto) (stays_here same)) ∙ or_true (get_or start c false)))
-    same_before e same l m (inr other) = get_or-set_other old c e true false other ∙ r.before e (omega (arith, l, other)) m
+        ∙ sym (ap (λ b. get_or start c false || b)
+        (and_from (in_run ends o c) (stays_in ends f o c) (run_from ends o c from upto)
+        (stays_here same)) ∙ or_true (get_or start c false)))
+    same_before e same l m (inr other) = get_or-set_other old c e true false other
+        ∙ r.before e (omega (arith, l, other)) m
 
     -- an entry that stays
     pub marked_same : f c ≡ f o → IsMarkedTo ends f o (c + 1) start (set old c true)
     marked_same same = record {
       sized = length-set old c true ∙ r.sized;
       before = λ e l m. same_before e same l m (cases_eq e c);
-      behind = λ e l m. (let other : e ≡ c → ⊥ = λ s. omega (arith, l, s) in get_or-set_other old c e true false other ∙ r.behind e (omega (arith, l)) m);
+      behind = λ e l m. (let other : e ≡ c → ⊥ = λ s. omega (arith, l, s) in
+          get_or-set_other old c e true false other ∙ r.behind e (omega (arith, l)) m);
       clear = λ a l m n. elim (cases_lt a c) [
         | inl lt ↦ r.clear a l lt (omega (arith, n))
         | inr ge ↦ (let e : a ≡ c = omega (arith, m, ge) in ap f e ∙ same)
@@ -81,8 +98,11 @@ module _ (ends : List ℕ) (f : ℕ → ℕ) (o : ℕ) where
 
     leaves : (e : ℕ) → (f c ≡ f o → ⊥) → c ≤ e → e < get_or ends c 0 → stays_in ends f o e ≡ false
     leaves e other l m = false_from_ne_true (stays_in ends f o e) (λ h.
-        let i = all_at (length ends) (λ a. implies (in_run ends o a && in_run ends a e) (f a == f o)) c h inside in
-        let t = implies_at (in_run ends o c && in_run ends c e) (f c == f o) i (and_from (in_run ends o c) (in_run ends c e) (run_from ends o c from upto) (run_from ends c e l m)) in
+        let i = all_at (length ends)
+        (λ a. implies (in_run ends o a && in_run ends a e) (f a == f o)) c h inside in
+        let t = implies_at (in_run ends o c && in_run ends c e) (f c == f o) i
+        (and_from (in_run ends o c) (in_run ends c e) (run_from ends o c from upto)
+        (run_from ends c e l m)) in
         other (eqb-true (f c) (f o) t))
 
     -- an entry that leaves, with all in its run
@@ -91,7 +111,10 @@ module _ (ends : List ℕ) (f : ℕ → ℕ) (o : ℕ) where
       sized = r.sized;
       before = λ e l m. elim (cases_lt e c) [
         | inl lt ↦ r.before e lt m
-        | inr ge ↦ r.behind e ge m ∙ sym (ap (λ b. get_or start e false || (in_run ends o e && b)) (leaves e other ge l) ∙ ap (λ b. get_or start e false || b) (and_false (in_run ends o e)) ∙ or_false (get_or start e false))
+        | inr ge ↦ r.behind e ge m
+            ∙ sym (ap (λ b. get_or start e false || (in_run ends o e && b)) (leaves e other ge l)
+            ∙ ap (λ b. get_or start e false || b) (and_false (in_run ends o e))
+            ∙ or_false (get_or start e false))
       ];
       behind = λ e l m. (let b = ends_are.behind c inside in r.behind e (omega (arith, l, b)) m);
       clear = λ a l m n. elim (cases_lt a c) [
@@ -101,68 +124,96 @@ module _ (ends : List ℕ) (f : ℕ → ℕ) (o : ℕ) where
     }
 
   -- all of the run
-  pub marked_all : (start new : List Bool) → IsMarkedTo ends f o (get_or ends o 0) start new → IsMarked (λ e. in_run ends o e && stays_in ends f o e) start new
+  pub marked_all : (start new : List Bool) → IsMarkedTo ends f o (get_or ends o 0) start new
+      → AreMarkedLive (λ e. in_run ends o e && stays_in ends f o e) start new
   marked_all start new r = record {
     sized = r.sized;
     marks = λ e m. elim (cases_lt e (get_or ends o 0)) [
       | inl lt ↦ r.before e lt m
-      | inr ge ↦ r.behind e ge m ∙ sym (ap (λ b. get_or start e false || (b && stays_in ends f o e)) (behind_run ends o e ge) ∙ or_false (get_or start e false))
+      | inr ge ↦ r.behind e ge m
+          ∙ sym (ap (λ b. get_or start e false || (b && stays_in ends f o e))
+          (behind_run ends o e ge) ∙ or_false (get_or start e false))
     ];
   }
 
 -- tests that agree
-pub marked_as : (p q : ℕ → Bool) (old new : List Bool) → IsMarked p old new → ((e : ℕ) → e < length old → p e ≡ q e) → IsMarked q old new
-marked_as p q old new r h = record { sized = r.sized; marks = λ e l. r.marks e l ∙ ap (λ b. get_or old e false || b) (h e l) }
+pub marked_as : (p q : ℕ → Bool) (old new : List Bool) → AreMarkedLive p old new
+    → ((e : ℕ) → e < length old → p e ≡ q e) → AreMarkedLive q old new
+marked_as p q old new r h =
+    record {
+      sized = r.sized;
+      marks = λ e l. r.marks e l ∙ ap (λ b. get_or old e false || b) (h e l);
+    }
 
 -- a run that is filled
-pub filled_marks : (ends : List ℕ) (o : ℕ) (old new : List Bool) → IsFilled o (get_or ends o 0) true old new → IsMarked (in_run ends o) old new
+pub filled_marks : (ends : List ℕ) (o : ℕ) (old new : List Bool)
+    → IsFilled o (get_or ends o 0) true old new → AreMarkedLive (in_run ends o) old new
 filled_marks ends o old new r = record {
   sized = r.sized;
   marks = λ e m. elim (cases_lt e o) [
-    | inl lt ↦ r.before e lt m ∙ sym (ap (λ b. get_or old e false || b) (before_run ends o e lt) ∙ or_false (get_or old e false))
+    | inl lt ↦ r.before e lt m ∙ sym (ap (λ b. get_or old e false || b) (before_run ends o e lt)
+        ∙ or_false (get_or old e false))
     | inr ge ↦ elim (cases_lt e (get_or ends o 0)) [
-      | inl lt ↦ r.inside e ge lt m ∙ sym (ap (λ b. get_or old e false || b) (run_from ends o e ge lt) ∙ or_true (get_or old e false))
-      | inr past ↦ r.behind e past m ∙ sym (ap (λ b. get_or old e false || b) (behind_run ends o e past) ∙ or_false (get_or old e false))
+      | inl lt ↦ r.inside e ge lt m
+          ∙ sym (ap (λ b. get_or old e false || b) (run_from ends o e ge lt)
+          ∙ or_true (get_or old e false))
+      | inr past ↦ r.behind e past m
+          ∙ sym (ap (λ b. get_or old e false || b) (behind_run ends o e past)
+          ∙ or_false (get_or old e false))
     ]
   ];
 }
 
 -- one flag
-one_mark : (o e : ℕ) (old : List Bool) → o < length old → (e ≡ o) ⊎ (e ≡ o → ⊥) → get_or (set old o true) e false ≡ (get_or old e false || (o == e))
+one_mark : (o e : ℕ) (old : List Bool) → o < length old → (e ≡ o) ⊎ (e ≡ o → ⊥)
+    → get_or (set old o true) e false ≡ (get_or old e false || (o == e))
 one_mark o e old l (inl same) =
     subst (λ i. get_or (set old o true) i false ≡ (get_or old i false || (o == i))) (sym same)
-    (get_or-set_same old o true false l ∙ sym (ap (λ b. get_or old o false || b) (eq-eqb o o refl) ∙ or_true (get_or old o false)))
+    (get_or-set_same old o true false l
+    ∙ sym (ap (λ b. get_or old o false || b) (eq-eqb o o refl) ∙ or_true (get_or old o false)))
 one_mark o e old l (inr other) =
-    get_or-set_other old o e true false other ∙ sym (ap (λ b. get_or old e false || b) (ne_eqb o e (λ s. other (sym s))) ∙ or_false (get_or old e false))
+    get_or-set_other old o e true false other
+    ∙ sym (ap (λ b. get_or old e false || b) (ne_eqb o e (λ s. other (sym s)))
+    ∙ or_false (get_or old e false))
 
-pub marked_one : (o : ℕ) (old : List Bool) → o < length old → IsMarked (λ e. o == e) old (set old o true)
-marked_one o old l = record { sized = length-set old o true; marks = λ e m. one_mark o e old l (cases_eq e o) }
+pub marked_one : (o : ℕ) (old : List Bool) → o < length old
+    → AreMarkedLive (λ e. o == e) old (set old o true)
+marked_one o old l =
+    record { sized = length-set old o true; marks = λ e m. one_mark o e old l (cases_eq e o) }
 
 -- nothing cleared yet
-pub cleared_none : (p : ℕ → Bool) (c : ℕ) (old : List Bool) → ((e : ℕ) → e < c → e < length old → p e ≡ false) → IsClearedTo p c old old
+pub cleared_none : (p : ℕ → Bool) (c : ℕ) (old : List Bool)
+    → ((e : ℕ) → e < c → e < length old → p e ≡ false) → IsClearedTo p c old old
 cleared_none p c old h = record {
   sized = refl;
-  before = λ e l m. sym (ap (λ b. get_or old e false && not b) (h e l m) ∙ and_true (get_or old e false));
+  before = λ e l m. sym (ap (λ b. get_or old e false && not b) (h e l m)
+      ∙ and_true (get_or old e false));
   behind = λ e l m. refl;
 }
 
 -- a run cleared
-pub cleared_more : (p : ℕ → Bool) (c end : ℕ) (start old new : List Bool) → ((e : ℕ) → c ≤ e → e < end → p e ≡ true) → IsClearedTo p c start old → c ≤ end → IsFilled c end false old new → IsClearedTo p end start new
+pub cleared_more : (p : ℕ → Bool) (c end : ℕ) (start old new : List Bool)
+    → ((e : ℕ) → c ≤ e → e < end → p e ≡ true) → IsClearedTo p c start old → c ≤ end
+    → IsFilled c end false old new → IsClearedTo p end start new
 cleared_more p c end start old new h r up s = record {
   sized = s.sized ∙ r.sized;
   before = λ e l m. elim (cases_lt e c) [
     | inl lt ↦ s.before e lt (omega (arith, m, r.sized)) ∙ r.before e lt m
-    | inr ge ↦ s.inside e ge l (omega (arith, m, r.sized)) ∙ sym (ap (λ b. get_or start e false && not b) (h e ge l) ∙ and_false (get_or start e false))
+    | inr ge ↦ s.inside e ge l (omega (arith, m, r.sized))
+        ∙ sym (ap (λ b. get_or start e false && not b) (h e ge l)
+        ∙ and_false (get_or start e false))
   ];
   behind = λ e l m. s.behind e l (omega (arith, m, r.sized)) ∙ r.behind e (omega (arith, l, up)) m;
 }
 
 -- nothing behind passes
-pub cleared_all : (p : ℕ → Bool) (c : ℕ) (start new : List Bool) → IsClearedTo p c start new → ((e : ℕ) → c ≤ e → e < length start → p e ≡ false) → IsCleared p start new
+pub cleared_all : (p : ℕ → Bool) (c : ℕ) (start new : List Bool) → IsClearedTo p c start new
+    → ((e : ℕ) → c ≤ e → e < length start → p e ≡ false) → IsCleared p start new
 cleared_all p c start new r h = record {
   sized = r.sized;
   clears = λ e m. elim (cases_lt e c) [
     | inl lt ↦ r.before e lt m
-    | inr ge ↦ r.behind e ge m ∙ sym (ap (λ b. get_or start e false && not b) (h e ge m) ∙ and_true (get_or start e false))
+    | inr ge ↦ r.behind e ge m
+        ∙ sym (ap (λ b. get_or start e false && not b) (h e ge m) ∙ and_true (get_or start e false))
   ];
 }

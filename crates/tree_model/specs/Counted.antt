@@ -3,7 +3,7 @@ use Rattle.std.specs.Prelude.{◌≡◌, ℕ, ◌<◌, ◌≤◌, Bool, false, L
 use Rattle.label_base.specs.Bounded.{all_numbers}
 use Rattle.find_records.specs.Record.{Record}
 use Rattle.tree_model.specs.Extents.{entry_at}
-use Rattle.tree_model.specs.Groups.{closed_at, has_names, holds_groups}
+use Rattle.tree_model.specs.Groups.{closed_at, has_more_names, holds_groups}
 
 -- no entry has a link count
 abbrev pub AreUncounted : List Record → Type 0
@@ -11,10 +11,10 @@ AreUncounted entries = (e : ℕ) → e < length entries → (entry_at entries e)
 
 -- for each entry whether its group has all names that its link count tells
 abbrev pub names_flags : List Record → List Bool
-names_flags entries = map (has_names entries) (all_numbers (length entries))
+names_flags entries = map (has_more_names entries) (all_numbers (length entries))
 
--- the flags of the extents before a place tell whether all groups lie there, and those of the others
--- whether all names do
+-- the flags of the extents before a place tell whether all groups lie there, and those of the
+-- others whether all names do
 pub record AreClosedFrom (entries : List Record) (place : ℕ) (closed : List Bool) : Type 0 where
   pub sized : length closed ≡ length entries
   pub before : (d : ℕ) → d < place → d < length entries

@@ -1,6 +1,7 @@
--- The entries of a tree: the records, those equal in every field counted once, in the order of their
--- paths.
-use Rattle.std.specs.Prelude.{ℕ, ◌+◌, Bool, ◌&&◌, ◌==◌, not, List, [], ◌∷◌, ◌++◌, length, Option, Some, None, Result, Ok, Err, if◌then◌else◌}
+-- The entries of a tree: the records, those equal in every field counted once, in the order of
+-- their paths.
+use Rattle.std.specs.Prelude.{ℕ, ◌+◌, Bool, ◌&&◌, ◌==◌, not, List, [], ◌∷◌, ◌++◌, length, Option}
+use Rattle.std.specs.Prelude.{Some, None, Result, Ok, Err, if◌then◌else◌}
 use Rattle.std.specs.List.{list_any}
 use Rattle.std.specs.Option.{option_eq}
 use Rattle.std.specs.Cmp.Lexicographic.{pointwise}
@@ -33,8 +34,8 @@ abbrev pub first_from : ℕ → Path → List Record → ℕ
 first_from n path [] = n
 first_from n path (r ∷ rs) = if same_path r.path path then n else first_from (n + 1) path rs
 
--- with these records before: the first number with its path, and the number, of the first record whose
--- path an earlier one has with another kind, device, inode, link count or label
+-- with these records before: the first number with its path, and the number, of the first record
+-- whose path an earlier one has with another kind, device, inode, link count or label
 abbrev pub doubled_after : List Record → List Record → Option (ℕ × ℕ)
 doubled_after earlier [] = None
 doubled_after earlier (r ∷ rs) =
@@ -44,17 +45,17 @@ doubled_after earlier (r ∷ rs) =
 unfoldable pub doubled : List Record → Option (ℕ × ℕ)
 doubled records = doubled_after [] records
 
--- a record before entries, in their place, or behind the first of them, by how it compares with that
--- one
-abbrev pub placed : Ordering → Record → Record → List Record → List Record → List Record
-placed Less r e es behind = r ∷ e ∷ es
-placed Equal r e es behind = e ∷ es
-placed Greater r e es behind = e ∷ behind
+-- a record before entries, in their place, or behind the first of them, by how it compares with
+-- that one
+abbrev pub entry_placed : Ordering → Record → Record → List Record → List Record → List Record
+entry_placed Less r e es behind = r ∷ e ∷ es
+entry_placed Equal r e es behind = e ∷ es
+entry_placed Greater r e es behind = e ∷ behind
 
 -- a record put into entries, in the order of the paths, unless its path is there
 abbrev pub entered : Record → List Record → List Record
 entered r [] = r ∷ []
-entered r (e ∷ es) = placed (path_cmp r.path e.path) r e es (entered r es)
+entered r (e ∷ es) = entry_placed (path_cmp r.path e.path) r e es (entered r es)
 
 unfoldable pub entries_of : List Record → List Record
 entries_of [] = []

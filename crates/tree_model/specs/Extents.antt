@@ -1,6 +1,7 @@
--- What stands at or below an entry, among entries in the order of their paths, and the directory above
--- it.
-use Rattle.std.specs.Prelude.{◌≡◌, ℕ, zero, suc, ◌+◌, ◌<◌, ◌≤◌, ◌==◌, nat_lt, Bool, ◌&&◌, List, length, get_or, Option, Some, None, if◌then◌else◌}
+-- What stands at or below an entry, among entries in the order of their paths, and the directory
+-- above it.
+use Rattle.std.specs.Prelude.{◌≡◌, ℕ, zero, suc, ◌+◌, ◌<◌, ◌≤◌, ◌==◌, nat_lt, Bool, ◌&&◌, List}
+use Rattle.std.specs.Prelude.{length, get_or, Option, Some, None, if◌then◌else◌}
 use Rattle.label_base.specs.Bounded.{greatest_below}
 use Rattle.label_base.specs.Kind.{same_kind}
 use Rattle.file_paths.specs.Path.{at_or_below, strictly_below}

@@ -1,5 +1,6 @@
 -- The first entry of each inode: how groups are numbered.
-use Rattle.std.specs.Prelude.{◌≡◌, ℕ, ◌+◌, ◌*◌, ◌<◌, ◌^◌, ◌%◌, ◌/◌, nat_lt, true, List, [], length, map, take, get_or, Option, Some, None, if◌then◌else◌}
+use Rattle.std.specs.Prelude.{◌≡◌, ℕ, ◌+◌, ◌*◌, ◌<◌, ◌^◌, ◌%◌, ◌/◌, nat_lt, true, List, [], length}
+use Rattle.std.specs.Prelude.{map, take, get_or, Option, Some, None, if◌then◌else◌}
 use Rattle.std.specs.BTreeMap as tree
 use Rattle.std.specs.BTreeMap.{BTreeMap}
 use Rattle.std.specs.List.{position_or_len}
@@ -7,16 +8,16 @@ use Rattle.std.specs.Ordering.{nat_cmp, ordering_then}
 use Rattle.std.specs.declared.cmp.Ordering.{Ordering}
 use Rattle.tree_model.specs.declared.firsts.TheConstants.{MIX}
 use Rattle.tree_model.specs.Links.{same_inode}
-use Rattle.tree_model.specs.GroupLists.{AreHeads, AreNext, groups_behind}
+use Rattle.tree_model.specs.GroupLists.{AreGroupHeads, AreNext, groups_behind}
 use Rattle.tree_model.specs.Groups.{inodes_behind}
 
 -- where the inode is met first
-abbrev pub first_of : List (ℕ × ℕ) → ℕ × ℕ → ℕ
-first_of inodes inode = position_or_len (same_inode inode) inodes
+abbrev pub first_with_inode : List (ℕ × ℕ) → ℕ × ℕ → ℕ
+first_with_inode inodes inode = position_or_len (same_inode inode) inodes
 
 -- for each entry the first one of its inode
 abbrev pub firsts_of : List (ℕ × ℕ) → List ℕ
-firsts_of inodes = map (first_of inodes) inodes
+firsts_of inodes = map (first_with_inode inodes) inodes
 
 -- ---- numbers of groups by first entries
 
@@ -36,8 +37,8 @@ pub record AreNumbered (inodes : List (ℕ × ℕ)) (e : ℕ) (groups : List ℕ
 -- ---- entries by buckets
 
 -- the bucket of an inode, one of so many
-unfoldable pub bucket_of : ℕ → ℕ × ℕ → ℕ
-bucket_of count inode =
+unfoldable pub inode_bucket : ℕ → ℕ × ℕ → ℕ
+inode_bucket count inode =
     ((inode.1 * MIX) % 2 ^ 64 + inode.0) % 2 ^ 64 * MIX % 2 ^ 64 / 2 ^ 32 % count
 
 -- entries of one inode have one bucket, and each entry leads to the next one of its bucket
@@ -48,21 +49,21 @@ pub record AreBucketed (inodes : List (ℕ × ℕ)) (buckets first next : List �
       → same_inode (get_or inodes a (0, 0)) (get_or inodes b (0, 0)) ≡ true
       → get_or buckets a 0 ≡ get_or buckets b 0
   pub inside : (e : ℕ) → e < length buckets → get_or buckets e 0 < length first
-  pub heads : AreHeads buckets 0 first
+  pub heads : AreGroupHeads buckets 0 first
   pub behind : AreNext buckets 0 next
 
 -- ---- entries by an order
 
 -- what is kept for an inode: its first entry, if that stands before e
-abbrev pub told_before : List (ℕ × ℕ) → ℕ → ℕ × ℕ → Option ℕ
-told_before inodes e inode =
-    if nat_lt (first_of inodes inode) e then Some (first_of inodes inode) else None
+abbrev pub first_before : List (ℕ × ℕ) → ℕ → ℕ × ℕ → Option ℕ
+first_before inodes e inode =
+    if nat_lt (first_with_inode inodes inode) e then Some (first_with_inode inodes inode) else None
 
 -- the order of inodes
 abbrev pub inode_cmp : ℕ × ℕ → ℕ × ℕ → Ordering
 inode_cmp a b = ordering_then (nat_cmp a.0 b.0) (nat_cmp a.1 b.1)
 
 -- the first entries before e, by their inodes
-abbrev pub ArePut : List (ℕ × ℕ) → ℕ → BTreeMap (ℕ × ℕ) ℕ → Type 0
-ArePut inodes e kept =
-    (inode : ℕ × ℕ) → tree.get inode_cmp kept inode ≡ told_before inodes e inode
+abbrev pub AreFirstsPut : List (ℕ × ℕ) → ℕ → BTreeMap (ℕ × ℕ) ℕ → Type 0
+AreFirstsPut inodes e kept =
+    (inode : ℕ × ℕ) → tree.get inode_cmp kept inode ≡ first_before inodes e inode

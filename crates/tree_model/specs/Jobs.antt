@@ -1,5 +1,6 @@
 -- A tree as workers see it: each directory is a job, which holds the entries whose parent it is.
-use Rattle.std.specs.Prelude.{◌≡◌, ℕ, zero, suc, ◌==◌, ◌<◌, ◌≤◌, true, List, length, map, filter, drop, get_or, slice_get, Option, Some, None}
+use Rattle.std.specs.Prelude.{◌≡◌, ℕ, zero, suc, ◌==◌, ◌<◌, ◌≤◌, true, List, length, map, filter}
+use Rattle.std.specs.Prelude.{drop, get_or, slice_get, Option, Some, None}
 use Rattle.std.specs.List.{position_or_len}
 use Rattle.label_base.specs.Bounded.{all_numbers}
 use Rattle.find_records.specs.Record.{Record}
@@ -22,30 +23,30 @@ job_for entries None = zero
 job_for entries (Some d) = job_of entries d
 
 -- the job that holds an entry: that of its parent, or job 0
-abbrev pub home_of : List Record → ℕ → ℕ
-home_of entries e = job_for entries (parent_of entries e)
+abbrev pub entry_home : List Record → ℕ → ℕ
+entry_home entries e = job_for entries (parent_of entries e)
 
--- the directory of a job: job j is the j-th one, and job 0, which stands for the root that holds the
--- entries without a parent, has none
+-- the directory of a job: job j is the j-th one, and job 0, which stands for the root that holds
+-- the entries without a parent, has none
 abbrev pub job_directory : List Record → ℕ → Option ℕ
 job_directory entries zero = None
 job_directory entries (suc j) = slice_get (directories_in entries) j
 
 -- the entries from a place on that a job holds, in ascending order
-abbrev pub entries_from : List Record → ℕ → ℕ → List ℕ
-entries_from entries job place =
-    filter (λ e. home_of entries e == job) (drop place (all_numbers (length entries)))
+abbrev pub children_from : List Record → ℕ → ℕ → List ℕ
+children_from entries job place =
+    filter (λ e. entry_home entries e == job) (drop place (all_numbers (length entries)))
 
 -- all entries that a job holds
 abbrev pub entries_of_job : List Record → ℕ → List ℕ
-entries_of_job entries job = entries_from entries job zero
+entries_of_job entries job = children_from entries job zero
 
--- for each job from 1 on the job that holds it, for each entry the job that holds it and its group, and
--- how many groups there are
+-- for each job from 1 on the job that holds it, for each entry the job that holds it and its group,
+-- and how many groups there are
 abbrev pub shape_of : List Record → Shape
 shape_of entries = record {
-  parents = map (home_of entries) (directories_in entries);
-  homes = map (home_of entries) (all_numbers (length entries));
+  parents = map (entry_home entries) (directories_in entries);
+  homes = map (entry_home entries) (all_numbers (length entries));
   group_of = map (group_of entries) (all_numbers (length entries));
   groups = groups_in entries;
 }
@@ -57,7 +58,8 @@ pub record IsJobOf (entries : List Record) (job d : ℕ) : Type 0 where
   pub there : job_directory entries job ≡ Some d
   pub back : job_of entries d ≡ job
 
--- the jobs from 1 on are the directories, one to one, and each holds the entries right below its own
+-- the jobs from 1 on are the directories, one to one, and each holds the entries right below its
+-- own
 pub record JobsAreDirectories (entries : List Record) : Type 0 where
   -- there is a job for each directory, and job 0, which is none
   pub count : last_job (shape_of entries) ≡ length (directories_in entries)
@@ -67,11 +69,12 @@ pub record JobsAreDirectories (entries : List Record) : Type 0 where
       → (d : ℕ) × IsJobOf entries job d
   pub own : (d : ℕ) → d < length entries → is_directory entries d ≡ true
       → IsJobOf entries (job_of entries d) d
-  -- an entry's home is its parent's job, and the job that holds a job is that of its directory's parent
+  -- an entry's home is its parent's job, and the job that holds a job is that of its directory's
+  -- parent
   pub home : (e : ℕ) → e < length entries
       → job_directory entries (shape.home_of (shape_of entries) e) ≡ parent_of entries e
   pub parent : (job d : ℕ) → job_directory entries job ≡ Some d
-      → job_directory entries (shape.parent_of (shape_of entries) job) ≡ parent_of entries d
+      → job_directory entries (shape.parent_job (shape_of entries) job) ≡ parent_of entries d
 
 -- ---- how it is computed
 

@@ -2,7 +2,7 @@
 use Rattle.std.specs.Prelude.{◌≡◌, ℕ, ◌+◌, ◌<◌, Bool, false, List, [], length, map, get_or}
 use Rattle.find_records.specs.Record.{Record}
 use Rattle.tree_model.specs.Extents.{EndsFrom}
-use Rattle.tree_model.specs.GroupLists.{AreStarts, groups_behind, names_below}
+use Rattle.tree_model.specs.GroupLists.{AreGroupStarts, groups_behind, names_below}
 use Rattle.tree_model.specs.Groups.{closed_at, groups_in}
 use Rattle.tree_model.specs.Jobs.{directories_in}
 use Rattle.tree_model.specs.Links.{inode_of}
@@ -13,7 +13,7 @@ use Rattle.tree_model.specs.declared.groups.Groups.{Groups}
 pub record ListsGroups (entries : List Record) (groups names starts : List ℕ) : Type 0 where
   pub groups_are : groups ≡ groups_behind [] (map inode_of entries)
   pub names_are : names ≡ names_below groups (groups_in entries)
-  pub starts_are : AreStarts groups (groups_in entries + 1) starts
+  pub starts_are : AreGroupStarts groups (groups_in entries + 1) starts
 
 -- how many groups there are, their lists, and which extents are closed
 pub record KeepsGroups (entries : List Record) (total : ℕ) (groups names starts : List ℕ)
@@ -24,7 +24,8 @@ pub record KeepsGroups (entries : List Record) (total : ℕ) (groups names start
   pub closed_are : (d : ℕ) → d < length entries → get_or closed d false ≡ closed_at entries d
 
 -- what a tree keeps beside its entries, which are in the order of their paths
-pub record IsKept (entries : List Record) (ends : List ℕ) (groups : Groups) (directories : List ℕ)
+pub record IsTreeKept (entries : List Record) (ends : List ℕ) (groups : Groups)
+    (directories : List ℕ)
     : Type 0 where
   pub by_path : ByPath entries
   pub ends_are : EndsFrom 0 entries ends

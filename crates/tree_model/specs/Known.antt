@@ -11,7 +11,7 @@ with_number records number =
     record { number = number; item = get_or records (number - 1) no_record }
 
 -- the number is one of theirs, and the path is that record's
-pub record IsKnown (key : Path) (number : ℕ) (records : List Record) : Type 0 where
+pub record IsPathKnown (key : Path) (number : ℕ) (records : List Record) : Type 0 where
   pub low : 1 ≤ number
   pub high : number ≤ length records
   pub key_is : key ≡ (get_or records (number - 1) no_record).path

@@ -1,5 +1,6 @@
 -- Flags of entries, and how they are kept.
-use Rattle.std.specs.Prelude.{◌≡◌, ℕ, suc, ◌-◌, ◌<◌, ◌≤◌, ◌==◌, ◌&&◌, ◌||◌, Bool, true, false, not, List, [], ◌∷◌, ◌++◌, length, replicate, get_or}
+use Rattle.std.specs.Prelude.{◌≡◌, ℕ, suc, ◌-◌, ◌<◌, ◌≤◌, ◌==◌, ◌&&◌, ◌||◌, Bool, true, false, not}
+use Rattle.std.specs.Prelude.{List, [], ◌∷◌, ◌++◌, length, replicate, get_or}
 use Rattle.label_base.specs.Bounded.{all_below, implies}
 use Rattle.tree_model.specs.RunLists.{in_run}
 
@@ -11,7 +12,7 @@ pub record IsFilled (from to : ℕ) (flag : Bool) (old new : List Bool) : Type 0
   pub behind : (e : ℕ) → to ≤ e → e < length old → get_or new e false ≡ get_or old e false
 
 -- the flags of the entries that pass are set, and the others stay
-pub record IsMarked (passes : ℕ → Bool) (old new : List Bool) : Type 0 where
+pub record AreMarkedLive (passes : ℕ → Bool) (old new : List Bool) : Type 0 where
   pub sized : length new ≡ length old
   pub marks : (e : ℕ) → e < length old → get_or new e false ≡ (get_or old e false || passes e)
 
@@ -26,8 +27,8 @@ abbrev pub stays_in : List ℕ → (ℕ → ℕ) → ℕ → ℕ → Bool
 stays_in ends f o e =
     all_below (length ends) (λ a. implies (in_run ends o a && in_run ends a e) (f a == f o))
 
--- the flags before c of the entries from o down that stay with o are set, and no entry whose run has c
--- leaves o
+-- the flags before c of the entries from o down that stay with o are set, and no entry whose run
+-- has c leaves o
 pub record IsMarkedTo (ends : List ℕ) (f : ℕ → ℕ) (o c : ℕ) (old new : List Bool) : Type 0 where
   pub sized : length new ≡ length old
   pub before : (e : ℕ) → e < c → e < length old
@@ -48,8 +49,8 @@ pub record IsBehindDead (live : List Bool) (place : ℕ) : Type 0 where
   pub lives : (k : ℕ) → place ≤ k → k < length live → get_or live k false ≡ true
   pub last : 0 < place → get_or live (place - 1) false ≡ false
 
--- dead ends with the last place without a flag, and for each entry from a place on it has the least one
--- from that on
+-- dead ends with the last place without a flag, and for each entry from a place on it has the least
+-- one from that on
 pub record AreDead (live : List Bool) (place : ℕ) (dead : List ℕ) : Type 0 where
   pub ends : IsBehindDead live (length dead)
   pub each : (e : ℕ) → place ≤ e → e < length dead → IsDead live e (get_or dead e 0)

@@ -25,8 +25,8 @@ abbrev pub numbered_from : ℕ → List Record → List Numbered
 numbered_from n [] = []
 numbered_from n (r ∷ rs) = record { number = n; item = r } ∷ numbered_from (n + 1) rs
 
-abbrev pub item_of : Numbered → Record
-item_of n = n.item
+abbrev pub numbered_record : Numbered → Record
+numbered_record n = n.item
 
 -- where the record stands among all, counted from 0
 abbrev pub place_of : Numbered → ℕ

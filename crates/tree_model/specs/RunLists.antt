@@ -1,7 +1,8 @@
 -- Runs of entries: those from an entry up to a place behind it. They nest.
-use Rattle.std.specs.Prelude.{◌≡◌, ℕ, zero, suc, ◌<◌, ◌≤◌, ◌^◌, ◌==◌, ◌&&◌, nat_le, nat_lt, Bool, false, List, length, get_or, if◌then◌else◌}
+use Rattle.std.specs.Prelude.{◌≡◌, ℕ, zero, suc, ◌<◌, ◌≤◌, ◌^◌, ◌==◌, ◌&&◌, nat_le, nat_lt, Bool}
+use Rattle.std.specs.Prelude.{false, List, length, get_or, if◌then◌else◌}
 use Rattle.label_base.specs.Bounded.{all_below, implies}
-use Rattle.tree_model.specs.GroupLists.{AreGroups, AreHeads, next_at}
+use Rattle.tree_model.specs.GroupLists.{AreGroups, AreGroupHeads, next_at}
 
 -- ends has, for each entry, the place behind its run
 pub record AreEnds (ends : List ℕ) : Type 0 where
@@ -23,8 +24,8 @@ closed_run groups ends d =
     implies (get_or groups x 0 == get_or groups e 0) (in_run ends d x))))
 
 -- the first entry of the entry's group
-abbrev pub first_name : List ℕ → ℕ → ℕ
-first_name groups e = next_at groups 0 (get_or groups e 0)
+abbrev pub name_after : List ℕ → ℕ → ℕ
+name_after groups e = next_at groups 0 (get_or groups e 0)
 
 -- the last entry of the group among the first n; without one, 0
 abbrev pub last_below : List ℕ → ℕ → ℕ → ℕ
@@ -63,7 +64,7 @@ pub record IsGreatestIn (f : ℕ → ℕ) (a b v : ℕ) : Type 0 where
 pub record AreLow (groups ends : List ℕ) (place : ℕ) (low : List ℕ) : Type 0 where
   pub sized : length low ≡ length groups
   pub least : (k : ℕ) → place ≤ k → k < length groups
-      → IsLeastIn (first_name groups) k (get_or ends k 0) (get_or low k 0)
+      → IsLeastIn (name_after groups) k (get_or ends k 0) (get_or low k 0)
 
 -- high has, for each entry from a place on, the greatest last entry of the groups in its run
 pub record AreHigh (groups ends : List ℕ) (place : ℕ) (high : List ℕ) : Type 0 where
@@ -78,10 +79,10 @@ pub record AreClosed (groups ends : List ℕ) (place : ℕ) (closed : List Bool)
       → get_or closed k false ≡ closed_run groups ends k
 
 -- groups in runs, with the first and the last entry of each group
-pub record AreRuns (groups ends first last : List ℕ) : Type 0 where
+pub record AreGroupRuns (groups ends first last : List ℕ) : Type 0 where
   pub groups_are : AreGroups (length first) groups
   pub ends_are : AreEnds ends
   pub paired : length ends ≡ length groups
   pub counted : length last ≡ length first
-  pub first_are : AreHeads groups 0 first
+  pub first_are : AreGroupHeads groups 0 first
   pub last_are : AreLasts groups (length groups) last

@@ -1,5 +1,5 @@
--- Doubled records, among records in the order of their paths, and of their numbers where they have one
--- path.
+-- Doubled records, among records in the order of their paths, and of their numbers where they have
+-- one path.
 use Rattle.std.specs.Prelude.{ℕ, Bool, nat_le, List, [], ◌∷◌, Option, Some, None, if◌then◌else◌}
 use Rattle.tree_model.specs.Entries.{same_path, same_record}
 use Rattle.tree_model.specs.Numbered.{Numbered}

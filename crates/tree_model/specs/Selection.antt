@@ -1,5 +1,6 @@
 -- Which entries a choice of paths selects.
-use Rattle.std.specs.Prelude.{ℕ, suc, Bool, false, not, is_some, ◌==◌, ◌&&◌, ◌||◌, List, [], ◌∷◌, length, map, get_or, Option, Some, None, if◌then◌else◌}
+use Rattle.std.specs.Prelude.{ℕ, suc, Bool, false, not, is_some, ◌==◌, ◌&&◌, ◌||◌, List, [], ◌∷◌}
+use Rattle.std.specs.Prelude.{length, map, get_or, Option, Some, None, if◌then◌else◌}
 use Rattle.std.specs.List.{list_any}
 use Rattle.label_base.specs.Bounded.{all_below, all_numbers, implies}
 use Rattle.file_paths.specs.Path.{Path, at_or_below}
@@ -36,8 +37,8 @@ is_excluded entries excluded e =
     list_any (λ path. at_or_below (entry_at entries e).path path) excluded
 
 -- an operand admits the entry, and no excluded path is at or above it
-abbrev pub is_live : Choice → List Record → ℕ → Bool
-is_live choice entries e =
+abbrev pub is_chosen : Choice → List Record → ℕ → Bool
+is_chosen choice entries e =
     is_admitted choice entries choice.operands e && not (is_excluded entries choice.excluded e)
 
 -- the indices of the paths that no entry has, where they are counted from an index on
@@ -55,7 +56,7 @@ pub record SelectedValue : Type 0 where
 
 abbrev pub selected_by : Choice → List Record → SelectedValue
 selected_by choice entries = record {
-  live = map (is_live choice entries) (all_numbers (length entries));
+  live = map (is_chosen choice entries) (all_numbers (length entries));
   absent = absent_from 0 entries choice.operands;
 }
 

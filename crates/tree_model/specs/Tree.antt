@@ -13,8 +13,8 @@ use Rattle.tree_model.specs.declared.fault.TreeFault.TheVariants.{Doubled, OutOf
 abbrev pub ByPath : List Record → Type 0
 ByPath entries = AllPairs (λ a b. path_cmp a.path b.path ≡ Less) entries
 
--- records that are the entries of a tree: in the order of their paths, and few enough to be numbered in
--- 32 bits
+-- records that are the entries of a tree: in the order of their paths, and few enough to be
+-- numbered in 32 bits
 pub record IsTree (records : List Record) : Type 0 where
   pub by_path : ByPath records
   pub few : length records < 2 ^ 32
@@ -24,8 +24,8 @@ abbrev pub tree_cause : TreeFault → Option (ℕ × ℕ)
 tree_cause (Doubled first second) = Some (first, second)
 tree_cause OutOfMemory = None
 
-abbrev pub is_at : Path → Record → Bool
-is_at path entry = same_path entry.path path
+abbrev pub is_entry_at : Path → Record → Bool
+is_entry_at path entry = same_path entry.path path
 
 -- the index of the first entry whose path is not before this one
 pub record IsFrom (path : Path) (entries : List Record) (first : ℕ) : Type 0 where
@@ -36,4 +36,4 @@ pub record IsFrom (path : Path) (entries : List Record) (first : ℕ) : Type 0 w
 
 -- the place of the entry with this path
 abbrev pub find_in : Path → List Record → Option ℕ
-find_in path entries = position (is_at path) entries
+find_in path entries = position (is_entry_at path) entries

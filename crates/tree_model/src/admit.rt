@@ -1,6 +1,6 @@
 ghost use Rattle.std.specs.Prelude.{◌≡◌, ◌==◌, ◌&&◌, ◌<◌, ◌≤◌, List, Bool, length, get_or};
 ghost use Rattle.tree_model.specs.Extents.{EndsFrom, entry_at};
-ghost use Rattle.tree_model.specs.LiveLists.{IsMarked, IsMarkedTo, stays_in};
+ghost use Rattle.tree_model.specs.LiveLists.{AreMarkedLive, IsMarkedTo, stays_in};
 ghost use Rattle.tree_model.specs.RunLists.{AreEnds, in_run};
 ghost use Rattle.tree_model.specs.Selection.{admits};
 ghost use Rattle.tree_model.specs.Tree.{ByPath};
@@ -19,8 +19,8 @@ fn is_same_device(sorted: &Sorted, a: u32, b: u32) -> bool
     sorted.entry(a).device == sorted.entry(b).device
 }
 
-// Marks an entry in the run of o that has o's device, and passes over the run of another one: which entry
-// is next.
+// Marks an entry in the run of o that has o's device, and passes over the run of another one: which
+// entry is next.
 fn mark_or_skip(sorted: &Sorted, ends: &[u32], live: &mut Vec<bool>, o: u32, c: u32) -> u32
     requires ends { AreEnds ends.now }
     requires count { length ends.now ≡ length sorted.now }
@@ -49,7 +49,7 @@ fn mark_device(sorted: &Sorted, ends: &[u32], live: &mut Vec<bool>, o: u32)
     requires count { length ends.now ≡ length sorted.now }
     requires flags { length live.old.items ≡ length sorted.now }
     requires within { o < length sorted.now }
-    ensures { IsMarked
+    ensures { AreMarkedLive
         (λ e. in_run ends.now o e && stays_in ends.now (λ a. (entry_at sorted.now a).device) o e)
         live.old.items live.new.items }
 {
@@ -66,7 +66,7 @@ fn mark_run(ends: &[u32], live: &mut Vec<bool>, o: u32)
     requires ends { AreEnds ends.now }
     requires flags { length live.old.items ≡ length ends.now }
     requires within { o < length ends.now }
-    ensures { IsMarked (in_run ends.now o) live.old.items live.new.items }
+    ensures { AreMarkedLive (in_run ends.now o) live.old.items live.new.items }
 {
     fill(live, o, ends[o as usize], true);
 }
@@ -75,7 +75,7 @@ fn mark_run(ends: &[u32], live: &mut Vec<bool>, o: u32)
 #[tactic(auto, using(crate::proofs::MarkLemmas::marked_one))]
 fn mark_one(live: &mut Vec<bool>, o: u32)
     requires { o < length live.old.items }
-    ensures { IsMarked (λ e. o == e) live.old.items live.new.items }
+    ensures { AreMarkedLive (λ e. o == e) live.old.items live.new.items }
 {
     live[o as usize] = true;
 }
@@ -86,7 +86,7 @@ pub fn mark_operand(sorted: &Sorted, ends: &[u32], live: &mut Vec<bool>, choice:
     requires ends { EndsFrom 0 sorted.now ends.now }
     requires flags { length live.old.items ≡ length sorted.now }
     requires within { o < length sorted.now }
-    ensures { IsMarked (admits choice.now sorted.now o) live.old.items live.new.items }
+    ensures { AreMarkedLive (admits choice.now sorted.now o) live.old.items live.new.items }
 {
     if !choice.recurse {
         mark_one(live, o);

@@ -2,7 +2,7 @@ ghost use Rattle.std.specs.Prelude.{◌≡◌, ◌<◌, ◌≤◌, ◌^◌, ◌-
 ghost use Rattle.std.specs.List.{dedup};
 ghost use Rattle.label_base.specs.Answers.{Answers};
 ghost use Rattle.tree_model.specs.Entries.{doubled, entries_of, tree_of};
-ghost use Rattle.tree_model.specs.Numbered.{item_of, numbered_from, place_of};
+ghost use Rattle.tree_model.specs.Numbered.{numbered_record, numbered_from, place_of};
 ghost use Rattle.tree_model.specs.Runs.{same_place, noted, doubled_in};
 ghost use Rattle.find_records.specs.Places.{ArePlaces, records_at};
 ghost use Rattle.tree_model.specs.Tree.{tree_cause};
@@ -16,8 +16,8 @@ use find_records::Records;
 use label_base::OutOfMemory;
 use std::alloc::Global;
 
-/// Two records have one path and differ: the number of the first one with that path, and that of the
-/// other.
+/// Two records have one path and differ: the number of the first one with that path, and that of
+/// the other.
 pub type Numbers = (u32, u32);
 
 // What one pass over records in order tells.
@@ -60,8 +60,8 @@ fn place_of(numbered: &Numbered<'_>) -> u32
     numbered.number() - 1
 }
 
-// Takes the place of the first record of each path, and notes the doubled records, among records that
-// stand in order.
+// Takes the place of the first record of each path, and notes the doubled records, among records
+// that stand in order.
 #[tactic(auto, unfolding(crate::specs::Runs::doubled_in))]
 fn first_of_each(alloc: Global, sorted: &[Numbered<'_>]) -> Result<Firsts, OutOfMemory>
     ensures places { IfOk result (λ firsts.
@@ -95,10 +95,10 @@ fn sort_records(alloc: Global, records: &Records) -> Result<Vec<Numbered<'_>>, O
     requires { length records.now < 2 ^ 32 }
     ensures doubled { IfOk result (λ sorted. doubled_in sorted.items ≡ doubled records.now) }
     ensures entries { IfOk result (λ sorted. doubled records.now ≡ None
-        → map item_of (dedup same_place sorted.items) ≡ entries_of records.now) }
+        → map numbered_record (dedup same_place sorted.items) ≡ entries_of records.now) }
     ensures places { IfOk result (λ sorted.
         records_at records.now (map place_of (dedup same_place sorted.items))
-        ≡ map item_of (dedup same_place sorted.items)) }
+        ≡ map numbered_record (dedup same_place sorted.items)) }
     ensures within { IfOk result (λ sorted.
         ArePlaces (length records.now) (map place_of (dedup same_place sorted.items))) }
     ensures fewer { IfOk result (λ sorted.
@@ -164,8 +164,8 @@ fn goes_up(records: &Records, places: &[u32]) -> bool
     steps_up(records, *first, rest)
 }
 
-// Whether the places are those of a tree's entries: as many as there are records, with paths that rise
-// strictly.
+// Whether the places are those of a tree's entries: as many as there are records, with paths that
+// rise strictly.
 #[tactic(auto, using(crate::proofs::UpLemmas::up_entries, crate::proofs::UpLemmas::goes_within))]
 fn is_order(records: &Records, places: &[u32]) -> bool
     ensures entries { result ≡ true → tree_of records.now ≡ Ok (records_at records.now places.now) }
@@ -180,8 +180,8 @@ fn is_order(records: &Records, places: &[u32]) -> bool
 
 // The places of a tree's entries among its records, in the order of their paths.
 //
-// The order that is given and one that is guessed are taken if they are right; only where they aren't
-// are the records sorted.
+// The order that is given and one that is guessed are taken if they are right; only where they
+// aren't are the records sorted.
 fn order_of(alloc: Global, records: &Records) -> Result<Vec<u32>, TreeFault>
     requires { length records.now < 2 ^ 32 }
     ensures answer { Answers (λ order. records_at records.now order.items) tree_cause result
@@ -200,7 +200,8 @@ fn order_of(alloc: Global, records: &Records) -> Result<Vec<u32>, TreeFault>
     sorted_order(alloc, records)
 }
 
-/// The entries of records, laid in the order of their paths: each record once, however often it is given.
+/// The entries of records, laid in the order of their paths: each record once, however often it is
+/// given.
 pub fn put_in_order(alloc: Global, records: Records) -> Result<Records, TreeFault>
     requires { length records < 2 ^ 32 }
     ensures answer { Answers (λ entries. entries) tree_cause result (tree_of records) }

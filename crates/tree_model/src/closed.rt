@@ -1,6 +1,9 @@
-ghost use Rattle.std.specs.Prelude.{◌≡◌, ◌+◌, ◌<◌, ◌^◌, ◌&&◌, nat_le, nat_lt, false, length, get_or, IfOk};
-ghost use Rattle.tree_model.specs.GroupLists.{AreGroups, AreHeads};
-ghost use Rattle.tree_model.specs.RunLists.{AreClosed, AreEnds, AreHigh, AreLasts, AreLow, AreRuns, IsGreatestIn, IsLeastIn, first_name, last_name};
+ghost use Rattle.std.specs.Prelude.{◌≡◌, ◌+◌, ◌<◌, ◌^◌, ◌&&◌, nat_le, nat_lt, false, length};
+ghost use Rattle.std.specs.Prelude.{get_or, IfOk};
+ghost use Rattle.tree_model.specs.GroupLists.{AreGroups, AreGroupHeads};
+ghost use Rattle.tree_model.specs.RunLists.{AreClosed, AreEnds, AreHigh, AreLasts, AreLow};
+ghost use Rattle.tree_model.specs.RunLists.{AreGroupRuns, IsGreatestIn, IsLeastIn, name_after};
+ghost use Rattle.tree_model.specs.RunLists.{last_name};
 
 use label_base::OutOfMemory;
 use std::alloc::Global;
@@ -46,11 +49,11 @@ fn last_names(alloc: Global, groups: &[u32], count: u32) -> Result<Vec<u32>, Out
 
 // The least first entry of the groups in the run of an entry.
 fn least_in(runs: &Runs<'_>, low: &[u32], e: u32) -> u32
-    requires runs { AreRuns runs.now.groups.now runs.now.ends.now
+    requires runs { AreGroupRuns runs.now.groups.now runs.now.ends.now
         runs.now.first.now runs.now.last.now }
     requires within { e < length runs.now.groups.now }
     requires low { AreLow runs.now.groups.now runs.now.ends.now (e + 1) low.now }
-    ensures { IsLeastIn (first_name runs.now.groups.now) e (get_or runs.now.ends.now e 0) result }
+    ensures { IsLeastIn (name_after runs.now.groups.now) e (get_or runs.now.ends.now e 0) result }
 {
     let end = runs.ends[e as usize];
     let mut least = runs.first[runs.groups[e as usize] as usize];
@@ -64,7 +67,7 @@ fn least_in(runs: &Runs<'_>, low: &[u32], e: u32) -> u32
 
 // The greatest last entry of the groups in the run of an entry.
 fn greatest_in(runs: &Runs<'_>, high: &[u32], e: u32) -> u32
-    requires runs { AreRuns runs.now.groups.now runs.now.ends.now
+    requires runs { AreGroupRuns runs.now.groups.now runs.now.ends.now
         runs.now.first.now runs.now.last.now }
     requires within { e < length runs.now.groups.now }
     requires high { AreHigh runs.now.groups.now runs.now.ends.now (e + 1) high.now }
@@ -98,7 +101,7 @@ struct Passed {
 // Passes the run of an entry.
 #[tactic(auto, using(crate::proofs::ClosedLemmas::low_put, crate::proofs::ClosedLemmas::high_put))]
 fn pass_run(runs: &Runs<'_>, passed: &mut Passed, e: u32)
-    requires runs { AreRuns runs.now.groups.now runs.now.ends.now
+    requires runs { AreGroupRuns runs.now.groups.now runs.now.ends.now
         runs.now.first.now runs.now.last.now }
     requires within { e < length runs.now.groups.now }
     requires low { AreLow runs.now.groups.now runs.now.ends.now (e + 1) passed.old.low.items }
@@ -120,7 +123,7 @@ fn pass_run(runs: &Runs<'_>, passed: &mut Passed, e: u32)
 // Which runs have all entries of the groups in them.
 #[tactic(auto, using(crate::proofs::ClosedLemmas::low_none, crate::proofs::ClosedLemmas::high_none, crate::proofs::ClosedLemmas::closed_none))]
 fn closed_runs(alloc: Global, runs: &Runs<'_>) -> Result<Vec<bool>, OutOfMemory>
-    requires { AreRuns runs.now.groups.now runs.now.ends.now
+    requires { AreGroupRuns runs.now.groups.now runs.now.ends.now
         runs.now.first.now runs.now.last.now }
     ensures { IfOk result (λ closed.
         AreClosed runs.now.groups.now runs.now.ends.now 0 closed.items) }
@@ -147,7 +150,7 @@ fn closed_in(
     first: &[u32],
     last: &[u32],
 ) -> Result<Vec<bool>, OutOfMemory>
-    requires { AreRuns groups.now ends.now first.now last.now }
+    requires { AreGroupRuns groups.now ends.now first.now last.now }
     ensures { IfOk result (λ closed. AreClosed groups.now ends.now 0 closed.items) }
 {
     let runs = Runs {
@@ -170,7 +173,7 @@ pub fn closed_by(
     requires count { length first.now < 2 ^ 32 }
     requires ends { AreEnds ends.now }
     requires paired { length ends.now ≡ length groups.now }
-    requires first { AreHeads groups.now 0 first.now }
+    requires first { AreGroupHeads groups.now 0 first.now }
     ensures { IfOk result (λ closed. AreClosed groups.now ends.now 0 closed.items) }
 {
     let last = last_names(alloc, groups, first.len() as u32)?;

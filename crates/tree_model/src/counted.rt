@@ -1,7 +1,7 @@
 ghost use Rattle.std.specs.Prelude.{◌≡◌, ◌+◌, ◌<◌, ◌&&◌, nat_le, false, length};
 ghost use Rattle.tree_model.specs.Counted.{AreClosedFrom, AreUncounted, names_flags};
 ghost use Rattle.tree_model.specs.Extents.{EndsFrom, entry_at};
-ghost use Rattle.tree_model.specs.Groups.{group_of, has_names, is_met, names_in};
+ghost use Rattle.tree_model.specs.Groups.{group_of, has_more_names, is_met, names_in};
 ghost use Rattle.tree_model.specs.Kept.{ListsGroups};
 ghost use Rattle.tree_model.specs.LiveLists.{IsDead};
 ghost use Rattle.tree_model.specs.Tree.{ByPath};
@@ -40,13 +40,13 @@ fn is_met(links: Option<u64>, names: usize) -> bool
     }
 }
 
-// Whether the group of an entry has at least as many entries as the entry's link count, where it is no
-// directory.
+// Whether the group of an entry has at least as many entries as the entry's link count, where it is
+// no directory.
 fn has_names(sorted: &Sorted, numbering: &Numbering, kept: &Names, e: u32) -> bool
     requires lists { ListsGroups sorted.now numbering.now.group_of.items
         kept.now.names.items kept.now.starts.items }
     requires known { e < length sorted.now }
-    ensures { result ≡ has_names sorted.now e }
+    ensures { result ≡ has_more_names sorted.now e }
 {
     sorted.is_directory(e) || is_met(links_of(sorted, e), count_names(sorted, numbering, kept, e))
 }
@@ -111,7 +111,8 @@ pub fn clear_lacking(
     }
 }
 
-/// The same, where it is known whether any entry has a link count: if none has, nothing is looked at.
+/// The same, where it is known whether any entry has a link count: if none has, nothing is looked
+/// at.
 #[tactic(auto, using(crate::proofs::CountedLemmas::uncounted_closed))]
 pub fn clear_counted(
     sorted: &Sorted,

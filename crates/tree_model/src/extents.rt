@@ -1,5 +1,6 @@
 ghost use Rattle.std.specs.Prelude.{◌≡◌, ◌<◌, ◌+◌, ◌^◌, IfOk, IfSome, get_or, length};
-ghost use Rattle.tree_model.specs.Extents.{EndsFrom, ParentsTo, before, extent_of, is_above, is_inside, parent_of, parent_told};
+ghost use Rattle.tree_model.specs.Extents.{EndsFrom, ParentsTo, before, extent_of, is_above};
+ghost use Rattle.tree_model.specs.Extents.{is_inside, parent_of, parent_told};
 ghost use Rattle.tree_model.specs.Tree.{ByPath};
 
 use crate::sorted::Sorted;

@@ -1,5 +1,6 @@
 ghost use Rattle.std.specs.Prelude.{◌≡◌, ℕ, ◌+◌, ◌<◌, ◌≤◌, ◌^◌, length, map, get_or, IfOk, OnOk};
-ghost use Rattle.tree_model.specs.Firsts.{AreBucketed, ArePut, bucket_of, first_of, firsts_of};
+ghost use Rattle.tree_model.specs.Firsts.{AreBucketed, AreFirstsPut, inode_bucket};
+ghost use Rattle.tree_model.specs.Firsts.{first_with_inode, firsts_of};
 ghost use Rattle.tree_model.specs.Links.{same_inode};
 
 use crate::groups::make_chains;
@@ -20,7 +21,7 @@ const STEPS: u64 = 8;
 #[tactic(auto, unfolding(crate::specs::Firsts::bucket_of))]
 fn bucket_of(inode: Inode, count: u32) -> u32
     requires { 0 < count }
-    ensures { result ≡ bucket_of count inode }
+    ensures { result ≡ inode_bucket count inode }
 {
     let mixed = inode
         .1
@@ -33,7 +34,7 @@ fn bucket_of(inode: Inode, count: u32) -> u32
 // The bucket of each entry.
 fn all_buckets(alloc: Global, inodes: &[Inode], count: u32) -> Result<Vec<u32>, OutOfMemory>
     requires { 0 < count }
-    ensures { IfOk result (λ buckets. buckets.items ≡ map (bucket_of count) inodes.now) }
+    ensures { IfOk result (λ buckets. buckets.items ≡ map (inode_bucket count) inodes.now) }
 {
     let mut buckets = Vec::with_capacity(alloc, inodes.len())?;
     'inodes: for inode in inodes {
@@ -71,7 +72,7 @@ fn first_along(entries: &Bucketed<'_>, e: u32, steps: &mut u64) -> u32
         entries.now.first.now entries.now.next.now }
     requires within { e < length entries.now.inodes.now }
     ensures { result < length entries.now.inodes.now
-        → result ≡ first_of entries.now.inodes.now (get_or entries.now.inodes.now e (0, 0)) }
+        → result ≡ first_with_inode entries.now.inodes.now (get_or entries.now.inodes.now e (0, 0)) }
 {
     let mut found = entries.first[entries.buckets[e as usize] as usize];
     'names: while !is_same_inode(entries.inodes, e, found) {
@@ -125,10 +126,10 @@ fn firsts_by_buckets(alloc: Global, inodes: &[Inode]) -> Result<Vec<u32>, OutOfM
 // The first entry of the inode of an entry, which is kept if it is that one.
 fn keep_first(kept: &mut BTreeMap<Inode, u32>, inodes: &[Inode], e: u32) -> Result<u32, OutOfMemory>
     requires within { e < length inodes.now }
-    requires put { ArePut inodes.now e kept.old }
-    ensures put { OnOk result (ArePut inodes.now (e + 1) kept.new) }
+    requires put { AreFirstsPut inodes.now e kept.old }
+    ensures put { OnOk result (AreFirstsPut inodes.now (e + 1) kept.new) }
     ensures first { IfOk result (λ first.
-        first ≡ first_of inodes.now (get_or inodes.now e (0, 0))) }
+        first ≡ first_with_inode inodes.now (get_or inodes.now e (0, 0))) }
 {
     let inode = inodes[e as usize];
     if let Some(first) = kept.get(&inode) {

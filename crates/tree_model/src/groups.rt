@@ -1,6 +1,8 @@
-ghost use Rattle.std.specs.Prelude.{◌≡◌, ℕ, ◌+◌, ◌-◌, ◌<◌, ◌≤◌, ◌^◌, ◌++◌, ◌∷◌, ◌||◌, List, [], false, is_some, length, take, drop, map, get_or, IfOk, OnOk};
+ghost use Rattle.std.specs.Prelude.{◌≡◌, ℕ, ◌+◌, ◌-◌, ◌<◌, ◌≤◌, ◌^◌, ◌++◌, ◌∷◌, ◌||◌, List, []};
+ghost use Rattle.std.specs.Prelude.{false, is_some, length, take, drop, map, get_or, IfOk, OnOk};
 ghost use Rattle.tree_model.specs.Firsts.{count_next, firsts_of, group_next};
-ghost use Rattle.tree_model.specs.GroupLists.{AreGroups, AreHeads, AreNext, AreStarts, groups_behind, names_at, names_below, next_at};
+ghost use Rattle.tree_model.specs.GroupLists.{AreGroups, AreGroupHeads, AreNext, AreGroupStarts};
+ghost use Rattle.tree_model.specs.GroupLists.{groups_behind, names_at, names_below, next_at};
 ghost use Rattle.tree_model.specs.Counted.{AreUncounted};
 ghost use Rattle.tree_model.specs.Groups.{groups_in, inodes_behind};
 ghost use Rattle.tree_model.specs.Kept.{KeepsGroups};
@@ -108,8 +110,8 @@ pub fn number_groups(alloc: Global, sorted: &Sorted) -> Result<Numbering, OutOfM
     })
 }
 
-// The first entry of each group, and for each entry the next one of its group. Where there is none, the
-// number of entries.
+// The first entry of each group, and for each entry the next one of its group. Where there is none,
+// the number of entries.
 #[derive(Drop)]
 pub struct Chains {
     pub first: Vec<u32>,
@@ -121,10 +123,10 @@ pub struct Chains {
 fn put_first(first: &mut Vec<u32>, next: &mut Vec<u32>, groups: &[u32], e: u32)
     requires groups { AreGroups (length first.old.items) groups.now }
     requires within { e < length groups.now }
-    requires first { AreHeads groups.now (e + 1) first.old.items }
+    requires first { AreGroupHeads groups.now (e + 1) first.old.items }
     requires next { AreNext groups.now (e + 1) next.old.items }
     ensures count { length first.new.items ≡ length first.old.items }
-    ensures first { AreHeads groups.now e first.new.items }
+    ensures first { AreGroupHeads groups.now e first.new.items }
     ensures next { AreNext groups.now e next.new.items }
 {
     let group = groups[e as usize] as usize;
@@ -136,7 +138,7 @@ fn put_first(first: &mut Vec<u32>, next: &mut Vec<u32>, groups: &[u32], e: u32)
 pub fn make_chains(alloc: Global, groups: &[u32], count: u32) -> Result<Chains, OutOfMemory>
     requires { AreGroups count groups.now }
     ensures count { IfOk result (λ chains. length chains.first.items ≡ count) }
-    ensures first { IfOk result (λ chains. AreHeads groups.now 0 chains.first.items) }
+    ensures first { IfOk result (λ chains. AreGroupHeads groups.now 0 chains.first.items) }
     ensures next { IfOk result (λ chains. AreNext groups.now 0 chains.next.items) }
 {
     let end = groups.len() as u32;
@@ -172,8 +174,8 @@ fn push_names(
     Ok(())
 }
 
-/// The entries of all groups, one group behind the other, and where those of each group begin; at last,
-/// how many entries there are.
+/// The entries of all groups, one group behind the other, and where those of each group begin; at
+/// last, how many entries there are.
 #[derive(Drop)]
 pub struct Names {
     pub names: Vec<u32>,
@@ -190,12 +192,12 @@ fn push_group(
 ) -> Result<(), OutOfMemory>
     requires groups { length groups.now < 2 ^ 32 }
     requires within { group < length chains.now.first.items }
-    requires first { AreHeads groups.now 0 chains.now.first.items }
+    requires first { AreGroupHeads groups.now 0 chains.now.first.items }
     requires next { AreNext groups.now 0 chains.now.next.items }
     requires names { kept.old.names.items ≡ names_below groups.now group }
-    requires starts { AreStarts groups.now group kept.old.starts.items }
+    requires starts { AreGroupStarts groups.now group kept.old.starts.items }
     ensures names { OnOk result (kept.new.names.items ≡ names_below groups.now (group + 1)) }
-    ensures starts { OnOk result (AreStarts groups.now (group + 1) kept.new.starts.items) }
+    ensures starts { OnOk result (AreGroupStarts groups.now (group + 1) kept.new.starts.items) }
 {
     kept.starts.push(kept.names.len() as u32)?;
     let first = chains.first[group as usize];
@@ -213,12 +215,12 @@ fn push_group(
 pub fn list_names(alloc: Global, chains: &Chains, groups: &[u32]) -> Result<Names, OutOfMemory>
     requires groups { length groups.now < 2 ^ 32 }
     requires count { length chains.now.first.items < 2 ^ 32 }
-    requires first { AreHeads groups.now 0 chains.now.first.items }
+    requires first { AreGroupHeads groups.now 0 chains.now.first.items }
     requires next { AreNext groups.now 0 chains.now.next.items }
     ensures names { IfOk result (λ kept.
         kept.names.items ≡ names_below groups.now (length chains.now.first.items)) }
     ensures starts { IfOk result (λ kept.
-        AreStarts groups.now (length chains.now.first.items + 1) kept.starts.items) }
+        AreGroupStarts groups.now (length chains.now.first.items + 1) kept.starts.items) }
 {
     let count = chains.first.len() as u32;
     let mut kept = Names {

@@ -1,5 +1,5 @@
-//! The order that is likely: that of find(1), with the names in each directory sorted. Nothing is claimed
-//! of it, since what it gives is tested.
+//! The order that is likely: that of find(1), with the names in each directory sorted. Nothing is
+//! claimed of it, since what it gives is tested.
 
 use file_paths::PathKey;
 use find_records::Records;
@@ -24,8 +24,8 @@ fn set(links: &mut [u32], place: u32, other: u32) {
     }
 }
 
-// The nearest of some place and the places above it whose record the one at a place is below, or none;
-// and whether it is just below.
+// The nearest of some place and the places above it whose record the one at a place is below, or
+// none; and whether it is just below.
 fn parent_of(records: &Records, parents: &[u32], last: u32, place: u32) -> (u32, bool) {
     if place >= records.len() {
         return (NONE, false);
@@ -45,8 +45,8 @@ fn parent_of(records: &Records, parents: &[u32], last: u32, place: u32) -> (u32,
     (NONE, false)
 }
 
-// For each place that of its directory, if the records stand as find(1) passes them: each behind its
-// directory and what is below others there.
+// For each place that of its directory, if the records stand as find(1) passes them: each behind
+// its directory and what is below others there.
 fn parents_of(alloc: Global, records: &Records) -> Result<Option<Vec<u32>>, OutOfMemory> {
     let mut parents = Vec::with_capacity(alloc, records.len() as usize)?;
     let mut last = NONE;
@@ -61,8 +61,8 @@ fn parents_of(alloc: Global, records: &Records) -> Result<Option<Vec<u32>>, OutO
     Ok(Some(parents))
 }
 
-// Makes of each directory's place the place of the next entry there, and gives each one's first entry.
-// The last are those of no directory.
+// Makes of each directory's place the place of the next entry there, and gives each one's first
+// entry. The last are those of no directory.
 fn first_ones(
     alloc: Global,
     count: u32,
@@ -143,8 +143,8 @@ fn pile(
     Ok(())
 }
 
-// Puts what is on the pile in order, each directory before what is in it. Each place is given with the next one
-// of its directory, and each directory with its first entry.
+// Puts what is on the pile in order, each directory before what is in it. Each place is given with
+// the next one of its directory, and each directory with its first entry.
 fn put_below(
     alloc: Global,
     records: &Records,

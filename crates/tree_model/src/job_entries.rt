@@ -1,12 +1,12 @@
 ghost use Rattle.std.specs.Prelude.{◌≡◌, ◌≤◌, length, nat_lt, Some, None, if◌then◌else◌};
 ghost use Rattle.std.specs.Iterator.{YieldsFirst, item_count};
-ghost use Rattle.tree_model.specs.Jobs.{IsPlaced, directories_in, entries_from, entries_of_job};
+ghost use Rattle.tree_model.specs.Jobs.{IsPlaced, directories_in, children_from, entries_of_job};
 
 use crate::tree::Tree;
 use std::marker::Model;
 
-/// The entries that a job holds, seen as the list of those that are left, in ascending order. It takes
-/// no memory, and passes over what is below a directory at once.
+/// The entries that a job holds, seen as the list of those that are left, in ascending order. It
+/// takes no memory, and passes over what is below a directory at once.
 #[derive(Drop)]
 pub struct JobEntries<'a> {
     tree: &'a Tree,
@@ -23,7 +23,7 @@ impl<'a> Model for JobEntries<'a> {
 
     ghost Value = { List ℕ };
 
-    ghost view = { λ c. entries_from c.tree.now c.job c.next };
+    ghost view = { λ c. children_from c.tree.now c.job c.next };
 
     ghost invariant = { λ c. IsPlaced c.tree.now c.job c.next c.end };
 }
@@ -39,7 +39,7 @@ fn before_end(next: u32, end: u32) -> Option<u32>
 fn bounds_of(tree: &Tree, job: u32) -> (u32, u32)
     requires { job ≤ length (directories_in tree.now) }
     ensures placed { IsPlaced tree.now job result.0 result.1 }
-    ensures whole { entries_from tree.now job result.0 ≡ entries_of_job tree.now job }
+    ensures whole { children_from tree.now job result.0 ≡ entries_of_job tree.now job }
 {
     tree.rises();
     match tree.job_directory(job) {

@@ -1,7 +1,9 @@
-ghost use Rattle.std.specs.Prelude.{◌≡◌, ◌+◌, ◌<◌, ◌^◌, ◌++◌, ◌∷◌, [], true, if◌then◌else◌, length, map, filter, IfOk, OnOk};
+ghost use Rattle.std.specs.Prelude.{◌≡◌, ◌+◌, ◌<◌, ◌^◌, ◌++◌, ◌∷◌, [], true, if◌then◌else◌, length};
+ghost use Rattle.std.specs.Prelude.{map, filter, IfOk, OnOk};
 ghost use Rattle.label_base.specs.Bounded.{all_numbers};
 ghost use Rattle.tree_model.specs.Extents.{ParentsTo, is_directory};
-ghost use Rattle.tree_model.specs.Jobs.{AreJobs, directories_below, directories_in, home_of, job_directory, job_of, shape_of};
+ghost use Rattle.tree_model.specs.Jobs.{AreJobs, directories_below, directories_in, entry_home};
+ghost use Rattle.tree_model.specs.Jobs.{job_directory, job_of, shape_of};
 ghost use Rattle.tree_model.specs.Kept.{KeepsGroups};
 ghost use Rattle.tree_model.specs.Tree.{ByPath};
 ghost use Rattle.walk_steps.specs.Shaped.{IsValid};
@@ -48,7 +50,7 @@ fn home_of(sorted: &Sorted, parents: &[u32], jobs: &[u32], e: u32) -> u32
     requires known { e < length sorted.now }
     requires parents { ParentsTo (length sorted.now) sorted.now parents.now }
     requires jobs { AreJobs sorted.now (length sorted.now) jobs.now }
-    ensures { result ≡ home_of sorted.now e }
+    ensures { result ≡ entry_home sorted.now e }
 {
     match parent_told(word_at(parents, e)) {
         Some(d) => word_at(jobs, d),
@@ -68,7 +70,7 @@ fn all_homes(
     requires parents { ParentsTo (length sorted.now) sorted.now parents.now }
     requires jobs { AreJobs sorted.now (length sorted.now) jobs.now }
     ensures { IfOk result (λ homes.
-        homes ≡ map (home_of sorted.now) (all_numbers (length sorted.now))) }
+        homes ≡ map (entry_home sorted.now) (all_numbers (length sorted.now))) }
 {
     let mut homes = Row::new(alloc);
     'entries: for e in 0..sorted.len() {
@@ -90,7 +92,7 @@ fn push_parent(
     requires parents { ParentsTo (length sorted.now) sorted.now parents.now }
     requires jobs { AreJobs sorted.now (length sorted.now) jobs.now }
     ensures { OnOk result (to.new ≡ (if is_directory sorted.now e
-        then to.old ++ home_of sorted.now e ∷ [] else to.old)) }
+        then to.old ++ entry_home sorted.now e ∷ [] else to.old)) }
 {
     if sorted.is_directory(e) {
         to.push(home_of(sorted, parents, jobs, e))
@@ -110,7 +112,7 @@ fn all_parents(
     requires by_path { ByPath sorted.now }
     requires parents { ParentsTo (length sorted.now) sorted.now parents.now }
     requires jobs { AreJobs sorted.now (length sorted.now) jobs.now }
-    ensures { IfOk result (λ all. all ≡ map (home_of sorted.now)
+    ensures { IfOk result (λ all. all ≡ map (entry_home sorted.now)
         (filter (is_directory sorted.now) (all_numbers (length sorted.now)))) }
 {
     let mut all = Row::new(alloc);

@@ -1,4 +1,5 @@
-ghost use Rattle.std.specs.Prelude.{◌≡◌, ◌+◌, ◌-◌, ◌<◌, ◌≤◌, ◌^◌, ◌&&◌, false, length, get_or, nat_lt, IfOk};
+ghost use Rattle.std.specs.Prelude.{◌≡◌, ◌+◌, ◌-◌, ◌<◌, ◌≤◌, ◌^◌, ◌&&◌, false, length, get_or};
+ghost use Rattle.std.specs.Prelude.{nat_lt, IfOk};
 ghost use Rattle.tree_model.specs.LiveLists.{AreDead, IsBehindDead, IsDead, IsFilled};
 
 use label_base::OutOfMemory;

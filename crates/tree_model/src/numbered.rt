@@ -11,8 +11,8 @@ use find_records::{Entry, Records};
 use std::cmp::Ordering;
 use std::marker::Model;
 
-/// A record and its number, from 1 on. Such are ordered by their paths, and those of one path by their
-/// numbers.
+/// A record and its number, from 1 on. Such are ordered by their paths, and those of one path by
+/// their numbers.
 #[derive(Drop)]
 pub struct Numbered<'a> {
     // The record's path.

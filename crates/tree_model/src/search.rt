@@ -31,7 +31,8 @@ fn halve(records: &Records, path: &PathRef<'_>, low: u32, high: u32) -> (u32, u3
     }
 }
 
-/// The index of the first entry whose path is not before this one; without one, the number of entries.
+/// The index of the first entry whose path is not before this one; without one, the number of
+/// entries.
 #[tactic(auto, using(crate::proofs::FindLemmas::from_between))]
 pub fn first_from(records: &Records, path: &PathRef<'_>) -> u32
     requires { ByPath records.now }

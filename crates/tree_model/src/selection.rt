@@ -1,8 +1,10 @@
-ghost use Rattle.std.specs.Prelude.{◌≡◌, ◌+◌, ◌++◌, ◌<◌, ◌^◌, ◌&&◌, ◌||◌, List, not, false, take, drop, length, get_or, IfOk, OnOk};
+ghost use Rattle.std.specs.Prelude.{◌≡◌, ◌+◌, ◌++◌, ◌<◌, ◌^◌, ◌&&◌, ◌||◌, List, not, false, take};
+ghost use Rattle.std.specs.Prelude.{drop, length, get_or, IfOk, OnOk};
 ghost use Rattle.file_paths.specs.Path.{Path};
 ghost use Rattle.tree_model.specs.Extents.{EndsFrom};
 ghost use Rattle.tree_model.specs.LiveLists.{AreFlags, IsDead};
-ghost use Rattle.tree_model.specs.Selection.{absent_from, admits, is_admitted, is_excluded, is_live, selected_by, whole_at};
+ghost use Rattle.tree_model.specs.Selection.{absent_from, admits, is_admitted, is_excluded};
+ghost use Rattle.tree_model.specs.Selection.{is_chosen, selected_by, whole_at};
 ghost use Rattle.tree_model.specs.Tree.{ByPath};
 
 use crate::admit::mark_operand;
@@ -47,8 +49,8 @@ impl Model for Selected {
     ghost invariant = { λ s. KeepsFlags (live_of s.dead.items s.count) s.dead.items s.count };
 }
 
-// Marks what the entry of one operand more admits. Where it has its flag already, some operand before admits
-// it, and all that it admits: so many operands cost one run.
+// Marks what the entry of one operand more admits. Where it has its flag already, some operand
+// before admits it, and all that it admits: so many operands cost one run.
 fn admit_entry(sorted: &Sorted, ends: &[u32], choice: &Choice, live: &mut Vec<bool>, o: u32)
     requires by_path { ByPath sorted.now }
     requires ends { EndsFrom 0 sorted.now ends.now }
@@ -117,7 +119,7 @@ fn exclude_all(sorted: &Sorted, ends: &[u32], choice: &Choice, live: &mut Vec<bo
     requires ends { EndsFrom 0 sorted.now ends.now }
     requires flags { AreFlags (length sorted.now)
         (is_admitted choice.now sorted.now choice.now.operands) live.old.items }
-    ensures { AreFlags (length sorted.now) (is_live choice.now sorted.now) live.new.items }
+    ensures { AreFlags (length sorted.now) (is_chosen choice.now sorted.now) live.new.items }
 {
     'paths: for index in 0..choice.excluded.len() {
         exclude_path(sorted, ends, choice, index, live);
@@ -174,8 +176,8 @@ impl Selected {
         self.next_dead(e) != e
     }
 
-    /// Whether the extent of an entry is closed, and all of it is meant, where this was selected from the
-    /// tree or from one that differs in labels alone.
+    /// Whether the extent of an entry is closed, and all of it is meant, where this was selected
+    /// from the tree or from one that differs in labels alone.
     pub fn is_whole(&self, tree: &Tree, d: u32) -> bool
         requires known { d < length tree.now }
         requires count { length self.now.live ≡ length tree.now }

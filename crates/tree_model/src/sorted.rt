@@ -39,8 +39,8 @@ impl Model for Sorted {
 }
 
 impl Sorted {
-    /// The entries of records: in the order of their paths, and each record once, however often it is
-    /// given.
+    /// The entries of records: in the order of their paths, and each record once, however often it
+    /// is given.
     pub fn new(alloc: Global, records: Records) -> Result<Sorted, TreeFault>
         requires { length records < 2 ^ 32 }
         ensures answer { Answers (λ sorted. sorted) tree_cause result (tree_of records) }

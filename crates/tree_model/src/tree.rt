@@ -1,15 +1,17 @@
-ghost use Rattle.std.specs.Prelude.{◌≡◌, ◌↔◌, ℕ, ◌<◌, ◌≤◌, ◌^◌, ◌&&◌, ◌+◌, nat_le, nat_lt, true, if◌then◌else◌, IfOk, IfSome, Some, length, slice_get};
+ghost use Rattle.std.specs.Prelude.{◌≡◌, ◌↔◌, ℕ, ◌<◌, ◌≤◌, ◌^◌, ◌&&◌, ◌+◌, nat_le, nat_lt, true};
+ghost use Rattle.std.specs.Prelude.{if◌then◌else◌, IfOk, IfSome, Some, length, slice_get};
 ghost use Rattle.std.specs.List.{Contains};
 ghost use Rattle.label_base.specs.Answers.{Answers};
 ghost use Rattle.file_paths.specs.PathRef.{path_of};
 ghost use Rattle.find_records.specs.Entry.{entry_of};
-ghost use Rattle.find_records.specs.Record.{AreOf, Record};
+ghost use Rattle.find_records.specs.Record.{AreOfFormat, Record};
 ghost use Rattle.find_records.specs.declared.format.Format.{Format};
 ghost use Rattle.tree_model.specs.Entries.{tree_of};
 ghost use Rattle.tree_model.specs.Extents.{extent_of, in_extent, is_directory, parent_of};
 ghost use Rattle.tree_model.specs.Groups.{closed_at, group_of, groups_in, label_in, names_in};
-ghost use Rattle.tree_model.specs.Jobs.{directories_in, entries_of_job, job_directory, job_of, shape_of};
-ghost use Rattle.tree_model.specs.Kept.{IsKept};
+ghost use Rattle.tree_model.specs.Jobs.{directories_in, entries_of_job, job_directory, job_of};
+ghost use Rattle.tree_model.specs.Jobs.{shape_of};
+ghost use Rattle.tree_model.specs.Kept.{IsTreeKept};
 ghost use Rattle.tree_model.specs.Labelled.{DifferInLabels, labelled};
 ghost use Rattle.tree_model.specs.Selection.{selected_by};
 ghost use Rattle.tree_model.specs.Tree.{ByPath, tree_cause, find_in};
@@ -64,7 +66,7 @@ impl Model for Tree {
 
     ghost view = { λ t. t.sorted };
 
-    ghost invariant = { λ t. IsKept t.sorted t.ends.items t.groups t.directories.items };
+    ghost invariant = { λ t. IsTreeKept t.sorted t.ends.items t.groups t.directories.items };
 }
 
 // What a tree keeps beside its entries.
@@ -79,7 +81,7 @@ struct Kept {
 fn keep_beside(alloc: Global, sorted: &Sorted) -> Result<Kept, OutOfMemory>
     requires { ByPath sorted.now }
     ensures { IfOk result (λ kept.
-        IsKept sorted.now kept.ends.items kept.groups kept.directories.items) }
+        IsTreeKept sorted.now kept.ends.items kept.groups kept.directories.items) }
 {
     // First of all that is made, since what numbers the inodes takes most room and is dropped then.
     let numbering = number_groups(alloc, sorted)?;
@@ -94,17 +96,17 @@ fn keep_beside(alloc: Global, sorted: &Sorted) -> Result<Kept, OutOfMemory>
 }
 
 impl Tree {
-    /// The tree of records, as find(1) finds them: in the order of their paths, and each record once,
-    /// however often it is given. There must be fewer than 2^32 of them.
+    /// The tree of records, as find(1) finds them: in the order of their paths, and each record
+    /// once, however often it is given. There must be fewer than 2^32 of them.
     ///
-    /// Two records of one path that differ make no tree: [`TreeFault::Doubled`]. Want of memory is the
-    /// only other fault.
+    /// Two records of one path that differ make no tree: [`TreeFault::Doubled`]. Want of memory is
+    /// the only other fault.
     pub fn new(alloc: Global, records: Records) -> Result<Tree, TreeFault>
         requires { length records < 2 ^ 32 }
         ensures answer { Answers (λ tree. tree) tree_cause result (tree_of records) }
         ensures by_path { IfOk result (λ tree. ByPath tree) }
         ensures of_format { IfOk result (λ tree. (format : Format)
-            → AreOf format records → AreOf format tree) }
+            → AreOfFormat format records → AreOfFormat format tree) }
         ensures same { IfOk result (λ tree. (r : Record) → Contains tree r ↔ Contains records r) }
     {
         let sorted = Sorted::new(alloc, records)?;
@@ -172,8 +174,8 @@ impl Tree {
         self.sorted.find(path)
     }
 
-    /// The index of the nearest directory above an entry, if the tree has one. This looks for each path
-    /// above the entry's, from the longest on.
+    /// The index of the nearest directory above an entry, if the tree has one. This looks for each
+    /// path above the entry's, from the longest on.
     pub fn parent(&self, e: u32) -> Option<u32>
         requires { e < length self.now }
         ensures value { result ≡ parent_of self.now e }
@@ -182,8 +184,8 @@ impl Tree {
         parent_by_path(&self.sorted, e)
     }
 
-    /// One more than the index of the last entry at or below an entry: those from it up to there are just
-    /// the entries at or below it. It is made once, and this looks at it.
+    /// One more than the index of the last entry at or below an entry: those from it up to there
+    /// are just the entries at or below it. It is made once, and this looks at it.
     pub fn extent(&self, d: u32) -> u32
         requires { d < length self.now }
         ensures value { result ≡ extent_of self.now d }
@@ -211,8 +213,8 @@ impl Tree {
         word_at(self.groups.group_of.as_slice(), e)
     }
 
-    /// The entries of a group, which are the names of its inode, in ascending order. There is one at
-    /// least.
+    /// The entries of a group, which are the names of its inode, in ascending order. There is one
+    /// at least.
     pub fn names_of(&self, g: u32) -> &[u32]
         requires { g < groups_in self.now }
         ensures value { result.now ≡ names_in self.now g }
@@ -234,9 +236,9 @@ impl Tree {
         self.entry(first).label
     }
 
-    /// Whether all entries of the groups that have one at or below an entry are at or below it, and no
-    /// link count there tells of more names than its group has entries. That of a directory counts no
-    /// names, and isn't asked for.
+    /// Whether all entries of the groups that have one at or below an entry are at or below it, and
+    /// no link count there tells of more names than its group has entries. That of a directory
+    /// counts no names, and isn't asked for.
     pub fn closed(&self, d: u32) -> bool
         requires { d < length self.now }
         ensures { result ≡ closed_at self.now d }
@@ -253,8 +255,8 @@ impl Tree {
         select_in(alloc, &self.sorted, self.ends.as_slice(), choice)
     }
 
-    /// The tree as workers see it: a job for each directory, numbered from 1 in their order, and job 0,
-    /// which holds all entries without a parent.
+    /// The tree as workers see it: a job for each directory, numbered from 1 in their order, and
+    /// job 0, which holds all entries without a parent.
     pub fn shape(&self, alloc: Global) -> Result<Shape, OutOfMemory>
         ensures value { IfOk result (λ shape. shape ≡ shape_of self.now) }
         ensures valid { IfOk result (λ shape. IsValid shape) }
@@ -296,8 +298,8 @@ impl Tree {
         job_in(&self.sorted, self.directories.as_slice(), d)
     }
 
-    /// The entries that a job holds, in ascending order: those right below its directory, or for job 0
-    /// those without a parent.
+    /// The entries that a job holds, in ascending order: those right below its directory, or for
+    /// job 0 those without a parent.
     pub fn entries_of_job(&self, job: u32) -> JobEntries<'_>
         requires { job ≤ length (directories_in self.now) }
         ensures { result ≡ entries_of_job self.now job }

@@ -23,16 +23,16 @@ saved_as None text = None
 saved_as (Some name) text = Some (record { name = name; text = text })
 
 -- the lines of a walk, how it ends, and its dump, which goes to the file of -o
-abbrev pub ending_of : Option (List ℕ) → Walk → Ending
-ending_of output walk = record {
+abbrev pub relabel_ending : Option (List ℕ) → Walk → Ending
+relabel_ending output walk = record {
   report = report_of (messages walk);
   end = walk_end (errors walk);
   saved = saved_as output (dump_text (changes walk));
 }
 
--- the walk over the entries of the input, by the rules that the files give and from the digests that
--- they store
-unfoldable pub answer_of : RelabelWords → RelabelFiles → List Record → Ending
-answer_of words found entries =
-    ending_of words.output (walk_for entries words.choice found.rules words.options
+-- the walk over the entries of the input, by the rules that the files give and from the digests
+-- that they store
+unfoldable pub relabelling_of : RelabelWords → RelabelFiles → List Record → Ending
+relabelling_of words found entries =
+    relabel_ending words.output (walk_for entries words.choice found.rules words.options
     (digests_by found.stored.sections entries))

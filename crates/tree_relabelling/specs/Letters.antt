@@ -3,7 +3,8 @@ use Rattle.std.specs.Prelude.{Some, None}
 use Rattle.tool_words.specs.Tool.{Tool}
 use Rattle.tool_words.specs.declared.letters.Form.TheVariants.{Name}
 use Rattle.tool_words.specs.declared.letters.Others.TheVariants.{Paths}
-use Rattle.tree_relabelling.specs.declared.letters.TheConstants.{BASE, RESTORECON_LETTERS, SETFILES_LETTERS}
+use Rattle.tree_relabelling.specs.declared.letters.TheConstants.{BASE, RESTORECON_LETTERS}
+use Rattle.tree_relabelling.specs.declared.letters.TheConstants.{SETFILES_LETTERS}
 
 abbrev pub setfiles : Tool
 setfiles = record {

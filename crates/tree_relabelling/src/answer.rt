@@ -1,11 +1,11 @@
 ghost use Rattle.std.specs.Prelude.{◌≡◌, ◌<◌, ◌^◌, IfOk, length};
-ghost use Rattle.find_records.specs.Record.{AreOf};
+ghost use Rattle.find_records.specs.Record.{AreOfFormat};
 ghost use Rattle.setfattr_dump.specs.Texts.{dump_text};
 ghost use Rattle.relabel_core.specs.Answer.{walk_in};
 ghost use Rattle.relabel_core.specs.Changes.{changes};
 ghost use Rattle.relabel_core.specs.Stored.{digests_of};
 ghost use Rattle.relabel_core.specs.Walked.{IsFit, walk_for, walk_of};
-ghost use Rattle.tree_relabelling.specs.Answer.{answer_of, ending_of, saved_as, walk_end};
+ghost use Rattle.tree_relabelling.specs.Answer.{relabelling_of, relabel_ending, saved_as, walk_end};
 
 use crate::found::RelabelFiles;
 use crate::walker::Walker;
@@ -70,7 +70,7 @@ fn ending_of<W: Walker>(
     walked: &Walked<'_>,
 ) -> Result<Ending, OutOfMemory>
     requires { W.IsReady walker.now }
-    ensures { IfOk result (λ ending. ending ≡ ending_of output.now (walk_in walked.now)) }
+    ensures { IfOk result (λ ending. ending ≡ relabel_ending output.now (walk_in walked.now)) }
 {
     let report = walker.report(alloc, walked)?;
     let saved = saved_as(walker, alloc, output, walked)?;
@@ -90,7 +90,7 @@ fn ending_over<W: Walker>(
 ) -> Result<Ending, OutOfMemory>
     requires ready { W.IsReady walker.now }
     requires fit { IsFit input.now }
-    ensures { IfOk result (λ ending. ending ≡ ending_of output.now (walk_of input.now)) }
+    ensures { IfOk result (λ ending. ending ≡ relabel_ending output.now (walk_of input.now)) }
 {
     let walked = walker.walk(alloc, input)?;
     ending_of(walker, alloc, output, &walked)
@@ -108,9 +108,9 @@ fn ending_stored<W: Walker>(
     requires ready { W.IsReady walker.now }
     requires tree { length tree.now < 2 ^ 31 }
     requires words { length words.now.choice.operands < 2 ^ 31 }
-    requires format { AreOf words.now.options.format tree.now }
+    requires format { AreOfFormat words.now.options.format tree.now }
     ensures { IfOk result (λ ending. ending
-        ≡ ending_of words.now.output (walk_for tree.now words.now.choice found.now.rules
+        ≡ relabel_ending words.now.output (walk_for tree.now words.now.choice found.now.rules
         words.now.options (digests_of stored.now))) }
 {
     let chosen = tree.select(alloc, &words.choice)?;
@@ -138,8 +138,8 @@ pub fn answer_of<W: Walker>(
     requires ready { W.IsReady walker.now }
     requires tree { length tree.now < 2 ^ 31 }
     requires words { length words.now.choice.operands < 2 ^ 31 }
-    requires format { AreOf words.now.options.format tree.now }
-    ensures { IfOk result (λ ending. ending ≡ answer_of words.now found.now tree.now) }
+    requires format { AreOfFormat words.now.options.format tree.now }
+    ensures { IfOk result (λ ending. ending ≡ relabelling_of words.now found.now tree.now) }
 {
     let stored = Stored::new(alloc, tree, &found.stored)?;
     ending_stored(walker, alloc, words, found, tree, &stored)

@@ -1,5 +1,5 @@
-//! The tools setfiles(8) and restorecon(8): their words, the files that they read, and the report and
-//! the dump of the walk that they make.
+//! The tools setfiles(8) and restorecon(8): their words, the files that they read, and the report
+//! and the dump of the walk that they make.
 #![tactic(auto)]
 
 mod answer;

@@ -1,7 +1,10 @@
 ghost use Rattle.std.specs.Prelude.{◌≡◌, ◌<◌, ◌+◌, ◌^◌, ◌||◌, IfOk, length};
-ghost use Rattle.label_base.specs.Answers.{Answers, cause_of};
+ghost use Rattle.label_base.specs.Answers.{Answers, fault_cause};
 ghost use Rattle.tool_words.specs.Words.{has_flag, operand_paths, word_texts};
-ghost use Rattle.tree_relabelling.specs.Words.{asked_by, asked_in, base_of, choice_of, end_wrong, format_of, lacks_output, options_of, relabel_words, restorecon_words, setfiles_words, workers_of};
+ghost use Rattle.tree_relabelling.specs.Words.{relabel_words_by, relabel_words_in, relabel_base};
+ghost use Rattle.tree_relabelling.specs.Words.{relabel_choice, relabel_end_wrong, relabel_format};
+ghost use Rattle.tree_relabelling.specs.Words.{lacks_output, relabel_options, relabel_words};
+ghost use Rattle.tree_relabelling.specs.Words.{restorecon_words, setfiles_words, workers_of};
 
 use crate::letters::{
     BASE, DIGESTS, DRY, EXCLUDED, FORCE, IGNORE_ABSENT, IGNORE_DIGESTS, LINK_COUNTS, MOST_WORKERS,
@@ -59,7 +62,7 @@ impl Drop for RelabelWords {
 
 // The format of the records.
 fn format_of(items: &[Item<'_>]) -> Format
-    ensures { result ≡ format_of items.now }
+    ensures { result ≡ relabel_format items.now }
 {
     if has_flag(LINK_COUNTS, items) {
         Format::Two
@@ -69,7 +72,7 @@ fn format_of(items: &[Item<'_>]) -> Format
 }
 
 fn options_of(items: &[Item<'_>]) -> Options
-    ensures { result ≡ options_of items.now }
+    ensures { result ≡ relabel_options items.now }
 {
     Options {
         force: has_flag(FORCE, items),
@@ -85,7 +88,7 @@ fn options_of(items: &[Item<'_>]) -> Options
 }
 
 fn base_of(alloc: Global, items: &[Item<'_>]) -> Result<Name, OutOfMemory>
-    ensures { IfOk result (λ name. name ≡ base_of items.now) }
+    ensures { IfOk result (λ name. name ≡ relabel_base items.now) }
 {
     match value_of(BASE, items) {
         Some(text) => Name::copy_of(alloc, text),
@@ -107,7 +110,7 @@ fn does_recurse(items: &[Item<'_>]) -> bool
 
 // What is meant of a tree, where `always` says that what lies below the operands is meant too.
 fn choice_of(alloc: Global, always: bool, items: &[Item<'_>]) -> Result<Choice, OutOfMemory>
-    ensures { IfOk result (λ choice. choice ≡ choice_of always items.now) }
+    ensures { IfOk result (λ choice. choice ≡ relabel_choice always items.now) }
 {
     Ok(Choice {
         operands: operands(alloc, items)?,
@@ -119,7 +122,7 @@ fn choice_of(alloc: Global, always: bool, items: &[Item<'_>]) -> Result<Choice, 
 
 // What the words ask for, where nothing is wrong with them.
 fn asked_by(alloc: Global, always: bool, items: &[Item<'_>]) -> Result<RelabelWords, OutOfMemory>
-    ensures { IfOk result (λ words. words ≡ asked_by always items.now) }
+    ensures { IfOk result (λ words. words ≡ relabel_words_by always items.now) }
 {
     Ok(RelabelWords {
         base: base_of(alloc, items)?,
@@ -141,7 +144,7 @@ fn lacks_output(items: &[Item<'_>]) -> bool
 // What is missing at the end of the words, whose number this is.
 #[tactic(auto, unfolding(crate::specs::Words::end_wrong))]
 fn end_wrong(items: &[Item<'_>], count: u32) -> Option<Usage>
-    ensures { result ≡ end_wrong items.now count }
+    ensures { result ≡ relabel_end_wrong items.now count }
 {
     if !has_operand(items) {
         return Some(Usage {
@@ -165,7 +168,8 @@ fn asked_in(
     items: &[Item<'_>],
     count: u32,
 ) -> Result<RelabelWords, Fault<Usage>>
-    ensures meant { Answers (λ words. words) cause_of result (asked_in always items.now count) }
+    ensures meant { Answers (λ words. words) fault_cause result
+        (relabel_words_in always items.now count) }
     ensures operands { IfOk result (λ words.
         words.choice.operands ≡ operand_paths items.now) }
 {
@@ -184,7 +188,7 @@ fn read_words(
     first: u32,
 ) -> Result<RelabelWords, Fault<Usage>>
     requires { length words.now + first < 2 ^ 31 }
-    ensures meant { Answers (λ words. words) cause_of result
+    ensures meant { Answers (λ words. words) fault_cause result
         (relabel_words tool.now always first (word_texts words.now)) }
     ensures few { IfOk result (λ asked. length asked.choice.operands < 2 ^ 31) }
 {
@@ -202,7 +206,7 @@ pub fn read_setfiles(
     first: u32,
 ) -> Result<RelabelWords, Fault<Usage>>
     requires { length words.now + first < 2 ^ 31 }
-    ensures meant { Answers (λ words. words) cause_of result
+    ensures meant { Answers (λ words. words) fault_cause result
         (setfiles_words first (word_texts words.now)) }
     ensures few { IfOk result (λ asked. length asked.choice.operands < 2 ^ 31) }
 {
@@ -216,7 +220,7 @@ pub fn read_restorecon(
     first: u32,
 ) -> Result<RelabelWords, Fault<Usage>>
     requires { length words.now + first < 2 ^ 31 }
-    ensures meant { Answers (λ words. words) cause_of result
+    ensures meant { Answers (λ words. words) fault_cause result
         (restorecon_words first (word_texts words.now)) }
     ensures few { IfOk result (λ asked. length asked.choice.operands < 2 ^ 31) }
 {

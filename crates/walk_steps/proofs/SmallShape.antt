@@ -15,7 +15,8 @@ at_most_two zero = omega arith
 at_most_two (suc zero) = omega arith
 at_most_two (suc (suc i)) = omega arith
 
-pub small_is_valid : IsValid record { parents = 0 ∷ 0 ∷ []; homes = 1 ∷ 2 ∷ []; group_of = 0 ∷ 0 ∷ []; groups = 1 }
+pub small_is_valid : IsValid
+    record { parents = 0 ∷ 0 ∷ []; homes = 1 ∷ 2 ∷ []; group_of = 0 ∷ 0 ∷ []; groups = 1 }
 small_is_valid = record {
   paired = refl;
   parents = λ job positive within. let z = zeros (job - 1) in omega (arith, z, positive);

@@ -1,5 +1,7 @@
 -- The machine of steps.
-use Rattle.std.specs.Prelude.{◌≡◌, ℕ, suc, ◌==◌, nat_lt, nat_le, ◌&&◌, Bool, true, false, not, cond, List, [], ◌∷◌, ◌++◌, length, replicate, Result, Ok, Err, Option, Some, None}
+use Rattle.std.specs.Prelude.{◌≡◌, ℕ, suc, ◌==◌, nat_lt, nat_le, ◌&&◌, Bool, true, false, not, cond}
+use Rattle.std.specs.Prelude.{List, [], ◌∷◌, ◌++◌, length, replicate, Result, Ok, Err, Option, Some}
+use Rattle.std.specs.Prelude.{None}
 use Rattle.walk_steps.specs.declared.machine.TheConstants.{NONE_WORD}
 use Rattle.walk_steps.specs.declared.machine.WalkState.{WalkState}
 use Rattle.walk_steps.specs.declared.machine.Machine.{Machine}
@@ -8,7 +10,7 @@ use Rattle.walk_steps.specs.declared.steps.Step.{Step}
 use Rattle.walk_steps.specs.declared.steps.Step.TheVariants.{Take, Offer, Claim}
 use Rattle.walk_steps.specs.declared.steps.StepsFault.{StepsFault}
 use Rattle.walk_steps.specs.declared.steps.StepsFault.TheVariants.{NotAllowed, OutOfMemory}
-use Rattle.walk_steps.specs.Shaped.{last_job, entry_count, parent_of, home_of, group_of_entry}
+use Rattle.walk_steps.specs.Shaped.{last_job, entry_count, parent_job, home_of, group_of_entry}
 use Rattle.walk_steps.specs.Lists.{is_in, list_of, added_to, lowered}
 
 abbrev pub first_state : Shape → ℕ → WalkState
@@ -31,7 +33,7 @@ may_take state worker = nat_lt worker (length state.taken) && not (is_empty stat
 abbrev pub may_offer : Shape → WalkState → ℕ → ℕ → Bool
 may_offer shape state worker job =
     (not (job == 0) && nat_le job (last_job shape))
-    && (is_in (parent_of shape job) (list_of state.taken worker)
+    && (is_in (parent_job shape job) (list_of state.taken worker)
     && not (is_in job (list_of state.given worker)))
 
 -- the worker took the job that holds the entry
@@ -76,20 +78,21 @@ after_claim shape state entry =
     }
 
 -- the state behind a step that is allowed
-abbrev pub after : Shape → WalkState → Step → WalkState
-after shape state (Take worker) = after_take state state.queue worker
-after shape state (Offer worker job) = after_offer state worker job
-after shape state (Claim worker entry) = after_claim shape state entry
+abbrev pub step_after : Shape → WalkState → Step → WalkState
+step_after shape state (Take worker) = after_take state state.queue worker
+step_after shape state (Offer worker job) = after_offer state worker job
+step_after shape state (Claim worker entry) = after_claim shape state entry
 
 -- the end of the steps from a state, or the index of the first one that is not allowed
 abbrev pub run_from : Shape → WalkState → ℕ → List Step → Result WalkState ℕ
 run_from shape state index [] = Ok state
 run_from shape state index (step ∷ steps) =
-    cond (is_allowed shape state step) (run_from shape (after shape state step) (suc index) steps)
+    cond (is_allowed shape state step)
+    (run_from shape (step_after shape state step) (suc index) steps)
     (Err index)
 
-abbrev pub run_of : Shape → ℕ → List Step → Result WalkState ℕ
-run_of shape workers steps = run_from shape (first_state shape workers) 0 steps
+abbrev pub steps_from : Shape → ℕ → List Step → Result WalkState ℕ
+steps_from shape workers steps = run_from shape (first_state shape workers) 0 steps
 
 -- the step that a fault names
 abbrev pub index_of : StepsFault → Option ℕ

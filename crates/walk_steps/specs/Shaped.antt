@@ -10,8 +10,8 @@ abbrev pub entry_count : Shape → ℕ
 entry_count shape = length shape.homes
 
 -- the parent of a job from 1 on
-abbrev pub parent_of : Shape → ℕ → ℕ
-parent_of shape job = slice_index shape.parents (job - 1)
+abbrev pub parent_job : Shape → ℕ → ℕ
+parent_job shape job = slice_index shape.parents (job - 1)
 
 -- the job that holds the entry
 abbrev pub home_of : Shape → ℕ → ℕ
@@ -23,6 +23,6 @@ group_of_entry shape entry = slice_index shape.group_of entry
 -- parents stand below their jobs, and each entry has a home and a group
 pub record IsValid (shape : Shape) : Type 0 where
   pub paired : length shape.group_of ≡ length shape.homes
-  pub parents : (job : ℕ) → 0 < job → job ≤ last_job shape → parent_of shape job < job
+  pub parents : (job : ℕ) → 0 < job → job ≤ last_job shape → parent_job shape job < job
   pub homes : (entry : ℕ) → entry < entry_count shape → home_of shape entry ≤ last_job shape
   pub groups : (entry : ℕ) → entry < entry_count shape → group_of_entry shape entry < shape.groups

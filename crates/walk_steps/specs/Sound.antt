@@ -5,11 +5,11 @@ use Rattle.walk_steps.specs.declared.machine.WalkState.{WalkState}
 use Rattle.walk_steps.specs.declared.shape.Shape.{Shape}
 use Rattle.walk_steps.specs.declared.steps.Step.{Step}
 use Rattle.walk_steps.specs.declared.steps.Step.TheVariants.{Claim}
-use Rattle.walk_steps.specs.Shaped.{last_job, parent_of, group_of_entry}
+use Rattle.walk_steps.specs.Shaped.{last_job, parent_job, group_of_entry}
 use Rattle.walk_steps.specs.Lists.{list_of, hit, times, times_in_all}
 
--- The queue and the taken lists hold job 0 and every given job, each once, and nothing else. The parent of a given
--- job is in the taken list of the worker that gave it.
+-- The queue and the taken lists hold job 0 and every given job, each once, and nothing else. The
+-- parent of a given job is in the taken list of the worker that gave it.
 pub record Sound (shape : Shape) (state : WalkState) : Type 0 where
   pub workers : length state.given ≡ length state.taken
   pub placed : (job : ℕ) → times job state.queue + times_in_all job state.taken
@@ -17,7 +17,7 @@ pub record Sound (shape : Shape) (state : WalkState) : Type 0 where
   pub once : (job : ℕ) → times job state.queue + times_in_all job state.taken ≤ 1
   pub inside : (job : ℕ) → 0 < times_in_all job state.given → (0 < job) × (job ≤ last_job shape)
   pub parents : (worker job : ℕ) → 0 < times job (list_of state.given worker)
-      → 0 < times (parent_of shape job) (list_of state.taken worker)
+      → 0 < times (parent_job shape job) (list_of state.taken worker)
 
 -- the word is the least number of which the fact holds, or the none-word
 pub record IsLeast (Fact : ℕ → Type 0) (word : ℕ) : Type 0 where

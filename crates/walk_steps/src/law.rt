@@ -4,17 +4,18 @@ ghost use Rattle.walk_steps.specs.declared.machine.TheConstants.{NONE_WORD};
 ghost use Rattle.walk_steps.specs.declared.machine.WalkState.{WalkState};
 ghost use Rattle.walk_steps.specs.Shaped.{IsValid, entry_count};
 ghost use Rattle.walk_steps.specs.Sound.{Sound, WordsAreLeast};
-ghost use Rattle.walk_steps.specs.Ends.{Leads, HasEnded, IsTheEnd};
+ghost use Rattle.walk_steps.specs.Ends.{LeadsToJob, HasEnded, IsTheEnd};
 
 use crate::shape::Shape;
 
-/// The law of ends. Whichever jobs are open and whichever entries wanted, a sound state in which nothing is left to do
-/// is the one end: the taken jobs are the open ones, and each word is the least wanted entry of its group. So it is
-/// the same however many workers there were, and whatever each did when.
+/// The law of ends. Whichever jobs are open and whichever entries wanted, a sound state in which
+/// nothing is left to do is the one end: the taken jobs are the open ones, and each word is the
+/// least wanted entry of its group. So it is the same however many workers there were, and whatever
+/// each did when.
 pub fn ends_are_one(shape: &Shape)
     requires { IsValid shape.now }
     ensures end { (open_job wanted : ℕ → Bool) (claimed : List ℕ) (state : WalkState)
-        → Leads shape.now open_job wanted
+        → LeadsToJob shape.now open_job wanted
         → Sound shape.now state → WordsAreLeast shape.now claimed state.words
         → HasEnded shape.now open_job wanted claimed state
         → IsTheEnd shape.now open_job wanted state }

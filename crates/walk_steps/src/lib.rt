@@ -1,5 +1,6 @@
-//! The machine of steps that workers take on a tree: which directories are taken, which are offered, and which entry
-//! each group of names has so far. It runs on one thread and says what any schedule of the workers may lead to.
+//! The machine of steps that workers take on a tree: which directories are taken, which are
+//! offered, and which entry each group of names has so far. It runs on one thread and says what any
+//! schedule of the workers may lead to.
 #![tactic(auto)]
 
 mod law;

@@ -94,7 +94,19 @@ fn lower(words: &mut Vec<u64>, group: u32, entry: u32)
 
 impl Machine {
     ghost use Rattle.walk_steps.specs.Shaped.{IsValid};
-    ghost use Rattle.walk_steps.specs.Machine.{state_of, first_state, may_take, may_offer, may_claim, is_allowed, after_take, after_offer, after_claim, after, Refuses};
+    ghost use Rattle.walk_steps.specs.Machine.{
+      state_of,
+      first_state,
+      may_take,
+      may_offer,
+      may_claim,
+      is_allowed,
+      after_take,
+      after_offer,
+      after_claim,
+      after,
+      Refuses,
+    };
 
     /// Job 0 waits, nothing is taken, given or claimed.
     pub(crate) fn new(alloc: Global, shape: &Shape, workers: u32) -> Result<Machine, OutOfMemory>

@@ -11,7 +11,8 @@ use Rattle.file_paths.proofs.path.has_dots.Given as goal
 -- the names before what is left are no dots
 abbrev pub invariant-loop-left : goal.invariant-loop-left
 invariant-loop-left l =
-    list_any is_dot_part (path_names l.bytes) ≡ list_any is_dot_part (filter is_nonempty (pieces_left is_slash (option_copied l.left)))
+    list_any is_dot_part (path_names l.bytes) ≡ list_any is_dot_part
+    (filter is_nonempty (pieces_left is_slash (option_copied l.left)))
 
 abbrev pub decreases-loop-left : goal.decreases-loop-left
 decreases-loop-left l = turns_left (option_copied l.left)

@@ -9,6 +9,8 @@ use Rattle.find_records.proofs.labelled.mark_rows.Given as goal
 abbrev pub invariant-rows : goal.invariant-rows
 invariant-rows l = record {
   few : length l.marked.marks.items < 2 ^ 32;
-  paired : (texts : List ℕ) → (labels : List Label) → ArePlaces (length labels) l.numbers → AreWithin texts l.marks l.rows
-      → ArePaired texts l.marks (take l.i l.rows) (take l.i l.numbers) labels l.marked.marks.items l.marked.rows.items;
+  paired : (texts : List ℕ) → (labels : List Label) → ArePlaces (length labels) l.numbers
+      → AreWithin texts l.marks l.rows
+      → ArePaired texts l.marks (take l.i l.rows) (take l.i l.numbers) labels l.marked.marks.items
+      l.marked.rows.items;
 }

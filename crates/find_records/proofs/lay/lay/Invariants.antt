@@ -5,4 +5,5 @@ use Rattle.find_records.proofs.lay.lay.Given as goal
 
 -- the new rows stand for the records at the places so far
 abbrev pub invariant-each : goal.invariant-each
-invariant-each l = (marks : List Mark) → AreWithin l.texts marks l.rows → AreLaid l.texts marks l.rows (take l.i l.places) l.laid.texts.items l.laid.rows.items
+invariant-each l = (marks : List Mark) → AreWithin l.texts marks l.rows
+    → AreLaid l.texts marks l.rows (take l.i l.places) l.laid.texts.items l.laid.rows.items

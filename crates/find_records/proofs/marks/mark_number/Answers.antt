@@ -6,11 +6,15 @@ use Rattle.find_records.proofs.marks.mark_number.Goals as goal
 
 pub returns-clause-extends : goal.returns-clause-extends
 returns-clause-extends c =
-    marks_longer c.args.labels.now c.number_of.new.self (record { device = c.args.device; links = c.args.links; label = c.in_ok-label.label }) c.args.rows.now.items c.number_of-2.new.rows.items
+    marks_longer c.args.labels.now c.number_of.new.self
+    (record { device = c.args.device; links = c.args.links; label = c.in_ok-label.label })
+    c.args.rows.now.items c.number_of-2.new.rows.items
     c.in_ok-label.ensures.extends c.requires c.number_of-2.ensures.with
 
 pub returns-clause-same : goal.returns-clause-same
 returns-clause-same c =
     on_err_weaker c.number_of-2.result
-    (λ same. ap (marks_in c.number_of.new.self) same ∙ marks_same c.args.labels.now c.number_of.new.self c.args.rows.now.items c.in_ok-label.ensures.extends c.requires)
+    (λ same. ap (marks_in c.number_of.new.self) same
+    ∙ marks_same c.args.labels.now c.number_of.new.self c.args.rows.now.items
+    c.in_ok-label.ensures.extends c.requires)
     c.number_of-2.ensures.err

@@ -5,10 +5,14 @@ use Rattle.find_records.proofs.records.row_of.Goals as goal
 
 pub returns-clause-value : goal.returns-clause-value
 returns-clause-value c =
-    told_is c.args.texts.now.items c.add_path.new.texts.items (normal_text c.args.told.now.path.now) c.number_of.new.self _ _ _
-    c.in_ok-add_path.ensures.ok (omega (arith, c.len-at.ensures)) (omega (arith, c.len.ensures)) c.in_ok-mark.ensures.number c.in_ok-add_path.ensures.text.names_are
+    told_is c.args.texts.now.items c.add_path.new.texts.items (normal_text c.args.told.now.path.now)
+    c.number_of.new.self _ _ _
+    c.in_ok-add_path.ensures.ok (omega (arith, c.len-at.ensures)) (omega (arith, c.len.ensures))
+    c.in_ok-mark.ensures.number c.in_ok-add_path.ensures.text.names_are
 
 pub returns-clause-within : goal.returns-clause-within
 returns-clause-within c =
-    told_within c.args.texts.now.items c.add_path.new.texts.items (normal_text c.args.told.now.path.now) c.number_of.new.self _ _
-    c.in_ok-add_path.ensures.ok (omega (arith, c.len-at.ensures)) (omega (arith, c.len.ensures)) c.in_ok-mark.ensures.number c.in_ok-add_path.ensures.text.normal
+    told_within c.args.texts.now.items c.add_path.new.texts.items
+    (normal_text c.args.told.now.path.now) c.number_of.new.self _ _
+    c.in_ok-add_path.ensures.ok (omega (arith, c.len-at.ensures)) (omega (arith, c.len.ensures))
+    c.in_ok-mark.ensures.number c.in_ok-add_path.ensures.text.normal

@@ -3,7 +3,7 @@ use Rattle.std.specs.List.{list_any}
 use Rattle.std.specs.Option.{option_copied}
 use Rattle.label_base.specs.Lines.{fields_left, fields_of}
 use Rattle.home_contexts.specs.Homes.{is_long}
-use Rattle.home_contexts.specs.Making.{Gives}
+use Rattle.home_contexts.specs.Making.{GivesHomes}
 use Rattle.home_contexts.proofs.Chosen.{flags_length, other_given, root_given}
 use Rattle.home_contexts.proofs.TemplateLines.{line_parts}
 use Rattle.home_contexts.proofs.expansion.give_by_line.Goals as goal
@@ -29,7 +29,7 @@ give_lines-requires-clause-short c =
 pub returns-then-held : goal.returns-then-held
 returns-then-held c =
     let same = ap length c.requires.flags ∙ flags_length [] c.args.users.now in
-    subst (Gives c.give_lines.result c.args.made.now c.give_lines.new.made) (sym (other_given
+    subst (GivesHomes c.give_lines.result c.args.made.now c.give_lines.new.made) (sym (other_given
     c.args.users.now c.args.firsts.now c.args.number (fields_of c.args.text.now)
     c.in-Some.first.now (fields_left (option_copied c.in-Some.more)) c.in-Some.ensures.found
     (sym c.is_comment.ensures ∙ c.if-is_comment.false) same (sym c.held_by-held.ensures.other ∙
@@ -57,7 +57,8 @@ give_lines-requires-then-held-2-clause-short c =
 
 pub returns-then-held-2 : goal.returns-then-held-2
 returns-then-held-2 c =
-    subst (Gives c.give_lines-then-held-2.result c.args.made.now c.give_lines-then-held-2.new.made)
+    subst (GivesHomes c.give_lines-then-held-2.result c.args.made.now
+    c.give_lines-then-held-2.new.made)
     (sym (root_given c.args.users.now c.args.firsts.now c.args.number (fields_of
     c.args.text.now) c.in-Some.first.now (fields_left (option_copied c.in-Some.more))
     c.in-Some.ensures.found

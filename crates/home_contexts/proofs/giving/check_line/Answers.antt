@@ -1,6 +1,7 @@
 use Rattle.home_contexts.proofs.GivenLines.{line_accepted, line_many, line_refused}
 use Rattle.home_contexts.proofs.giving.check_line.Goals as goal
-use Rattle.home_contexts.proofs.giving.check_line.Goals.{in-Ok, in-Err-Why-Refused, in-Err-Why-TooMany, in-Err-OutOfMemory}
+use Rattle.home_contexts.proofs.giving.check_line.Goals.{in-Ok, in-Err-Why-Refused}
+use Rattle.home_contexts.proofs.giving.check_line.Goals.{in-Err-Why-TooMany, in-Err-OutOfMemory}
 
 pub returns : goal.returns
 returns c =

@@ -3,7 +3,7 @@ use Rattle.std.specs.List.{list_any}
 use Rattle.std.specs.Option.{option_copied}
 use Rattle.label_base.specs.Lines.{fields_left}
 use Rattle.home_contexts.specs.Homes.{given_to, is_long}
-use Rattle.home_contexts.specs.Making.{Gives, for_user}
+use Rattle.home_contexts.specs.Making.{GivesHomes, for_user}
 use Rattle.home_contexts.proofs.Going.{adds_none}
 use Rattle.home_contexts.proofs.giving.give_if.Goals as goal
 
@@ -15,7 +15,8 @@ give_line-requires-clause-short c =
 
 pub returns-then-is_for : goal.returns-then-is_for
 returns-then-is_for c =
-    subst (λ v. Gives c.give_line.result c.args.made.now c.give_line.new.made (given_to (for_user v
+    subst (λ v. GivesHomes c.give_line.result c.args.made.now c.give_line.new.made
+    (given_to (for_user v
     c.args.user.now) c.args.number (c.args.first.now ∷ fields_left (option_copied
     c.args.more)))) (sym c.if-is_for.true) c.give_line.ensures
 

@@ -2,7 +2,8 @@ use Rattle.std.proofs.Common.{◌∷◌, ◌∙◌}
 use Rattle.std.specs.Option.{option_copied}
 use Rattle.label_base.specs.Lines.{fields_left}
 use Rattle.home_contexts.specs.Homes.{filled_fields}
-use Rattle.home_contexts.proofs.OneLine.{filled_alone, given_line, line_adds, line_short, line_stops}
+use Rattle.home_contexts.proofs.OneLine.{filled_alone, given_line, line_adds, line_short}
+use Rattle.home_contexts.proofs.OneLine.{line_stops}
 use Rattle.home_contexts.proofs.Refusals.{gives_stop}
 use Rattle.home_contexts.proofs.giving.give_line.Goals as goal
 

@@ -1,4 +1,5 @@
-use Rattle.home_contexts.proofs.PieceLemmas.{byte_next, no_pieces, own_fits, word_next, word_shorter}
+use Rattle.home_contexts.proofs.PieceLemmas.{byte_next, no_pieces, own_fits, word_next}
+use Rattle.home_contexts.proofs.PieceLemmas.{word_shorter}
 use Rattle.home_contexts.proofs.word.next_piece.Goals as goal
 
 pub returns-in_default-clause-none : goal.returns-in_default-clause-none

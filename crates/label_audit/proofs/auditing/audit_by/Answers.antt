@@ -11,5 +11,7 @@ returns c =
     c.finding_by.ensures
     ∙ ap₂ finding_by
     (c.end.ensures ∙ c.in_ok-compare_all.ensures.report
-    ∙ c.in_ok-audit.ensures.report_is (report_pieces w c.args.input.now.operands.now c.args.input.now.chosen.now.absent))
-    (c.end_of.ensures ∙ c.in_ok-compare_all.ensures.dump ∙ c.in_ok-audit.ensures.dump_is (dump_pieces w))
+    ∙ c.in_ok-audit.ensures.report_is
+    (report_pieces w c.args.input.now.operands.now c.args.input.now.chosen.now.absent))
+    (c.end_of.ensures ∙ c.in_ok-compare_all.ensures.dump
+    ∙ c.in_ok-audit.ensures.dump_is (dump_pieces w))

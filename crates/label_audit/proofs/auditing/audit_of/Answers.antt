@@ -9,5 +9,6 @@ returns c =
       report_is = c.new.ensures;
       dump_is = c.dump_of.ensures;
       ahead = c.new-2.ensures w;
-      flags = none_raised w c.len.result c.in_ok-flags.flags.items c.len.ensures c.in_ok-flags.ensures;
+      flags = none_raised w c.len.result c.in_ok-flags.flags.items c.len.ensures
+          c.in_ok-flags.ensures;
     }

@@ -8,4 +8,5 @@ pub returns-in-Some-clause-found : goal.returns-in-Some-clause-found
 returns-in-Some-clause-found g c =
     let digest = c.in-Some.digest in
     c.unless_stored.ensures ∙ ap (λ stored. unless_stored digest stored) c.get.ensures
-    ∙ sym (change_renewed (walk_of c.args.input.now) c.args.e digest (sym c.requires.renewed ∙ c.in-Some.is))
+    ∙ sym (change_renewed (walk_of c.args.input.now) c.args.e digest
+    (sym c.requires.renewed ∙ c.in-Some.is))

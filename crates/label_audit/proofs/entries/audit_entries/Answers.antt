@@ -3,10 +3,10 @@ use Rattle.std.proofs.lemmas.List.{length-map}
 use Rattle.label_base.specs.Bounded.{all_numbers}
 use Rattle.label_base.proofs.BoundedLemmas.{count_numbers}
 use Rattle.relabel_core.specs.Report.{AreRaised}
-use Rattle.relabel_core.specs.Walk.{count}
+use Rattle.relabel_core.specs.Walk.{walk_count}
 use Rattle.relabel_core.specs.Walked.{walk_of}
 use Rattle.tree_model.proofs.LabelledLemmas.{mapped_at}
-use Rattle.label_audit.specs.Compared.{behind, behind_of}
+use Rattle.label_audit.specs.Compared.{next_behind, behind_of}
 use Rattle.label_audit.specs.Pieces.{dump_pieces, entry_piece, entry_pieces, section_piece}
 use Rattle.label_audit.proofs.CompareLemmas.{all_compared, next_compared}
 use Rattle.label_audit.proofs.SkipLemmas.{covers_none}
@@ -26,28 +26,58 @@ pub entries-preserved : goal.entries-preserved
 entries-preserved g c =
     let w = walk_of c.args.input.now in
     let e = c.entries.e in
-    let here : e < count w = omega (arith, c.entries-test.true, c.len-e-end.ensures) in
+    let here : e < walk_count w = omega (arith, c.entries-test.true, c.len-e-end.ensures) in
     record {
       ready = c.in_ok-end.ensures.ready;
       covers = c.in_ok-end.ensures.covers;
       ahead = c.in_ok-end.ensures.ahead;
       flags = c.in_ok-end.ensures.flags;
-      report = next_compared (behind c.entries.audit.report) (behind c.audit_entry.new.audit.report) _ (entry_pieces w) e (entry_piece w e)
-          (omega (arith, here, length-map (all_numbers (count w)) (entry_piece w), count_numbers (count w))) (mapped_at (entry_piece w) (count w) e (entry_piece w e) here)
+      report = next_compared (next_behind c.entries.audit.report)
+          (next_behind c.audit_entry.new.audit.report) _ (entry_pieces w) e (entry_piece w e)
+          (omega (
+            arith,
+            here,
+            length-map (all_numbers (walk_count w)) (entry_piece w),
+            count_numbers (walk_count w),
+          ))
+          (mapped_at (entry_piece w) (walk_count w) e (entry_piece w e) here)
           c.entries.invariant.report c.in_ok-end.ensures.report;
-      dump = next_compared (behind_of c.entries.audit.dump) (behind_of c.audit_entry.new.audit.dump) _ (dump_pieces w) e (section_piece w e)
-          (omega (arith, here, length-map (all_numbers (count w)) (section_piece w), count_numbers (count w))) (mapped_at (section_piece w) (count w) e (section_piece w e) here)
+      dump = next_compared (behind_of c.entries.audit.dump) (behind_of c.audit_entry.new.audit.dump)
+          _ (dump_pieces w) e (section_piece w e)
+          (omega (
+            arith,
+            here,
+            length-map (all_numbers (walk_count w)) (section_piece w),
+            count_numbers (walk_count w),
+          ))
+          (mapped_at (section_piece w) (walk_count w) e (section_piece w e) here)
           c.entries.invariant.dump c.in_ok-end.ensures.dump;
     }
 
 pub returns-clause-report : goal.returns-clause-report
 returns-clause-report g c =
     let w = walk_of c.args.input.now in
-    all_compared (behind c.entries.audit.report) _ (entry_pieces w) c.entries.e
-    (omega (arith, c.entries-test.false, c.len-e-end.ensures, length-map (all_numbers (count w)) (entry_piece w), count_numbers (count w))) c.entries.invariant.report
+    all_compared (next_behind c.entries.audit.report) _ (entry_pieces w) c.entries.e
+    (omega (
+      arith,
+      c.entries-test.false,
+      c.len-e-end.ensures,
+      length-map
+          (all_numbers (walk_count w)) (entry_piece w),
+      count_numbers (walk_count w),
+    ))
+    c.entries.invariant.report
 
 pub returns-clause-dump : goal.returns-clause-dump
 returns-clause-dump g c =
     let w = walk_of c.args.input.now in
     all_compared (behind_of c.entries.audit.dump) _ (dump_pieces w) c.entries.e
-    (omega (arith, c.entries-test.false, c.len-e-end.ensures, length-map (all_numbers (count w)) (section_piece w), count_numbers (count w))) c.entries.invariant.dump
+    (omega (
+      arith,
+      c.entries-test.false,
+      c.len-e-end.ensures,
+      length-map
+          (all_numbers (walk_count w)) (section_piece w),
+      count_numbers (walk_count w),
+    ))
+    c.entries.invariant.dump

@@ -15,4 +15,5 @@ returns c =
     c.in_ok-add_section_of.ensures
     ∙ ap (λ t. t ++ optional_section (section_by path change digest)) c.clear.ensures
     ∙ ap optional_section
-    (section_told (walk_of c.args.input.now) c.args.e path change digest c.entry_path-path.ensures c.requires.change c.requires.digest)
+    (section_told (walk_of c.args.input.now) c.args.e path change digest c.entry_path-path.ensures
+    c.requires.change c.requires.digest)

@@ -5,4 +5,5 @@ use Rattle.label_audit.proofs.looking.known_of.Goals as goal
 
 pub winner_unless-requires-clause-skipped : goal.winner_unless-requires-clause-skipped
 winner_unless-requires-clause-skipped g c =
-    c.does_skip.ensures ∙ skipped_is (walk_of c.args.input.now) c.requires.fit.by_path c.args.e c.args.skip c.requires.entry c.requires.skip
+    c.does_skip.ensures ∙ skipped_is (walk_of c.args.input.now) c.requires.fit.by_path c.args.e
+    c.args.skip c.requires.entry c.requires.skip

@@ -7,7 +7,8 @@ use Rattle.label_base.proofs.lines.read_lines_within.Given as goal
 abbrev pub invariant-lines : goal.invariant-lines
 invariant-lines g l = record {
   read : lines_within l.room (g.R.LineReader.meaning l.reader) l.bytes
-      ≡ answer (line_said (g.R.LineReader.meaning l.reader)) l.room l.values (l.number + 1) (lines_of l.left);
+      ≡ answer (line_said (g.R.LineReader.meaning l.reader)) l.room l.values (l.number + 1)
+      (lines_of l.left);
   within : length l.values ≤ l.room;
   count : l.number + length l.left ≤ length l.bytes;
 }

@@ -10,7 +10,8 @@ invariant-paths g l = record {
   own : IsScratchOf l.rules.rules l.scratch;
   text : l.to ++ report_of (verified_messages l.rules l.tree l.kind (drop l.path-index l.paths))
       ≡ l.initial.to ++ report_of (verified_messages l.rules l.tree l.kind l.paths);
-  count : l.unverified + count_unverified (verified_messages l.rules l.tree l.kind (drop l.path-index l.paths))
+  count : l.unverified + count_unverified
+      (verified_messages l.rules l.tree l.kind (drop l.path-index l.paths))
       ≡ count_unverified (verified_messages l.rules l.tree l.kind l.paths);
   few : l.unverified ≤ l.path-index;
 }

@@ -7,6 +7,7 @@ use Rattle.path_subs.proofs.below.has_names_at.Given as goal
 -- the names so far are the same
 abbrev pub invariant-names : goal.invariant-names
 invariant-names l = record {
-  same : starts_with same_bytes (drop l.at (path_of l.path)) (drop l.from (path_of l.other)) ≡ starts_with same_bytes (drop l.place (path_of l.path)) (drop l.i (path_of l.other));
+  same : starts_with same_bytes (drop l.at (path_of l.path)) (drop l.from (path_of l.other))
+      ≡ starts_with same_bytes (drop l.place (path_of l.path)) (drop l.i (path_of l.other));
   within : l.place ≤ length (path_of l.path);
 }

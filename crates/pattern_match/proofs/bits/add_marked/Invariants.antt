@@ -9,7 +9,13 @@ abbrev pub invariant-marks : goal.invariant-marks
 invariant-marks l =
     (length l.to.items ≡ length l.fn.to.items)
     × ((j : ℕ) → bit_at l.left j ≡ 1 → bit_at l.word j ≡ 1)
-    × ((k : ℕ) → k < 64 * length l.fn.to.items → (bit l.to.items k || any_bit (λ j. (bit_at l.left j == 1) && bit l.table (64 * ((64 * l.i + j) * length l.fn.to.items) + k))) ≡ (bit l.fn.to.items k || any_bit (λ j. (bit_at l.word j == 1) && bit l.table (64 * ((64 * l.i + j) * length l.fn.to.items) + k))))
+    × ((k : ℕ) → k < 64 * length l.fn.to.items
+    → (bit l.to.items k || any_bit
+    (λ j. (bit_at l.left j == 1) && bit l.table
+    (64 * ((64 * l.i + j) * length l.fn.to.items) + k)))
+    ≡ (bit l.fn.to.items k || any_bit
+    (λ j. (bit_at l.word j == 1) && bit l.table
+    (64 * ((64 * l.i + j) * length l.fn.to.items) + k))))
 
 abbrev pub decreases-marks : goal.decreases-marks
 decreases-marks l = l.left

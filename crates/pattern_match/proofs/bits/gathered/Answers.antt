@@ -9,13 +9,18 @@ pub marks-init : goal.marks-init
 marks-init c = (λ j h. h, λ k. none_reached k _)
 
 pub bounds-table-left : goal.bounds-table-left
-bounds-table-left c = let t = bit_at-trailing_zeros w64 c.marks.left (omega arith) (omega arith) in c.requires (trailing_zeros w64 c.marks.left) t.0 (c.marks.invariant.0 _ t.1)
+bounds-table-left c = let t = bit_at-trailing_zeros w64 c.marks.left (omega arith) (omega arith) in
+    c.requires (trailing_zeros w64 c.marks.left) t.0 (c.marks.invariant.0 _ t.1)
 
 pub marks-preserved : goal.marks-preserved
 marks-preserved c = (
   λ j h. c.marks.invariant.0 j (still_marked c.marks.left j (omega arith) (omega arith) h),
-  λ k. row_added _ (bit_at c.marks.reached k == 1) c.marks.left (λ j. bit_at (get_or c.args.table.now j 0) k == 1) _ (omega arith) (omega arith) (word_either c.marks.reached (get_or c.args.table.now (trailing_zeros w64 c.marks.left) 0) k) (c.marks.invariant.1 k),
+  λ k. row_added _ (bit_at c.marks.reached k == 1) c.marks.left
+      (λ j. bit_at (get_or c.args.table.now j 0) k == 1) _ (omega arith) (omega arith)
+      (word_either c.marks.reached (get_or c.args.table.now (trailing_zeros w64 c.marks.left) 0) k)
+      (c.marks.invariant.1 k),
 )
 
 pub returns : goal.returns
-returns c = λ k. rows_added (bit_at c.marks.reached k == 1) c.marks.left (λ j. bit_at (get_or c.args.table.now j 0) k == 1) _ (omega arith) (c.marks.invariant.1 k)
+returns c = λ k. rows_added (bit_at c.marks.reached k == 1) c.marks.left
+    (λ j. bit_at (get_or c.args.table.now j 0) k == 1) _ (omega arith) (c.marks.invariant.1 k)

@@ -4,4 +4,5 @@ use Rattle.pattern_match.proofs.fragment.joined.Goals as goal
 
 pub returns-then-by-eq0 : goal.returns-then-by-eq0
 returns-then-by-eq0 c =
-    behind_none c.args.positions.items c.args.others.items c.in_ok-by.by (omega (arith, c.in_ok-by.ensures, c.len.ensures)) c.if-by-eq0.true
+    behind_none c.args.positions.items c.args.others.items c.in_ok-by.by
+    (omega (arith, c.in_ok-by.ensures, c.len.ensures)) c.if-by-eq0.true

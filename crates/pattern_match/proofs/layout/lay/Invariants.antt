@@ -5,4 +5,5 @@ use Rattle.pattern_match.specs.Skipping.{trees_before}
 use Rattle.pattern_match.proofs.layout.lay.Given as goal
 
 abbrev pub invariant-nodes : goal.invariant-nodes
-invariant-nodes l = IsLaid l.rows.items l.classes.items l.segments.items (map automaton (trees_before l.nodes l.at))
+invariant-nodes l = IsLaid l.rows.items l.classes.items l.segments.items
+    (map automaton (trees_before l.nodes l.at))

@@ -11,40 +11,57 @@ use Rattle.pattern_match.proofs.loops.leads_to_loop_in.Goals as goal
 pub states-init : goal.states-init
 states-init c = record {
   shared = λ j l b. row_common_bit c.args.follow.now c.args.accept.now c.args.start c.args.i j l b;
-  unseen = λ j l h. row_common_at c.args.follow.now c.args.accept.now c.args.start c.args.i j l h.follows h.last;
+  unseen = λ j l h. row_common_at c.args.follow.now c.args.accept.now c.args.start c.args.i j l
+      h.follows h.last;
 }
 
 pub overflow_mul-state : goal.overflow_mul-state
 overflow_mul-state c =
-    let r = lowest_row c.states.left c.args.i (length c.args.accept.now) (length c.args.follow.now) (omega arith) (omega arith) (omega arith) (λ j l b. c.requires.rows _ (c.states.invariant.shared j l b).1) in
+    let r = lowest_row c.states.left c.args.i (length c.args.accept.now) (length c.args.follow.now)
+    (omega arith) (omega arith) (omega arith)
+    (λ j l b. c.requires.rows _ (c.states.invariant.shared j l b).1) in
     omega arith
 
 pub overflow_add-state : goal.overflow_add-state
 overflow_add-state c =
-    let r = lowest_row c.states.left c.args.i (length c.args.accept.now) (length c.args.follow.now) (omega arith) (omega arith) (omega arith) (λ j l b. c.requires.rows _ (c.states.invariant.shared j l b).1) in
+    let r = lowest_row c.states.left c.args.i (length c.args.accept.now) (length c.args.follow.now)
+    (omega arith) (omega arith) (omega arith)
+    (λ j l b. c.requires.rows _ (c.states.invariant.shared j l b).1) in
     omega arith
 
 pub is_loop-requires-clause-row : goal.is_loop-requires-clause-row
 is_loop-requires-clause-row c =
-    let r = lowest_row c.states.left c.args.i (length c.args.accept.now) (length c.args.follow.now) (omega arith) (omega arith) (omega arith) (λ j l b. c.requires.rows _ (c.states.invariant.shared j l b).1) in
+    let r = lowest_row c.states.left c.args.i (length c.args.accept.now) (length c.args.follow.now)
+    (omega arith) (omega arith) (omega arith)
+    (λ j l b. c.requires.rows _ (c.states.invariant.shared j l b).1) in
     r.row
 
 pub returns-then-is_loop : goal.returns-then-is_loop
 returns-then-is_loop c =
     let t = bit_at-trailing_zeros w64 c.states.left (omega arith) (omega arith) in
     let m = c.states.invariant.shared (trailing_zeros w64 c.states.left) t.0 t.1 in (
-      λ _. (trailing_zeros w64 c.states.left, t.0, record { follows = m.0; last = m.1; loops = c.is_loop.ensures.0 c.if-is_loop.true }),
+      λ _. (
+        trailing_zeros w64 c.states.left,
+        t.0,
+        record { follows = m.0; last = m.1; loops = c.is_loop.ensures.0 c.if-is_loop.true },
+      ),
       λ _. refl,
     )
 
 pub states-preserved : goal.states-preserved
 states-preserved c = record {
-  shared = λ j l b. c.states.invariant.shared j l (still_marked c.states.left j (omega arith) (omega arith) b);
-  unseen = among_others (λ j. IsLoopIn c.args.accept.now c.args.follow.now c.args.classes.now c.args.start (64 * c.args.i + j)) c.states.left (omega arith) (omega arith) (λ h. not_from_Decides c.is_loop.result c.is_loop.ensures c.if-is_loop.false h.loops) c.states.invariant.unseen;
+  shared = λ j l b. c.states.invariant.shared j l
+      (still_marked c.states.left j (omega arith) (omega arith) b);
+  unseen = among_others (λ j. IsLoopIn c.args.accept.now c.args.follow.now c.args.classes.now
+      c.args.start (64 * c.args.i + j)) c.states.left (omega arith) (omega arith)
+      (λ h. not_from_Decides c.is_loop.result c.is_loop.ensures c.if-is_loop.false h.loops)
+      c.states.invariant.unseen;
 }
 
 pub returns : goal.returns
 returns c = (
   λ e. cc,
-  λ h. absurd (none_left (λ j. IsLoopIn c.args.accept.now c.args.follow.now c.args.classes.now c.args.start (64 * c.args.i + j)) c.states.left (omega arith) c.states.invariant.unseen h.0 h.1 h.2),
+  λ h. absurd (none_left (λ j. IsLoopIn c.args.accept.now c.args.follow.now c.args.classes.now
+      c.args.start (64 * c.args.i + j)) c.states.left (omega arith) c.states.invariant.unseen h.0
+      h.1 h.2),
 )

@@ -4,4 +4,6 @@ use Rattle.pattern_match.proofs.matcher.may_hold.Goals as goal
 
 pub returns : goal.returns
 returns c = λ e.
-    sym (tells_holds c.args.pattern.now c.args.text.now false (other_start c.args.pattern.now c.args.text.now c.start-start.result.now c.start-start.ensures (sym c.begins_with.ensures.value ∙ e)))
+    sym (tells_holds c.args.pattern.now c.args.text.now false
+    (other_start c.args.pattern.now c.args.text.now c.start-start.result.now
+    c.start-start.ensures (sym c.begins_with.ensures.value ∙ e)))

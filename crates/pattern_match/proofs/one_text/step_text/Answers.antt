@@ -7,16 +7,28 @@ use Rattle.pattern_match.proofs.one_text.step_text.Goals as goal
 
 pub returns-then-seen-start-clause-stands : goal.returns-then-seen-start-clause-stands
 returns-then-seen-start-clause-stands c =
-    steps_dead c.args.pattern.now (literal_start_of c.args.pattern.now) Nothing refl (sym c.requires.one) (record { seen = c.states.inside.seen; marks = c.states.inside.marks }) c.args.states.now c.start-start.result.now c.args.byte c.states.view_is c.start-start.ensures c.if-seen-start.true
+    steps_dead c.args.pattern.now (literal_start_of c.args.pattern.now) Nothing refl
+    (sym c.requires.one) (record { seen = c.states.inside.seen; marks = c.states.inside.marks })
+    c.args.states.now c.start-start.result.now c.args.byte c.states.view_is
+    c.start-start.ensures c.if-seen-start.true
 
 pub returns-then-start-seen-clause-stands : goal.returns-then-start-seen-clause-stands
 returns-then-start-seen-clause-stands c =
-    steps_start c.args.pattern.now (literal_start_of c.args.pattern.now) Nothing refl (sym c.requires.one) (record { seen = c.states.inside.seen; marks = c.states.inside.marks }) c.args.states.now c.start-start.result.now c.args.byte c.states.view_is c.start-start.ensures c.if-seen-start-2.true c.if-start-seen.true
+    steps_start c.args.pattern.now (literal_start_of c.args.pattern.now) Nothing refl
+    (sym c.requires.one) (record { seen = c.states.inside.seen; marks = c.states.inside.marks })
+    c.args.states.now c.start-start.result.now c.args.byte c.states.view_is
+    c.start-start.ensures c.if-seen-start-2.true c.if-start-seen.true
 
 pub returns-then-seen-start-2-clause-stands : goal.returns-then-seen-start-2-clause-stands
 returns-then-seen-start-2-clause-stands c =
-    steps_other c.args.pattern.now (literal_start_of c.args.pattern.now) Nothing refl (sym c.requires.one) (record { seen = c.states.inside.seen; marks = c.states.inside.marks }) c.args.states.now c.start-start.result.now c.args.byte c.states.view_is c.start-start.ensures c.if-seen-start-2.true c.if-start-seen.false
+    steps_other c.args.pattern.now (literal_start_of c.args.pattern.now) Nothing refl
+    (sym c.requires.one) (record { seen = c.states.inside.seen; marks = c.states.inside.marks })
+    c.args.states.now c.start-start.result.now c.args.byte c.states.view_is
+    c.start-start.ensures c.if-seen-start-2.true c.if-start-seen.false
 
 pub returns-clause-stands : goal.returns-clause-stands
 returns-clause-stands c =
-    steps_bare c.args.pattern.now (literal_start_of c.args.pattern.now) Nothing refl (sym c.requires.one) (record { seen = c.states.inside.seen; marks = c.states.inside.marks }) c.args.states.now c.start-start.result.now c.args.byte c.states.view_is c.start-start.ensures (omega arith) nothing_is_bare
+    steps_bare c.args.pattern.now (literal_start_of c.args.pattern.now) Nothing refl
+    (sym c.requires.one) (record { seen = c.states.inside.seen; marks = c.states.inside.marks })
+    c.args.states.now c.start-start.result.now c.args.byte c.states.view_is
+    c.start-start.ensures (omega arith) nothing_is_bare

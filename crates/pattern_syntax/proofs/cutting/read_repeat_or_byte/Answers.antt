@@ -5,4 +5,5 @@ use Rattle.pattern_syntax.proofs.ShapeLemmas.{text_proper}
 use Rattle.pattern_syntax.proofs.cutting.read_repeat_or_byte.Goals as goal
 
 pub returns-in-46-clause-proper : goal.returns-in-46-clause-proper
-returns-in-46-clause-proper c = ap (λ (p : ℕ → Bool). is_proper_set (bytes_with p)) c.text_bytes.ensures ∙ text_proper
+returns-in-46-clause-proper c = ap (λ (p : ℕ → Bool). is_proper_set (bytes_with p))
+    c.text_bytes.ensures ∙ text_proper

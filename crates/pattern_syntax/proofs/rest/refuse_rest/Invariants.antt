@@ -8,7 +8,9 @@ abbrev pub invariant-tokens : goal.invariant-tokens
 invariant-tokens l = record {
   within : l.at ≤ length l.bytes;
   shallow : l.depth ≤ MOST_GROUPS;
-  rest : first_fault (length l.bytes) 0 l.fn.after_piece (tokens_from l.fn.from 0 (drop l.fn.from l.bytes)) ≡ first_fault (length l.bytes) l.depth l.after_piece (tokens_from l.at 0 (drop l.at l.bytes));
+  rest : first_fault (length l.bytes) 0 l.fn.after_piece
+      (tokens_from l.fn.from 0 (drop l.fn.from l.bytes)) ≡ first_fault (length l.bytes) l.depth
+      l.after_piece (tokens_from l.at 0 (drop l.at l.bytes));
 }
 
 abbrev pub decreases-tokens : goal.decreases-tokens

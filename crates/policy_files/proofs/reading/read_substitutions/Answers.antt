@@ -5,14 +5,18 @@ use Rattle.policy_files.proofs.reading.read_substitutions.Goals as goal
 
 pub returns-in_err-first : goal.returns-in_err-first
 unfolding subs_for
-returns-in_err-first g c = refused _ _ _ _ _ _ _ _ _ _ c.from_residual.ensures.1 c.in_err-first.ensures
+returns-in_err-first g c = refused _ _ _ _ _ _ _ _ _ _ c.from_residual.ensures.1
+    c.in_err-first.ensures
 
 pub returns-in_err-second : goal.returns-in_err-second
 unfolding subs_for
 returns-in_err-second g c =
-    followed _ _ _ _ _ _ _ _ _ _ _ c.in_ok-first.ensures (refused _ _ _ _ _ _ _ _ _ _ c.from_residual-in_err-second.ensures.1 c.in_err-second.ensures)
+    followed _ _ _ _ _ _ _ _ _ _ _ c.in_ok-first.ensures
+    (refused _ _ _ _ _ _ _ _ _ _ c.from_residual-in_err-second.ensures.1
+    c.in_err-second.ensures)
 
 pub returns : goal.returns
 unfolding subs_for
 returns g c =
-    followed _ _ _ _ _ _ _ _ _ _ _ c.in_ok-first.ensures (valued _ _ _ _ _ _ _ _ _ _ c.in_ok-second.ensures (λ fs. refl))
+    followed _ _ _ _ _ _ _ _ _ _ _ c.in_ok-first.ensures
+    (valued _ _ _ _ _ _ _ _ _ _ c.in_ok-second.ensures (λ fs. refl))

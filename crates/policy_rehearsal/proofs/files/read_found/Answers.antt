@@ -12,7 +12,9 @@ unfolding rules_read
 returns-in_err-bytes g c =
     let part = c.in_err-bytes.ensures in
     followed _ _ _ _ _ _ _ _ _ _ _ c.in_ok-policies.ensures
-    (refused _ _ _ _ _ _ _ _ _ _ c.from_residual-in_err-bytes.ensures.1 (opened_one _ _ _ _ _ _ _ _ part.files part.writes part.answer part.calls part.counts part.kinds))
+    (refused _ _ _ _ _ _ _ _ _ _ c.from_residual-in_err-bytes.ensures.1
+    (opened_one _ _ _ _ _ _ _ _ part.files part.writes part.answer part.calls part.counts
+    part.kinds))
 
 pub returns : goal.returns
 unfolding rules_read
@@ -20,4 +22,6 @@ returns g c =
     let part = c.in_ok-bytes.ensures in
     let made = c.rules_with.ensures in
     followed _ _ _ _ _ _ _ _ _ _ _ c.in_ok-policies.ensures
-    (ended _ _ _ _ _ _ _ _ _ _ (opened_one _ _ _ _ _ _ _ _ part.files part.writes part.answer part.calls part.counts part.kinds) (λ fs. made.answer) made.counts made.kinds)
+    (ended _ _ _ _ _ _ _ _ _ _
+    (opened_one _ _ _ _ _ _ _ _ part.files part.writes part.answer part.calls part.counts
+    part.kinds) (λ fs. made.answer) made.counts made.kinds)

@@ -12,4 +12,5 @@ returns-in_err-types_in-2-clause-counts c =
 pub policies-preserved : goal.policies-preserved
 policies-preserved c = λ types is.
     typed_more _ c.policies.yielded _ _ types c.policies.rules _ _
-    c.in_ok-types_in-2.ensures.answer c.in_ok-push.ensures.ok c.rules_of.ensures (c.policies.invariant types) is
+    c.in_ok-types_in-2.ensures.answer c.in_ok-push.ensures.ok c.rules_of.ensures
+    (c.policies.invariant types) is

@@ -7,9 +7,11 @@ use Rattle.policy_rehearsal.proofs.groups.first_labels.Goals as goal
 
 pub groups-preserved : goal.groups-preserved
 groups-preserved c =
-    listed_more (label_in c.args.tree.now) c.groups.g _ _ _ c.in_ok-push.ensures.ok c.groups.invariant c.label.ensures
+    listed_more (label_in c.args.tree.now) c.groups.g _ _ _ c.in_ok-push.ensures.ok
+    c.groups.invariant c.label.ensures
 
 pub returns : goal.returns
 returns c =
-    let all : c.groups.g ≡ groups_in c.args.tree.now = omega (arith, c.groups-test.false, c.groups-g-end.ensures) in
+    let all : c.groups.g ≡ groups_in c.args.tree.now =
+    omega (arith, c.groups-test.false, c.groups-g-end.ensures) in
     c.groups.invariant ∙ ap (λ n. map (label_in c.args.tree.now) (all_numbers n)) all

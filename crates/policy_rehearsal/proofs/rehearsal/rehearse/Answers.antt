@@ -5,4 +5,5 @@ use Rattle.policy_rehearsal.proofs.rehearsal.rehearse.Goals as goal
 
 pub returns-clause-keeps : goal.returns-clause-keeps
 returns-clause-keeps c =
-    kept_told c.args.tree.now (runs_of c.args.choice.now c.args.options c.args.policies.now) c.take_turns.result c.take_turns.ensures
+    kept_told c.args.tree.now (runs_of c.args.choice.now c.args.options c.args.policies.now)
+    c.take_turns.result c.take_turns.ensures

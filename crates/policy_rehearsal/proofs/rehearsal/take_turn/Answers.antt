@@ -31,12 +31,15 @@ taken_from-requires-clause-stored c =
 pub returns-clause-kept : goal.returns-clause-kept
 returns-clause-kept c =
     let is = c.in_ok-walked.ensures ∙ c.walk_input-input.ensures.walk in
-    kept_after (walk_in c.in_ok-walked.walked) c.args.asked.now.tree.now (labels_listed c.args.at.now.labels) c.taken_from.result
-    (ap (λ w. w.entries) is) (λ e other. ap (λ w. w.stored e) is ∙ c.requires.kept.directories e other)
+    kept_after (walk_in c.in_ok-walked.walked) c.args.asked.now.tree.now
+    (labels_listed c.args.at.now.labels) c.taken_from.result
+    (ap (λ w. w.entries) is) (λ e other. ap (λ w. w.stored e) is
+    ∙ c.requires.kept.directories e other)
     c.taken_from.ensures.labels c.taken_from.ensures.stored
 
 pub returns-clause-taken : goal.returns-clause-taken
 returns-clause-taken c = λ s now.
-    taken_after (walk_in c.in_ok-walked.walked) c.args.asked.now.tree.now s _ c.args.at.now c.taken_from.result
+    taken_after (walk_in c.in_ok-walked.walked) c.args.asked.now.tree.now s _ c.args.at.now
+    c.taken_from.result
     c.requires.asked.format (c.in_ok-walked.ensures ∙ c.walk_input-input.ensures.walk)
     c.taken_from.ensures.turn c.taken_from.ensures.labels c.taken_from.ensures.stored now

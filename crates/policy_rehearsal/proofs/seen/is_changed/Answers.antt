@@ -11,6 +11,8 @@ use Rattle.policy_rehearsal.proofs.seen.is_changed.Goals as goal
 pub returns : goal.returns
 returns c =
     let seen = c.args.seen.now in
-    c.is_some.ensures ∙ sym (some_told context_lent c.given_in.result) ∙ ap is_some c.given_in.ensures
+    c.is_some.ensures ∙ sym (some_told context_lent c.given_in.result)
+    ∙ ap is_some c.given_in.ensures
     ∙ ap (λ v. is_some (given_in v)) c.verdict_at.ensures
-    ∙ changed_seen (walk_in seen.walked.now) seen.tree.now (labels_listed seen.labels.now) c.args.e c.requires.seen.tree c.requires.seen.wet
+    ∙ changed_seen (walk_in seen.walked.now) seen.tree.now (labels_listed seen.labels.now) c.args.e
+    c.requires.seen.tree c.requires.seen.wet

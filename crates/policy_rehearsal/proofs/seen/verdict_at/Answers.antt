@@ -11,6 +11,8 @@ pub returns : goal.returns
 returns c =
     let seen = c.args.seen.now in
     c.verdict_where.ensures
-    ∙ verdict_seen (walk_in seen.walked.now) seen.tree.now (labels_listed seen.labels.now) c.args.e _ _ seen.force seen.rules.now
+    ∙ verdict_seen (walk_in seen.walked.now) seen.tree.now (labels_listed seen.labels.now) c.args.e
+    _ _ seen.force seen.rules.now
     c.requires.seen.tree c.requires.seen.rules c.requires.seen.force c.requires.entry
-    (c.label_now-label.ensures ∙ ap (labels_listed seen.labels.now) c.group.ensures.value) c.winning_at.ensures
+    (c.label_now-label.ensures ∙ ap (labels_listed seen.labels.now) c.group.ensures.value)
+    c.winning_at.ensures

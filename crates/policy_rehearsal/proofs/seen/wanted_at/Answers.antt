@@ -9,4 +9,5 @@ pub returns : goal.returns
 unfolding wanted
 returns c =
     c.given_at.ensures
-    ∙ ap₂ (λ (rules : Rules) found. given_at rules.rules found) (sym c.requires.seen.rules) c.deciding.ensures
+    ∙ ap₂ (λ (rules : Rules) found. given_at rules.rules found) (sym c.requires.seen.rules)
+    c.deciding.ensures

@@ -4,7 +4,8 @@ use Rattle.policy_rehearsal.proofs.texts.add_changes.Goals as goal
 
 pub changes-preserved : goal.changes-preserved
 changes-preserved c =
-    lines_next c.args.tree.now c.args.changes.now c.changes.change-index c.change-item.result c.changes.text c.add_change.new.text _
+    lines_next c.args.tree.now c.args.changes.now c.changes.change-index c.change-item.result
+    c.changes.text c.add_change.new.text _
     c.changes-test.true c.change-item.is c.changes.invariant c.in_ok-add_change.ensures
 
 pub returns : goal.returns

@@ -8,5 +8,6 @@ use Rattle.policy_rehearsal.proofs.texts.add_changes.Given as goal
 -- the lines so far, and those of the changes that are left
 abbrev pub invariant-changes : goal.invariant-changes
 invariant-changes l =
-    l.text ++ report_of (map (change_message l.tree) (map change_lent (drop l.change-index l.changes)))
+    l.text ++ report_of
+    (map (change_message l.tree) (map change_lent (drop l.change-index l.changes)))
     ≡ l.initial.text ++ report_of (map (change_message l.tree) (map change_lent l.changes))

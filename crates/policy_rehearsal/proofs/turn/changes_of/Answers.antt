@@ -14,7 +14,9 @@ entries-preserved c =
 pub returns : goal.returns
 returns c =
     let seen = c.args.seen.now in
-    let all : c.entries.e ≡ length seen.tree.now = omega (arith, c.entries-test.false, c.len-e-end.ensures) in
+    let all : c.entries.e ≡ length seen.tree.now =
+    omega (arith, c.entries-test.false, c.len-e-end.ensures) in
     all_changes (walk_seen seen) c.entries.e _
-    (all ∙ sym (entries_over (walk_in seen.walked.now) seen.tree.now (labels_listed seen.labels.now) c.requires.tree))
+    (all ∙ sym (entries_over (walk_in seen.walked.now) seen.tree.now (labels_listed seen.labels.now)
+    c.requires.tree))
     c.entries.invariant

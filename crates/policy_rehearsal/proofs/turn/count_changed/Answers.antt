@@ -9,10 +9,14 @@ pub entries-preserved : goal.entries-preserved
 entries-preserved c =
     let w = walk_seen c.args.seen.now in
     let e = c.entries.e in
-    let one : c.from-changed.result ≡ one_if (is_changed_name w e) = c.from-changed.ensures ∙ byte_is_one c.is_changed.result ∙ ap one_if c.is_changed.ensures in
-    let last : c.entries.changed + c.from-changed.result ≡ changed_below w (e + 1) = omega (arith, c.entries.invariant.last, more_changed w e, one) in
+    let one : c.from-changed.result ≡ one_if (is_changed_name w e) = c.from-changed.ensures
+    ∙ byte_is_one c.is_changed.result ∙ ap one_if c.is_changed.ensures in
+    let last : c.entries.changed + c.from-changed.result ≡ changed_below w (e + 1) =
+    omega (arith, c.entries.invariant.last, more_changed w e, one) in
     record {
-      counted = more_counted w e (c.entries.changed + c.from-changed.result) c.entries.counts.items c.push-in-entries.new.self.items c.entries.invariant.counted last c.in_ok-push-2.ensures.items;
+      counted = more_counted w e (c.entries.changed + c.from-changed.result) c.entries.counts.items
+          c.push-in-entries.new.self.items c.entries.invariant.counted last
+          c.in_ok-push-2.ensures.items;
       last = last;
       few = omega (arith, c.entries.invariant.few, one, at_most_one (is_changed_name w e));
     }

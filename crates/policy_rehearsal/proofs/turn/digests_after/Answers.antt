@@ -3,7 +3,7 @@ use Rattle.std.specs.Prelude.{map}
 use Rattle.std.proofs.lemmas.List.{map-append}
 use Rattle.label_base.specs.Bounded.{all_numbers}
 use Rattle.relabel_core.specs.Answer.{walk_in}
-use Rattle.relabel_core.specs.Walk.{count, digest_after}
+use Rattle.relabel_core.specs.Walk.{walk_count, digest_after}
 use Rattle.policy_rehearsal.specs.Seen.{labels_listed, walk_seen}
 use Rattle.policy_rehearsal.proofs.TurnLemmas.{entries_over}
 use Rattle.policy_rehearsal.proofs.turn.digests_after.Goals as goal
@@ -20,7 +20,9 @@ entries-preserved c =
 pub returns : goal.returns
 returns c =
     let seen = c.args.seen.now in
-    let all : c.entries.d ≡ length seen.tree.now = omega (arith, c.entries-test.false, c.len-d-end.ensures) in
+    let all : c.entries.d ≡ length seen.tree.now =
+    omega (arith, c.entries-test.false, c.len-d-end.ensures) in
     c.entries.invariant
     ∙ ap (λ n. map (digest_after (walk_seen seen)) (all_numbers n))
-    (all ∙ sym (entries_over (walk_in seen.walked.now) seen.tree.now (labels_listed seen.labels.now) c.requires.seen.tree))
+    (all ∙ sym (entries_over (walk_in seen.walked.now) seen.tree.now (labels_listed seen.labels.now)
+    c.requires.seen.tree))

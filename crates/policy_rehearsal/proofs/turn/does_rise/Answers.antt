@@ -9,5 +9,7 @@ pub returns : goal.returns
 returns c =
     let seen = c.args.seen.now in
     ap₂ (λ a b. nat_lt a b) c.count_at.ensures c.count_at-2.ensures
-    ∙ rise_seen (walk_in seen.walked.now) seen.tree.now (labels_listed seen.labels.now) c.args.d c.extent.result c.args.counts.now
-    c.requires.seen.tree c.extent.ensures.behind c.extent.ensures.within c.requires.counted c.extent.ensures.run
+    ∙ rise_seen (walk_in seen.walked.now) seen.tree.now (labels_listed seen.labels.now) c.args.d
+    c.extent.result c.args.counts.now
+    c.requires.seen.tree c.extent.ensures.behind c.extent.ensures.within c.requires.counted
+    c.extent.ensures.run

@@ -9,5 +9,6 @@ returns c =
     let seen = c.args.seen.now in
     λ i. record {
       changes = c.in_ok-changes_of.ensures i;
-      skipped = (c.count_skipped.ensures ∙ sym (skipped_same (walk_in seen.walked.now) (labels_listed seen.labels.now))) i;
+      skipped = (c.count_skipped.ensures
+          ∙ sym (skipped_same (walk_in seen.walked.now) (labels_listed seen.labels.now))) i;
     }

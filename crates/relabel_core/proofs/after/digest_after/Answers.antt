@@ -6,7 +6,9 @@ use Rattle.relabel_core.proofs.ChangeLemmas.{after_other, after_renewed, told_vo
 use Rattle.relabel_core.proofs.after.digest_after.Goals as goal
 
 pub returns-in-Some : goal.returns-in-Some
-returns-in-Some c = sym (after_renewed (walk_of c.args.input.now) c.args.d c.in-Some.digest (sym c.requires.renewed ∙ c.in-Some.is))
+returns-in-Some c =
+    sym (after_renewed (walk_of c.args.input.now) c.args.d c.in-Some.digest
+    (sym c.requires.renewed ∙ c.in-Some.is))
 
 pub returns-in-None : goal.returns-in-None
 returns-in-None c =

@@ -5,5 +5,7 @@ use Rattle.relabel_core.proofs.counts.count_if_stored.Goals as goal
 
 pub returns-then-is_empty : goal.returns-then-is_empty
 returns-then-is_empty c = record {
-  counted = λ d wet has. absurd (never (sym (ap (λ digests. is_some (digests d)) (c.is_empty.ensures c.if-is_empty.true)) ∙ has));
+  counted = λ d wet has. absurd
+      (never (sym (ap (λ digests. is_some (digests d)) (c.is_empty.ensures c.if-is_empty.true))
+      ∙ has));
 }

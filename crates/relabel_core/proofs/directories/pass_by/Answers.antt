@@ -3,15 +3,20 @@ use Rattle.relabel_core.specs.Walked.{walk_of}
 use Rattle.relabel_core.proofs.PassedLemmas.{left_out, none_made, passing_by}
 use Rattle.relabel_core.proofs.directories.pass_by.Goals as goal
 
-pub renewed_digest-renewed-requires-clause-skipped : goal.renewed_digest-renewed-requires-clause-skipped
+pub renewed_digest-renewed-requires-clause-skipped :
+    goal.renewed_digest-renewed-requires-clause-skipped
 renewed_digest-renewed-requires-clause-skipped c =
-    sym (left_out (walk_of c.args.input.now) c.requires.fit.by_path c.args.e c.args.end _ _ c.requires.passed c.requires.entry c.requires.outside c.requires.over)
+    sym (left_out (walk_of c.args.input.now) c.requires.fit.by_path c.args.e c.args.end _ _
+    c.requires.passed c.requires.entry c.requires.outside c.requires.over)
 
 pub keep_renewed-requires : goal.keep_renewed-requires
-keep_renewed-requires c = none_made (walk_of c.args.input.now) c.args.e c.args.end _ _ c.requires.passed
+keep_renewed-requires c = none_made (walk_of c.args.input.now) c.args.e c.args.end _ _
+    c.requires.passed
 
 pub returns : goal.returns
 returns c =
-    passing_by (walk_of c.args.input.now) c.requires.fit.by_path c.args.e c.args.end c.args.passed.now.skips.items c.push.new.self.items
-    c.args.passed.now.made c.keep_renewed.new.made c.renewed_digest-renewed.result c.requires.passed c.requires.entry c.requires.outside c.requires.over
+    passing_by (walk_of c.args.input.now) c.requires.fit.by_path c.args.e c.args.end
+    c.args.passed.now.skips.items c.push.new.self.items
+    c.args.passed.now.made c.keep_renewed.new.made c.renewed_digest-renewed.result c.requires.passed
+    c.requires.entry c.requires.outside c.requires.over
     c.renewed_digest-renewed.ensures c.in_ok-keep_renewed.ensures c.in_ok-push.ensures.items

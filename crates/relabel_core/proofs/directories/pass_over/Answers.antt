@@ -4,5 +4,7 @@ use Rattle.relabel_core.proofs.directories.pass_over.Goals as goal
 
 pub returns : goal.returns
 returns c =
-    passing_over (walk_of c.args.input.now) c.requires.fit.by_path c.args.e c.args.end c.extent.result c.args.passed.now.skips.items c.push.new.self.items
-    c.args.passed.now.made c.requires.passed c.requires.entry c.requires.outside c.requires.over c.extent.ensures.run c.in_ok-push.ensures.items
+    passing_over (walk_of c.args.input.now) c.requires.fit.by_path c.args.e c.args.end
+    c.extent.result c.args.passed.now.skips.items c.push.new.self.items
+    c.args.passed.now.made c.requires.passed c.requires.entry c.requires.outside c.requires.over
+    c.extent.ensures.run c.in_ok-push.ensures.items

@@ -11,6 +11,9 @@ use Rattle.relabel_core.proofs.dump.add_label.Goals as goal
 pub returns-in_ok-add_attr-in-Some : goal.returns-in_ok-add_attr-in-Some
 returns-in_ok-add_attr-in-Some c =
     c.in_ok-add_attr-in-Some.ensures
-    ∙ ap (λ value. c.args.to.now ++ attr_line LABEL_KEY.now value) (c.as_slice.ensures ∙ c.in_ok-add-in-Some.ensures ∙ ap (λ text. text ++ context_text (context_lent c.in-Some.context)) c.clear.ensures)
+    ∙ ap (λ value. c.args.to.now ++ attr_line LABEL_KEY.now value)
+    (c.as_slice.ensures ∙ c.in_ok-add-in-Some.ensures
+    ∙ ap (λ text. text ++ context_text (context_lent c.in-Some.context)) c.clear.ensures)
     ∙ one_attr c.args.to.now (label_attr (context_text (context_lent c.in-Some.context)))
-    ∙ ap (λ change. c.args.to.now ++ attrs_text (given_attrs (option_map context_lent change))) (sym c.in-Some.is)
+    ∙ ap (λ change. c.args.to.now ++ attrs_text (given_attrs (option_map context_lent change)))
+    (sym c.in-Some.is)

@@ -10,7 +10,8 @@ returns-clause-fit c =
     let entries = c.args.tree.now in
     record {
       by_path = c.rises.ensures;
-      selected = subst (λ chosen. IsFor entries choice.operands chosen) (sym c.requires.chosen) (selected_is_for choice entries);
+      selected = subst (λ chosen. IsFor entries choice.operands chosen) (sym c.requires.chosen)
+          (selected_is_for choice entries);
       format = have_links c.args.options.format entries c.requires.format;
       few = c.requires.few;
     }

@@ -6,5 +6,6 @@ use Rattle.relabel_core.proofs.next.digest_at.Goals as goal
 pub returns : goal.returns
 returns c =
     c.in_ok-digest.ensures
-    ∙ ap (λ stored. digest_told c.at.result stored) (c.get.ensures ∙ ap (λ (w : Walk). w.stored c.args.d) c.walked-walked.ensures)
+    ∙ ap (λ stored. digest_told c.at.result stored)
+    (c.get.ensures ∙ ap (λ (w : Walk). w.stored c.args.d) c.walked-walked.ensures)
     ∙ c.at.ensures

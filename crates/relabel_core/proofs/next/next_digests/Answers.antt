@@ -3,7 +3,7 @@ use Rattle.std.specs.Prelude.{map}
 use Rattle.std.proofs.lemmas.List.{map-append}
 use Rattle.label_base.specs.Bounded.{all_numbers}
 use Rattle.relabel_core.specs.Answer.{walk_in}
-use Rattle.relabel_core.specs.Walk.{count, digest_after, digests}
+use Rattle.relabel_core.specs.Walk.{walk_count, digest_after, digests}
 use Rattle.relabel_core.proofs.NextLemmas.{only_directories}
 use Rattle.relabel_core.proofs.next.next_digests.Goals as goal
 
@@ -20,11 +20,13 @@ entries-preserved c =
 pub returns-clause-digests : goal.returns-clause-digests
 returns-clause-digests c =
     let w = walk_in c.args.walked.now in
-    c.entries.invariant ∙ ap (λ n. map (digest_after w) (all_numbers n)) {x = c.entries.d} {y = count w} (omega (arith, c.entries-test.false, c.len-d-end.ensures))
+    c.entries.invariant ∙ ap (λ n. map (digest_after w) (all_numbers n)) {x = c.entries.d}
+    {y = walk_count w} (omega (arith, c.entries-test.false, c.len-d-end.ensures))
 
 pub returns-clause-directories : goal.returns-clause-directories
 returns-clause-directories c = λ none e other.
     let w = walk_in c.args.walked.now in
     let all : c.entries.row ≡ digests w =
-    c.entries.invariant ∙ ap (λ n. map (digest_after w) (all_numbers n)) {x = c.entries.d} {y = count w} (omega (arith, c.entries-test.false, c.len-d-end.ensures)) in
+    c.entries.invariant ∙ ap (λ n. map (digest_after w) (all_numbers n)) {x = c.entries.d}
+    {y = walk_count w} (omega (arith, c.entries-test.false, c.len-d-end.ensures)) in
     only_directories w none c.entries.row all e other

@@ -9,11 +9,14 @@ returns c =
     let input = c.args.input.now in
     let noted = c.args.noted.now in
     let fits : c.len.result < 2 ^ 32 = search rules in
-    noted_more (walk_of input) c.args.e noted.decided.items noted.winners.items c.put_number.new.numbers.items c.enter_if.new.numbers.items
+    noted_more (walk_of input) c.args.e noted.decided.items noted.winners.items
+    c.put_number.new.numbers.items c.enter_if.new.numbers.items
     c.args.found c.does_give.result c.requires.noted c.requires.entry
     (omega (arith, c.requires.entry, c.requires.fit.few))
     c.requires.found
     c.does_give.ensures
-    (few_indices c.args.found (length input.rules.now.rules) c.requires.within (omega (arith, c.len.ensures, fits)))
+    (few_indices c.args.found (length input.rules.now.rules) c.requires.within
+    (omega (arith, c.len.ensures, fits)))
     c.put_number.ensures
-    (c.enter_if.ensures ∙ ap (λ g. entered_if c.does_give.result noted.winners.items g c.args.e) c.group-group.ensures.value)
+    (c.enter_if.ensures ∙ ap (λ g. entered_if c.does_give.result noted.winners.items g c.args.e)
+    c.group-group.ensures.value)

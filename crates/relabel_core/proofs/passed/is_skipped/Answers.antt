@@ -6,5 +6,6 @@ use Rattle.relabel_core.proofs.passed.is_skipped.Goals as goal
 pub returns : goal.returns
 returns c =
     c.does_skip.ensures
-    ∙ skipped_is (walk_of c.args.input.now) c.requires.fit.by_path c.args.e c.skip.result c.requires.entry
+    ∙ skipped_is (walk_of c.args.input.now) c.requires.fit.by_path c.args.e c.skip.result
+    c.requires.entry
     (c.skip.ensures ∙ c.requires.passed.skips_are c.args.e c.requires.entry)

@@ -9,4 +9,5 @@ entries-init c = none_written c.args.to.now
 
 pub entries-preserved : goal.entries-preserved
 entries-preserved c =
-    line_written (line (walk_in c.args.walked.now)) c.entries.e c.args.to.now c.entries.to c.add_entry.new.to _ c.entries.invariant refl c.in_ok-add_entry.ensures
+    line_written (line (walk_in c.args.walked.now)) c.entries.e c.args.to.now c.entries.to
+    c.add_entry.new.to _ c.entries.invariant refl c.in_ok-add_entry.ensures

@@ -14,13 +14,16 @@ digests-init c = λ e.
 
 pub keep_given-requires : goal.keep_given-requires
 keep_given-requires c =
-    c.digests.invariant c.digests.d ∙ before_none (digests_listed c.args.digests.now) c.digests.d c.digests.d (omega arith)
+    c.digests.invariant c.digests.d ∙ before_none (digests_listed c.args.digests.now) c.digests.d
+    c.digests.d (omega arith)
 
 pub digests-preserved : goal.digests-preserved
 digests-preserved c =
-    kept_more (digests_listed c.args.digests.now) c.digests.d c.digests.kept c.keep_given.new.kept c.index-digests-d.result c.digests.invariant
+    kept_more (digests_listed c.args.digests.now) c.digests.d c.digests.kept c.keep_given.new.kept
+    c.index-digests-d.result c.digests.invariant
     c.in_ok-keep_given.ensures
-    (c.index-digests-d.is ∙ get_or_default c.args.digests.now c.digests.d c.index-digests-d.result None c.digests-test.true)
+    (c.index-digests-d.is ∙ get_or_default c.args.digests.now c.digests.d c.index-digests-d.result
+    None c.digests-test.true)
 
 pub returns : goal.returns
 returns c =

@@ -8,17 +8,23 @@ use Rattle.relabel_workers.proofs.job.do_entries.Goals as goal
 pub do_entry-requires-clause-entry : goal.do_entry-requires-clause-entry
 do_entry-requires-clause-entry g c =
     let h = c.entries.share in
-    (first_left (walk_of c.args.input.now) c.entries.entries c.in-Some.e c.next.new.self (queue_view h.queue) (claim_view h.claims) h.notes c.in-Some.ensures.steps c.entries.invariant.done).0
+    (first_left (walk_of c.args.input.now) c.entries.entries c.in-Some.e c.next.new.self
+    (queue_view h.queue) (claim_view h.claims) h.notes c.in-Some.ensures.steps
+    c.entries.invariant.done).0
 
 pub do_entry-requires-clause-home : goal.do_entry-requires-clause-home
 do_entry-requires-clause-home g c =
     let h = c.entries.share in
-    (first_left (walk_of c.args.input.now) c.entries.entries c.in-Some.e c.next.new.self (queue_view h.queue) (claim_view h.claims) h.notes c.in-Some.ensures.steps c.entries.invariant.done).1
+    (first_left (walk_of c.args.input.now) c.entries.entries c.in-Some.e c.next.new.self
+    (queue_view h.queue) (claim_view h.claims) h.notes c.in-Some.ensures.steps
+    c.entries.invariant.done).1
 
 pub do_entry-requires-clause-new : goal.do_entry-requires-clause-new
 do_entry-requires-clause-new g c =
     let h = c.entries.share in
-    (first_left (walk_of c.args.input.now) c.entries.entries c.in-Some.e c.next.new.self (queue_view h.queue) (claim_view h.claims) h.notes c.in-Some.ensures.steps c.entries.invariant.done).2
+    (first_left (walk_of c.args.input.now) c.entries.entries c.in-Some.e c.next.new.self
+    (queue_view h.queue) (claim_view h.claims) h.notes c.in-Some.ensures.steps
+    c.entries.invariant.done).2
 
 pub entries-preserved : goal.entries-preserved
 entries-preserved g c =
@@ -27,6 +33,9 @@ entries-preserved g c =
     record {
       own = c.in_ok-one.ensures.own;
       share = c.in_ok-one.ensures.share;
-      done = c.in_ok-one.ensures.done c.next.new.self (next_done (walk_of c.args.input.now) c.entries.entries c.in-Some.e c.next.new.self (queue_view h.queue) (claim_view h.claims) h.notes c.in-Some.ensures.steps before.done);
-      stands = stands_on c.args.share.now h c.do_entry.new.share 0 0 0 before.stands c.in_ok-one.ensures.stands refl;
+      done = c.in_ok-one.ensures.done c.next.new.self
+          (next_done (walk_of c.args.input.now) c.entries.entries c.in-Some.e c.next.new.self
+          (queue_view h.queue) (claim_view h.claims) h.notes c.in-Some.ensures.steps before.done);
+      stands = stands_on c.args.share.now h c.do_entry.new.share 0 0 0 before.stands
+          c.in_ok-one.ensures.stands refl;
     }

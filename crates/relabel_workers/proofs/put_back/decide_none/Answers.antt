@@ -9,6 +9,7 @@ entries-preserved c =
     let test = c.entries-test.true in
     record {
       room = c.put_decided.ensures.decided.room ∙ old.room;
-      none = put_more (λ k. None) _ _ c.entries.e None (omega (arith, room, test)) old.none c.put_decided.ensures.decided refl;
+      none = put_more (λ k. None) _ _ c.entries.e None (omega (arith, room, test)) old.none
+          c.put_decided.ensures.decided refl;
       winners = c.put_decided.ensures.winners ∙ old.winners;
     }

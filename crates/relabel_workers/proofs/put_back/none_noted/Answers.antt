@@ -5,7 +5,8 @@ pub decide_none-requires : goal.decide_none-requires
 decide_none-requires c = c.in_ok-noted.ensures.room.each_entry ∙ sym c.len.ensures
 
 pub returns-clause-none : goal.returns-clause-none
-returns-clause-none c = λ e l. c.decide_none.ensures.none e (let n = c.len.ensures in omega (arith, n, l))
+returns-clause-none c = λ e l. c.decide_none.ensures.none e (let n = c.len.ensures in
+    omega (arith, n, l))
 
 pub returns-clause-room : goal.returns-clause-room
 returns-clause-room c = record {

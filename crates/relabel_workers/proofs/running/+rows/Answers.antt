@@ -29,7 +29,8 @@ use Rattle.label_base.proofs.Sending.{row_sync}
 use Rattle.relabel_core.specs.Walked.{walk_of}
 use Rattle.relabel_workers.specs.Held.{AreDone, IsShareOf, StandFor}
 use Rattle.relabel_workers.specs.declared.share.Share.{Share}
-use Rattle.relabel_workers.proofs.Sending.{captures_send, claims_sync, share_send, options_sync, word_sync}
+use Rattle.relabel_workers.proofs.Sending.{captures_send, claims_sync, share_send, options_sync}
+use Rattle.relabel_workers.proofs.Sending.{word_sync}
 use Rattle.relabel_workers.proofs.ShareLemmas.{claims_both, queue_both}
 use Rattle.relabel_workers.proofs.running.+rows.Goals as goal
 
@@ -39,42 +40,101 @@ run_both-join-mine-requires-send-A g t c κs within = search (sendable, crosses,
 -- what the first closure captures, each by its type: a search over so many ends at its count
 pub run_both-join-mine-requires-send-F : goal.run_both-join-mine-requires-send-F
 run_both-join-mine-requires-send-F g t c κs within =
-    let lent : List RattleType = ShrRef (named 6) κs.1.1.1.1.1.1.0 Tree.the_row ∷ ShrRef (named 7) κs.1.1.1.1.1.1.1.0 Selected.the_row ∷ ShrRef (named 8) κs.1.1.1.1.1.1.1.1.0 (Row.the_row NormPath.the_row) ∷ ShrRef (named 9) κs.1.1.1.1.1.1.1.1.1.0 Rules.the_row ∷ ShrRef (named 10) κs.1.1.1.1.1.1.1.1.1.1.0 Options.the_row ∷ ShrRef (named 11) κs.1.1.1.1.1.1.1.1.1.1.1.0 Stored.the_row ∷ ShrRef (named 12) κs.1.1.1.1.1.1.1.1.1.1.1.1.0 (param 0 g.row.R) ∷ ShrRef (named 13) κs.1.1.1.1.1.1.1.1.1.1.1.1.1.0 Global.the_row ∷ ShrRef (named 14) κs.1.1.1.1.1.1.1.1.1.1.1.1.1.1.0 DirQueue.the_row ∷ ShrRef (named 15) κs.1.1.1.1.1.1.1.1.1.1.1.1.1.1.1.0 Claims.the_row ∷ ShrRef (named 16) κs.1.1.1.1.1.1.1.1.1.1.1.1.1.1.1.1.0 (param 1 g.row.G) ∷ ShrRef (named 17) κs.1.1.1.1.1.1.1.1.1.1.1.1.1.1.1.1.1.0 (u32-field).row ∷ ShareType.the_row ∷ [] in
-    let each : AllSend lent = (shr_send _ _ _ tree_sync, (shr_send _ _ _ selected_sync, (shr_send _ _ _ (row_sync NormPath.the_row path_sync), (shr_send _ _ _ rules_sync, (shr_send _ _ _ options_sync, (shr_send _ _ _ stored_sync, (shr_send _ _ _ c.requires-raw.1.1.1.0, (shr_send _ _ _ sync, (shr_send _ _ _ queue_sync, (shr_send _ _ _ claims_sync, (shr_send _ _ _ c.requires-raw.1.1.1.1.0, (shr_send _ _ _ word_sync, (share_send, tt))))))))))))) in
+    let lent : List RattleType = ShrRef (named 6) κs.1.1.1.1.1.1.0 Tree.the_row ∷ ShrRef (named 7)
+    κs.1.1.1.1.1.1.1.0 Selected.the_row ∷ ShrRef (named 8) κs.1.1.1.1.1.1.1.1.0
+    (Row.the_row NormPath.the_row) ∷ ShrRef (named 9) κs.1.1.1.1.1.1.1.1.1.0
+    Rules.the_row ∷ ShrRef (named 10) κs.1.1.1.1.1.1.1.1.1.1.0 Options.the_row ∷ ShrRef
+    (named 11) κs.1.1.1.1.1.1.1.1.1.1.1.0 Stored.the_row ∷ ShrRef (named 12)
+    κs.1.1.1.1.1.1.1.1.1.1.1.1.0 (param 0 g.row.R) ∷ ShrRef (named 13)
+    κs.1.1.1.1.1.1.1.1.1.1.1.1.1.0 Global.the_row ∷ ShrRef (named 14)
+    κs.1.1.1.1.1.1.1.1.1.1.1.1.1.1.0 DirQueue.the_row ∷ ShrRef (named 15)
+    κs.1.1.1.1.1.1.1.1.1.1.1.1.1.1.1.0 Claims.the_row ∷ ShrRef (named 16)
+    κs.1.1.1.1.1.1.1.1.1.1.1.1.1.1.1.1.0 (param 1 g.row.G) ∷ ShrRef (named 17)
+    κs.1.1.1.1.1.1.1.1.1.1.1.1.1.1.1.1.1.0 (u32-field).row ∷ ShareType.the_row ∷ [] in
+    let each : AllSend lent = (
+      shr_send _ _ _ tree_sync,
+      (
+        shr_send _ _ _ selected_sync,
+        (
+          shr_send _ _ _ (row_sync NormPath.the_row path_sync),
+          (
+            shr_send _ _ _ rules_sync,
+            (
+              shr_send _ _ _ options_sync,
+              (
+                shr_send _ _ _ stored_sync,
+                (
+                  shr_send _ _ _ c.requires-raw.1.1.1.0,
+                  (
+                    shr_send _ _ _ sync,
+                    (
+                      shr_send _ _ _ queue_sync,
+                      (
+                        shr_send _ _ _ claims_sync,
+                        (
+                          shr_send _ _ _ c.requires-raw.1.1.1.1.0,
+                          (shr_send _ _ _ word_sync, (share_send, tt)),
+                        ),
+                      ),
+                    ),
+                  ),
+                ),
+              ),
+            ),
+          ),
+        ),
+      ),
+    ) in
     let T = TupleAt (codes "relabel_workers::running::fn::run_both::join+arg2") lent in
-    let whole : IsSend T = captures_send (codes "relabel_workers::running::fn::run_both::join+arg2") lent each in
+    let whole : IsSend T = captures_send (codes "relabel_workers::running::fn::run_both::join+arg2")
+    lent each in
     record { owned = whole.owned; leaving = (param_send 1 T whole).leaving }
 
 pub run_all-run_both-requires-clause-next_done : goal.run_all-run_both-requires-clause-next_done
-run_all-run_both-requires-clause-next_done g t c κs within = c.in-Some.ensures.done (walk_of c.args.input.now)
+run_all-run_both-requires-clause-next_done g t c κs within =
+    c.in-Some.ensures.done (walk_of c.args.input.now)
 
 pub run_both-join_shares-requires-clause-into : goal.run_both-join_shares-requires-clause-into
 run_both-join_shares-requires-clause-into g t c =
     let q = c.args.queue.now in let k = c.args.claims.now in let w = walk_of c.args.input.now in
-    (IfOk-at_ok (λ (after : Share). IsShareOf q k after × AreDone w [] after × StandFor c.args.share 0 after) c.in_ok-mine.was c.join-mine.ensures.first).0
+    (IfOk-at_ok (λ (after : Share). IsShareOf q k after × AreDone w [] after
+    × StandFor c.args.share 0 after) c.in_ok-mine.was c.join-mine.ensures.first).0
 
 pub run_both-join_shares-requires-clause-from : goal.run_both-join_shares-requires-clause-from
 run_both-join_shares-requires-clause-from g t c =
     let q = c.args.queue.now in let k = c.args.claims.now in let w = walk_of c.args.input.now in
-    (IfOk-at_ok (λ (after : Share). IsShareOf q k after × AreDone w [] after × StandFor c.args.next (length c.args.queue_passes) after) c.in_ok-others.was c.join-mine.ensures.second).0
+    (IfOk-at_ok (λ (after : Share). IsShareOf q k after × AreDone w [] after
+    × StandFor c.args.next (length c.args.queue_passes) after) c.in_ok-others.was
+    c.join-mine.ensures.second).0
 
 pub run_both-returns-clause-done : goal.run_both-returns-clause-done
 run_both-returns-clause-done g t c =
     let q = c.args.queue.now in let k = c.args.claims.now in let w = walk_of c.args.input.now in
-    let a = IfOk-at_ok (λ (after : Share). IsShareOf q k after × AreDone w [] after × StandFor c.args.share 0 after) c.in_ok-mine.was c.join-mine.ensures.first in
-    let b = IfOk-at_ok (λ (after : Share). IsShareOf q k after × AreDone w [] after × StandFor c.args.next (length c.args.queue_passes) after) c.in_ok-others.was c.join-mine.ensures.second in
+    let a = IfOk-at_ok (λ (after : Share). IsShareOf q k after × AreDone w [] after
+    × StandFor c.args.share 0 after) c.in_ok-mine.was c.join-mine.ensures.first in
+    let b = IfOk-at_ok (λ (after : Share). IsShareOf q k after × AreDone w [] after
+    × StandFor c.args.next (length c.args.queue_passes) after) c.in_ok-others.was
+    c.join-mine.ensures.second in
     c.join_shares.ensures.done w a.1 b.1
 
 pub run_both-returns-clause-queue_stands : goal.run_both-returns-clause-queue_stands
 run_both-returns-clause-queue_stands g t c =
     let q = c.args.queue.now in let k = c.args.claims.now in let w = walk_of c.args.input.now in
-    let a = IfOk-at_ok (λ (after : Share). IsShareOf q k after × AreDone w [] after × StandFor c.args.share 0 after) c.in_ok-mine.was c.join-mine.ensures.first in
-    let b = IfOk-at_ok (λ (after : Share). IsShareOf q k after × AreDone w [] after × StandFor c.args.next (length c.args.queue_passes) after) c.in_ok-others.was c.join-mine.ensures.second in
-    queue_both c.args.share c.in_ok-mine.field-0 c.args.next c.in_ok-others.field-0 (length c.args.queue_passes) c.join_shares.result a.2 b.2 c.join_shares.ensures.stands
+    let a = IfOk-at_ok (λ (after : Share). IsShareOf q k after × AreDone w [] after
+    × StandFor c.args.share 0 after) c.in_ok-mine.was c.join-mine.ensures.first in
+    let b = IfOk-at_ok (λ (after : Share). IsShareOf q k after × AreDone w [] after
+    × StandFor c.args.next (length c.args.queue_passes) after) c.in_ok-others.was
+    c.join-mine.ensures.second in
+    queue_both c.args.share c.in_ok-mine.field-0 c.args.next c.in_ok-others.field-0
+    (length c.args.queue_passes) c.join_shares.result a.2 b.2 c.join_shares.ensures.stands
 
 pub run_both-returns-clause-claims_stand : goal.run_both-returns-clause-claims_stand
 run_both-returns-clause-claims_stand g t c =
     let q = c.args.queue.now in let k = c.args.claims.now in let w = walk_of c.args.input.now in
-    let a = IfOk-at_ok (λ (after : Share). IsShareOf q k after × AreDone w [] after × StandFor c.args.share 0 after) c.in_ok-mine.was c.join-mine.ensures.first in
-    let b = IfOk-at_ok (λ (after : Share). IsShareOf q k after × AreDone w [] after × StandFor c.args.next (length c.args.queue_passes) after) c.in_ok-others.was c.join-mine.ensures.second in
-    claims_both c.args.share c.in_ok-mine.field-0 c.args.next c.in_ok-others.field-0 (length c.args.queue_passes) c.join_shares.result a.2 b.2 c.join_shares.ensures.stands
+    let a = IfOk-at_ok (λ (after : Share). IsShareOf q k after × AreDone w [] after
+    × StandFor c.args.share 0 after) c.in_ok-mine.was c.join-mine.ensures.first in
+    let b = IfOk-at_ok (λ (after : Share). IsShareOf q k after × AreDone w [] after
+    × StandFor c.args.next (length c.args.queue_passes) after) c.in_ok-others.was
+    c.join-mine.ensures.second in
+    claims_both c.args.share c.in_ok-mine.field-0 c.args.next c.in_ok-others.field-0
+    (length c.args.queue_passes) c.join_shares.result a.2 b.2 c.join_shares.ensures.stands

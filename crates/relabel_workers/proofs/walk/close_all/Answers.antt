@@ -13,9 +13,12 @@ take_all_jobs-requires-clause-site g c κs within = record {
 
 pub take_all_jobs-requires-clause-rows : goal.take_all_jobs-requires-clause-rows
 take_all_jobs-requires-clause-rows g c κs within =
-    rows_made c.in_ok-queue.queue c.in_ok-claims.claims c.args.shape.now c.args.workers c.in_ok-queue.queue_passes c.in_ok-claims.claim_passes c.in_ok-queue.ensures.shape
-    c.in_ok-queue.ensures.passes.0 c.in_ok-queue.ensures.passes.1 c.in_ok-claims.ensures.passes.1 c.in_ok-queue.ensures.each c.in_ok-claims.ensures.each
+    rows_made c.in_ok-queue.queue c.in_ok-claims.claims c.args.shape.now c.args.workers
+    c.in_ok-queue.queue_passes c.in_ok-claims.claim_passes c.in_ok-queue.ensures.shape
+    c.in_ok-queue.ensures.passes.0 c.in_ok-queue.ensures.passes.1 c.in_ok-claims.ensures.passes.1
+    c.in_ok-queue.ensures.each c.in_ok-claims.ensures.each
 
 pub close-requires-clause-sound : goal.close-requires-clause-sound
 close-requires-clause-sound g c =
-    subst (λ s. Sound s (one_worker (queue_view c.in_ok-share.share.queue))) c.in_ok-queue.ensures.shape c.in_ok-share.ensures.sound
+    subst (λ s. Sound s (one_worker (queue_view c.in_ok-share.share.queue)))
+    c.in_ok-queue.ensures.shape c.in_ok-share.ensures.sound

@@ -1,14 +1,16 @@
 use Rattle.inode_claims.specs.Answers.{claim_view}
-use Rattle.dir_queue.specs.Answers.{queue_view, shape_of}
+use Rattle.dir_queue.specs.Answers.{queue_view, queue_shape}
 use Rattle.relabel_core.specs.Walked.{walk_of}
 use Rattle.relabel_workers.proofs.ShareLemmas.{job_known, taken_done}
 use Rattle.relabel_workers.proofs.work.step.Goals as goal
 
 pub do_entries-requires-clause-job : goal.do_entries-requires-clause-job
 do_entries-requires-clause-job g c =
-    job_known c.args.input.now.tree.now (shape_of c.args.queue.now) c.in-Some.job c.requires.site.shape c.in-Some.ensures.taken.1
+    job_known c.args.input.now.tree.now (queue_shape c.args.queue.now) c.in-Some.job
+    c.requires.site.shape c.in-Some.ensures.taken.1
 
 pub do_entries-requires-clause-left : goal.do_entries-requires-clause-left
 do_entries-requires-clause-left g c =
-    taken_done (walk_of c.args.input.now) c.in-Some.job (queue_view c.args.share.now.queue) (queue_view c.take.new.pass) (claim_view c.args.share.now.claims) c.args.share.now.notes
+    taken_done (walk_of c.args.input.now) c.in-Some.job (queue_view c.args.share.now.queue)
+    (queue_view c.take.new.pass) (claim_view c.args.share.now.claims) c.args.share.now.notes
     c.in-Some.ensures.taken.0 c.in-Some.ensures.taken.2 c.requires.done

@@ -1,5 +1,5 @@
 use Rattle.std.proofs.Common.{List, ℕ}
-use Rattle.spec_match.specs.Alive.{list_of}
+use Rattle.spec_match.specs.Alive.{alive_list}
 use Rattle.spec_match.specs.StatesFor.{AreStatesFor, patterns_of}
 use Rattle.spec_match.proofs.AnswerLemmas.{IsPassed}
 use Rattle.spec_match.proofs.answering.first_fit.Given as goal
@@ -7,5 +7,6 @@ use Rattle.spec_match.proofs.answering.first_fit.Given as goal
 abbrev pub invariant-alive : goal.invariant-alive
 invariant-alive l = record {
   states : AreStatesFor (patterns_of l.rules) l.states.items;
-  passed : (text : List ℕ) → IsPassed l.asked text text l.rules (list_of l.lists.lists l.list) l.k;
+  passed : (text : List ℕ) → IsPassed l.asked text text l.rules (alive_list l.lists.lists l.list)
+      l.k;
 }

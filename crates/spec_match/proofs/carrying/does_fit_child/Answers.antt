@@ -5,4 +5,5 @@ use Rattle.spec_match.proofs.carrying.does_fit_child.Goals as goal
 
 pub returns-then-not-read_child-clause-value : goal.returns-then-not-read_child-clause-value
 returns-then-not-read_child-clause-value c = λ path r s.
-    sym (dead_fits c.args.asked (path_text (path ++ c.args.name.now ∷ [])) c.args.rule.now.spec (c.if-not-read_child.ensures.dead refl path r s))
+    sym (dead_fits c.args.asked (path_text (path ++ c.args.name.now ∷ [])) c.args.rule.now.spec
+    (c.if-not-read_child.ensures.dead refl path r s))

@@ -1,10 +1,12 @@
-use Rattle.std.proofs.Common.{◌<◌, ◌∙◌, ◌∷◌, ◌++◌, [], Some, add-one, ap, arith, get_or, length, map, subst, sym}
+use Rattle.std.proofs.Common.{◌<◌, ◌∙◌, ◌∷◌, ◌++◌, [], Some, add-one, ap, arith, get_or, length}
+use Rattle.std.proofs.Common.{map, subst, sym}
 use Rattle.file_paths.specs.Path.{path_text}
 use Rattle.pattern_match.specs.States.{StandsFor}
 use Rattle.spec_match.specs.Alive.{no_alive}
 use Rattle.spec_match.specs.Remembering.{IsAnswer}
 use Rattle.spec_match.specs.StatesFor.{spec_in}
-use Rattle.spec_match.proofs.AnswerLemmas.{IsPassed, count_rules, first_found, none_found, passed_on}
+use Rattle.spec_match.proofs.AnswerLemmas.{IsPassed, count_rules, first_found, none_found}
+use Rattle.spec_match.proofs.AnswerLemmas.{passed_on}
 use Rattle.spec_match.proofs.CarryLemmas.{dead_child}
 use Rattle.spec_match.proofs.ScratchLemmas.{states_own, states_set}
 use Rattle.spec_match.proofs.SteppingLemmas.{in_rules, rule_kept}
@@ -14,16 +16,24 @@ pub load-requires : goal.load-requires
 load-requires c =
     let i = c.index-i.result in
     let rule = c.index-rules-i.result in
-    let within : c.alive.k < length c.args.from.now = omega (arith, c.alive-test.true, c.len-k-end.ensures) in record {
+    let within : c.alive.k < length c.args.from.now =
+    omega (arith, c.alive-test.true, c.len-k-end.ensures) in record {
       within = within;
-      made = states_own c.args.rules.now c.alive.states.items i rule c.index_mut-own.result.now (in_rules c.args.rules.now c.args.from.now c.alive.k i rule within c.requires.own c.index-i.ensures c.index-rules-i.is) c.index-rules-i.is c.index_mut-own.ensures.value c.alive.invariant.states;
-      kept = rule_kept c.args.rules.now c.args.from.now c.alive.k i rule within c.requires.own c.index-i.ensures c.index-rules-i.is;
+      made = states_own c.args.rules.now c.alive.states.items i rule c.index_mut-own.result.now
+          (in_rules c.args.rules.now c.args.from.now c.alive.k i rule within c.requires.own
+          c.index-i.ensures c.index-rules-i.is) c.index-rules-i.is c.index_mut-own.ensures.value
+          c.alive.invariant.states;
+      kept = rule_kept c.args.rules.now c.args.from.now c.alive.k i rule within c.requires.own
+          c.index-i.ensures c.index-rules-i.is;
     }
 
 pub returns-then-does_fit_child-clause-states : goal.returns-then-does_fit_child-clause-states
 returns-then-does_fit_child-clause-states c =
     let own = c.requires.own c.alive.k no_alive (omega (arith, c.len-k-end.ensures)) in
-    states_set c.args.rules.now c.alive.states.items c.index-i.result c.index-rules-i.result c.does_fit_child.new.states (omega (arith, own.within, count_rules c.args.rules.now, c.index-i.ensures)) c.index-rules-i.is c.does_fit_child.ensures.made c.alive.invariant.states
+    states_set c.args.rules.now c.alive.states.items c.index-i.result c.index-rules-i.result
+    c.does_fit_child.new.states
+    (omega (arith, own.within, count_rules c.args.rules.now, c.index-i.ensures))
+    c.index-rules-i.is c.does_fit_child.ensures.made c.alive.invariant.states
 
 pub returns-then-does_fit_child-clause-told : goal.returns-then-does_fit_child-clause-told
 returns-then-does_fit_child-clause-told c = λ path at.
@@ -35,9 +45,13 @@ returns-then-does_fit_child-clause-told c = λ path at.
     let within : k < length list = omega (arith, c.len-k-end.ensures) in
     let own = c.requires.own k no_alive within in
     subst (λ i. IsAnswer c.args.asked text (map spec_in rules) (Some i)) (sym c.index-i.ensures)
-    (first_found c.args.asked (path_text path) text (dead_child c.args.asked path c.args.name.now) rules list k rule c.does_fit_child.result within
-    (c.index-rules-i.is ∙ ap (λ n. get_or rules n rule) c.index-i.ensures) (omega (arith, own.within, count_rules rules))
-    (λ s. c.does_fit_child.ensures.value path at.0 (subst (λ w. StandsFor rule.spec.pattern w (path_text path)) (sym c.load.ensures.value) s)) c.if-does_fit_child.true (c.alive.invariant.passed path at.0) 0 at.1)
+    (first_found c.args.asked (path_text path) text (dead_child c.args.asked path c.args.name.now)
+    rules list k rule c.does_fit_child.result within
+    (c.index-rules-i.is ∙ ap (λ n. get_or rules n rule) c.index-i.ensures)
+    (omega (arith, own.within, count_rules rules))
+    (λ s. c.does_fit_child.ensures.value path at.0
+    (subst (λ w. StandsFor rule.spec.pattern w (path_text path)) (sym c.load.ensures.value) s))
+    c.if-does_fit_child.true (c.alive.invariant.passed path at.0) 0 at.1)
 
 pub alive-preserved : goal.alive-preserved
 alive-preserved c =
@@ -47,14 +61,26 @@ alive-preserved c =
     let rule = c.index-rules-i.result in
     let within : k < length list = omega (arith, c.len-k-end.ensures) in
     let own = c.requires.own k no_alive within in record {
-      states = states_set rules c.alive.states.items c.index-i.result rule c.does_fit_child.new.states (omega (arith, own.within, count_rules rules, c.index-i.ensures)) c.index-rules-i.is c.does_fit_child.ensures.made c.alive.invariant.states;
+      states = states_set rules c.alive.states.items c.index-i.result rule
+          c.does_fit_child.new.states
+          (omega (arith, own.within, count_rules rules, c.index-i.ensures)) c.index-rules-i.is
+          c.does_fit_child.ensures.made c.alive.invariant.states;
       passed = λ path r.
-          subst (IsPassed c.args.asked (path_text path) (path_text (path ++ c.args.name.now ∷ [])) rules list) (sym (add-one k))
-          (passed_on c.args.asked (path_text path) (path_text (path ++ c.args.name.now ∷ [])) (dead_child c.args.asked path c.args.name.now) rules list k rule c.does_fit_child.result within
-          (c.index-rules-i.is ∙ ap (λ n. get_or rules n rule) c.index-i.ensures) (omega (arith, own.within, count_rules rules))
-          (λ s. c.does_fit_child.ensures.value path r (subst (λ w. StandsFor rule.spec.pattern w (path_text path)) (sym c.load.ensures.value) s)) c.if-does_fit_child.false (c.alive.invariant.passed path r));
+          subst (IsPassed c.args.asked (path_text path) (path_text (path ++ c.args.name.now ∷ []))
+          rules list) (sym (add-one k))
+          (passed_on c.args.asked (path_text path) (path_text (path ++ c.args.name.now ∷ []))
+          (dead_child c.args.asked path c.args.name.now) rules list k rule
+          c.does_fit_child.result within
+          (c.index-rules-i.is ∙ ap (λ n. get_or rules n rule) c.index-i.ensures)
+          (omega (arith, own.within, count_rules rules))
+          (λ s. c.does_fit_child.ensures.value path r
+          (subst (λ w. StandsFor rule.spec.pattern w (path_text path))
+          (sym c.load.ensures.value) s)) c.if-does_fit_child.false
+          (c.alive.invariant.passed path r));
     }
 
 pub returns-clause-told : goal.returns-clause-told
 returns-clause-told c = λ path at.
-    none_found c.args.asked (path_text path) (path_text (path ++ c.args.name.now ∷ [])) (dead_child c.args.asked path c.args.name.now) c.args.rules.now c.args.from.now c.alive.k (omega (arith, c.len-k-end.ensures)) (c.alive.invariant.passed path at.0) at.1
+    none_found c.args.asked (path_text path) (path_text (path ++ c.args.name.now ∷ []))
+    (dead_child c.args.asked path c.args.name.now) c.args.rules.now c.args.from.now c.alive.k
+    (omega (arith, c.len-k-end.ensures)) (c.alive.invariant.passed path at.0) at.1

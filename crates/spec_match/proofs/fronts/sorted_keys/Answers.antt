@@ -5,6 +5,7 @@ use Rattle.spec_match.proofs.fronts.sorted_keys.Goals as goal
 
 pub returns : goal.returns
 returns c = record {
-  same = subst (λ (w : List ℕ). IsPermutation w c.sort_unstable.new.self.items) c.in_ok-keys.ensures c.sort_unstable.ensures.permutation;
+  same = subst (λ (w : List ℕ). IsPermutation w c.sort_unstable.new.self.items) c.in_ok-keys.ensures
+      c.sort_unstable.ensures.permutation;
   rising = IsNonDecreasingBy-from_sort (λ x. x) _ c.sort_unstable.ensures.sorted;
 }

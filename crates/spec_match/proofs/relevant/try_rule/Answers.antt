@@ -6,5 +6,7 @@ use Rattle.spec_match.proofs.relevant.try_rule.Goals as goal
 pub returns-clause-added : goal.returns-clause-added
 returns-clause-added c =
     on_ok_weaker c.add_if.result
-    (λ more. added_rule (path_of c.args.path.now) c.args.rules.now c.args.i c.index-rules-i.result c.can_decide-is_found.result c.args.found.now.items c.add_if.new.found.items c.requires.within c.index-rules-i.is c.can_decide-is_found.ensures.value more)
+    (λ more. added_rule (path_of c.args.path.now) c.args.rules.now c.args.i c.index-rules-i.result
+    c.can_decide-is_found.result c.args.found.now.items c.add_if.new.found.items
+    c.requires.within c.index-rules-i.is c.can_decide-is_found.ensures.value more)
     c.add_if.ensures

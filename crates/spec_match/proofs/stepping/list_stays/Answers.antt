@@ -1,5 +1,5 @@
 use Rattle.std.proofs.Common.{◌<◌, arith, length, map}
-use Rattle.spec_match.specs.Alive.{list_of}
+use Rattle.spec_match.specs.Alive.{alive_list}
 use Rattle.spec_match.specs.StatesFor.{patterns_of, spec_in}
 use Rattle.spec_match.proofs.ScratchLemmas.{states_own, states_set}
 use Rattle.spec_match.proofs.SteppingLemmas.{in_rules, listed_stays, rule_kept, rule_stays}
@@ -7,37 +7,50 @@ use Rattle.spec_match.proofs.stepping.list_stays.Goals as goal
 
 pub member_stays-requires : goal.member_stays-requires
 member_stays-requires c =
-    let list = list_of c.args.lists.now.lists c.args.list in
+    let list = alive_list c.args.lists.now.lists c.args.list in
     let i = c.index-i.result in
     let rule = c.index-rules-i.result in
-    let within : c.alive.k < length list = omega (arith, c.alive-test.true, c.list_len-k-end.ensures) in
+    let within : c.alive.k < length list =
+    omega (arith, c.alive-test.true, c.list_len-k-end.ensures) in
     let owns = c.requires.own c.args.list c.requires.list in record {
       list = c.requires.list;
       within = within;
-      made = states_own c.args.rules.now c.alive.states.items i rule c.index_mut.result.now (in_rules c.args.rules.now list c.alive.k i rule within owns c.index-i.ensures c.index-rules-i.is) c.index-rules-i.is c.index_mut.ensures.value c.alive.invariant.states;
-      kept = rule_kept c.args.rules.now list c.alive.k i rule within owns c.index-i.ensures c.index-rules-i.is;
+      made = states_own c.args.rules.now c.alive.states.items i rule c.index_mut.result.now
+          (in_rules c.args.rules.now list c.alive.k i rule within owns c.index-i.ensures
+          c.index-rules-i.is) c.index-rules-i.is c.index_mut.ensures.value c.alive.invariant.states;
+      kept = rule_kept c.args.rules.now list c.alive.k i rule within owns c.index-i.ensures
+          c.index-rules-i.is;
     }
 
 pub returns-then-not-member_stays-clause-states : goal.returns-then-not-member_stays-clause-states
 returns-then-not-member_stays-clause-states c =
-    let list = list_of c.args.lists.now.lists c.args.list in
-    let within : c.alive.k < length list = omega (arith, c.alive-test.true, c.list_len-k-end.ensures) in
-    let below = in_rules c.args.rules.now list c.alive.k c.index-i.result c.index-rules-i.result within (c.requires.own c.args.list c.requires.list) c.index-i.ensures c.index-rules-i.is in
-    states_set c.args.rules.now c.alive.states.items c.index-i.result c.index-rules-i.result c.member_stays.new.states below c.index-rules-i.is c.member_stays.ensures.made c.alive.invariant.states
+    let list = alive_list c.args.lists.now.lists c.args.list in
+    let within : c.alive.k < length list =
+    omega (arith, c.alive-test.true, c.list_len-k-end.ensures) in
+    let below = in_rules c.args.rules.now list c.alive.k c.index-i.result c.index-rules-i.result
+    within (c.requires.own c.args.list c.requires.list) c.index-i.ensures c.index-rules-i.is in
+    states_set c.args.rules.now c.alive.states.items c.index-i.result c.index-rules-i.result
+    c.member_stays.new.states below c.index-rules-i.is c.member_stays.ensures.made
+    c.alive.invariant.states
 
 pub alive-preserved : goal.alive-preserved
 alive-preserved c =
-    let list = list_of c.args.lists.now.lists c.args.list in
+    let list = alive_list c.args.lists.now.lists c.args.list in
     let k = c.alive.k in
     let i = c.index-i.result in
     let rule = c.index-rules-i.result in
     let within : k < length list = omega (arith, c.list_len-k-end.ensures) in
     let owns = c.requires.own c.args.list c.requires.list in record {
-      states = states_set c.args.rules.now c.alive.states.items i rule c.member_stays.new.states (in_rules c.args.rules.now list k i rule within owns c.index-i.ensures c.index-rules-i.is) c.index-rules-i.is c.member_stays.ensures.made c.alive.invariant.states;
-      stay = rule_stays c.args.rules.now list k i rule within owns c.index-i.ensures c.index-rules-i.is (c.member_stays.ensures.stays c.if-not-member_stays.false) c.alive.invariant.stay;
+      states = states_set c.args.rules.now c.alive.states.items i rule c.member_stays.new.states
+          (in_rules c.args.rules.now list k i rule within owns c.index-i.ensures c.index-rules-i.is)
+          c.index-rules-i.is c.member_stays.ensures.made c.alive.invariant.states;
+      stay = rule_stays c.args.rules.now list k i rule within owns c.index-i.ensures
+          c.index-rules-i.is (c.member_stays.ensures.stays c.if-not-member_stays.false)
+          c.alive.invariant.stay;
     }
 
 pub returns-clause-stays : goal.returns-clause-stays
 returns-clause-stays c = λ _ cuts.
-    listed_stays cuts (patterns_of c.args.rules.now) (map spec_in c.args.rules.now) (list_of c.args.lists.now.lists c.args.list)
+    listed_stays cuts (patterns_of c.args.rules.now) (map spec_in c.args.rules.now)
+    (alive_list c.args.lists.now.lists c.args.list)
     (λ j l. c.alive.invariant.stay j (omega (arith, l, c.list_len-k-end.ensures)))

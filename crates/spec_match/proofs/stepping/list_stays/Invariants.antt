@@ -1,4 +1,4 @@
-use Rattle.spec_match.specs.Alive.{list_of}
+use Rattle.spec_match.specs.Alive.{alive_list}
 use Rattle.spec_match.specs.StatesFor.{AreStatesFor, patterns_of}
 use Rattle.spec_match.proofs.SteppingLemmas.{AllStay}
 use Rattle.spec_match.proofs.stepping.list_stays.Given as goal
@@ -6,5 +6,5 @@ use Rattle.spec_match.proofs.stepping.list_stays.Given as goal
 abbrev pub invariant-alive : goal.invariant-alive
 invariant-alive l = record {
   states : AreStatesFor (patterns_of l.rules) l.states.items;
-  stay : AllStay (patterns_of l.rules) (list_of l.lists.lists l.list) l.k;
+  stay : AllStay (patterns_of l.rules) (alive_list l.lists.lists l.list) l.k;
 }

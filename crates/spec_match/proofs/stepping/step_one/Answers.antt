@@ -1,10 +1,12 @@
 use Rattle.std.proofs.Common.{inl, refl}
-use Rattle.spec_match.specs.Alive.{alive_at, list_of}
+use Rattle.spec_match.specs.Alive.{alive_at, alive_list}
 use Rattle.spec_match.proofs.AliveLemmas.{other_byte}
 use Rattle.spec_match.proofs.stepping.step_one.Goals as goal
 
 pub returns-then-wants_other-clause-goes : goal.returns-then-wants_other-clause-goes
 returns-then-wants_other-clause-goes c = inl (record {
   same = refl;
-  dead = λ text s. other_byte c.args.rule.now.spec.pattern (alive_at (list_of c.args.lists.now.lists c.args.from) c.args.k) c.args.byte c.requires.wants (c.if-wants_other.ensures refl) text s;
+  dead = λ text s. other_byte c.args.rule.now.spec.pattern
+      (alive_at (alive_list c.args.lists.now.lists c.args.from) c.args.k) c.args.byte
+      c.requires.wants (c.if-wants_other.ensures refl) text s;
 })

@@ -5,5 +5,6 @@ use Rattle.threaded_relabelling.proofs.entry_texts.add_lines.Goals as goal
 
 pub returns : goal.returns
 returns g c =
-    IfOk-weaker _ _ _ (λ made m. lines_made (walk_in c.args.walked.now) c.args.to made c.len.result c.len.ensures m)
+    IfOk-weaker _ _ _ (λ made m. lines_made (walk_in c.args.walked.now) c.args.to made c.len.result
+    c.len.ensures m)
     c.add_texts.ensures

@@ -7,5 +7,6 @@ use Rattle.threaded_relabelling.proofs.workers.dump_by.Goals as goal
 pub returns : goal.returns
 returns g c =
     c.in_ok-dump.ensures
-    ∙ ap (λ t. t ++ dump_text (changes (walk_before c.in_ok-digests.digests))) c.text_for-room.ensures
+    ∙ ap (λ t. t ++ dump_text (changes (walk_before c.in_ok-digests.digests)))
+    c.text_for-room.ensures
     ∙ ap (λ w. dump_text (changes w)) c.in_ok-digests.ensures

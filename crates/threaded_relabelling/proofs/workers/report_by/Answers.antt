@@ -8,6 +8,8 @@ use Rattle.threaded_relabelling.proofs.workers.report_by.Goals as goal
 pub returns : goal.returns
 returns g c =
     let w = walk_in c.args.walked.now in
-    all_written (absent_lines w) (entry_lines w) (unmatched_lines w) [] c.add_absent.new.to c.in_ok-report.report c.add_unmatched.new.to
-    (c.in_ok-add_absent.ensures ∙ ap (λ t. t ++ report_of (absent_lines w)) c.text_for-before.ensures)
+    all_written (absent_lines w) (entry_lines w) (unmatched_lines w) [] c.add_absent.new.to
+    c.in_ok-report.report c.add_unmatched.new.to
+    (c.in_ok-add_absent.ensures ∙ ap (λ t. t ++ report_of (absent_lines w))
+    c.text_for-before.ensures)
     c.in_ok-report.ensures c.in_ok-add_unmatched.ensures

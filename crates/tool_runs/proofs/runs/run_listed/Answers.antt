@@ -12,4 +12,5 @@ returns-in-Err g c =
     c.refuse.ensures.line
 
 pub returns : goal.returns
-returns g c = c.run_found.ensures _ c.in-Ok.ensures.reads c.in-Ok.ensures.unread c.in-Ok.ensures.alone
+returns g c = c.run_found.ensures _ c.in-Ok.ensures.reads c.in-Ok.ensures.unread
+    c.in-Ok.ensures.alone

@@ -1,7 +1,9 @@
-use Rattle.std.proofs.Common.{◌≡◌, ◌∙◌, ◌++◌, ◌<◌, ap, sym, refl, subst, append-nil, drop, IfOk, OnOk}
+use Rattle.std.proofs.Common.{◌≡◌, ◌∙◌, ◌++◌, ◌<◌, ap, sym, refl, subst, append-nil, drop, IfOk}
+use Rattle.std.proofs.Common.{OnOk}
 use Rattle.std.specs.Prelude.{Some, None}
 use Rattle.tool_words.specs.declared.letters.Takes.TheVariants.{Flag as Alone}
-use Rattle.tool_words.proofs.LetterLemmas.{alone_ascii, alone_more, letter_more, letters_end, value_ascii}
+use Rattle.tool_words.proofs.LetterLemmas.{alone_ascii, alone_more, letter_more, letters_end}
+use Rattle.tool_words.proofs.LetterLemmas.{value_ascii}
 use Rattle.tool_words.proofs.cutting.add_letters.Goals as goal
 
 pub first_byte-letter-requires-text-text : goal.first_byte-letter-requires-text-text
@@ -10,12 +12,14 @@ first_byte-letter-requires-text-text c κs = c.letters.invariant.text
 pub behind_first-requires-clause-ascii : goal.behind_first-requires-clause-ascii
 behind_first-requires-clause-ascii c =
     subst (λ b. b < 128) (sym c.first_byte-letter.ensures)
-    (value_ascii c.args.tool.now _ _ (sym (rw c.in-Some-Value.field-0-is at c.in-Some-Value.ensures.value)))
+    (value_ascii c.args.tool.now _ _
+    (sym (rw c.in-Some-Value.field-0-is at c.in-Some-Value.ensures.value)))
 
 pub behind_first-left-requires-clause-ascii : goal.behind_first-left-requires-clause-ascii
 behind_first-left-requires-clause-ascii c =
     subst (λ b. b < 128) (sym c.first_byte-letter.ensures)
-    (alone_ascii c.args.tool.now _ (sym (rw c.in-Some-Flag.field-0-is at c.in-Some-Flag.ensures.value)))
+    (alone_ascii c.args.tool.now _
+    (sym (rw c.in-Some-Flag.field-0-is at c.in-Some-Flag.ensures.value)))
 
 pub returns-in-Some-Value-clause-expects : goal.returns-in-Some-Value-clause-expects
 returns-in-Some-Value-clause-expects c =

@@ -8,7 +8,8 @@ invariant-entries l = record {
   from : l.o ≤ l.c;
   upto : l.c ≤ l.end;
   flags : length l.live.items ≡ length l.fn.live.items;
-  marked : IsMarkedTo l.ends (λ e. (entry_at l.sorted e).device) l.o l.c l.fn.live.items l.live.items;
+  marked : IsMarkedTo l.ends (λ e. (entry_at l.sorted e).device) l.o l.c l.fn.live.items
+      l.live.items;
 }
 
 abbrev pub decreases-entries : goal.decreases-entries

@@ -3,7 +3,11 @@ use Rattle.tree_model.proofs.closed.greatest_in.Goals as goal
 
 pub runs-preserved : goal.runs-preserved
 runs-preserved c = record {
-  behind = run_behind _ c.args.runs.now.ends.now _ _ c.args.e c.runs.c c.requires.runs c.requires.within c.runs.invariant.behind c.runs-test.true;
-  upto = run_upto _ c.args.runs.now.ends.now _ _ c.args.e c.runs.c c.requires.runs c.requires.within c.runs.invariant.behind c.runs-test.true;
-  greatest = greatest_step _ c.args.runs.now.ends.now _ _ c.args.e c.runs.c c.requires.runs c.requires.within c.runs.invariant.behind c.runs-test.true c.args.high.now c.runs.greatest _ c.requires.high c.runs.invariant.greatest c.max-greatest.ensures;
+  behind = run_behind _ c.args.runs.now.ends.now _ _ c.args.e c.runs.c c.requires.runs
+      c.requires.within c.runs.invariant.behind c.runs-test.true;
+  upto = run_upto _ c.args.runs.now.ends.now _ _ c.args.e c.runs.c c.requires.runs c.requires.within
+      c.runs.invariant.behind c.runs-test.true;
+  greatest = greatest_step _ c.args.runs.now.ends.now _ _ c.args.e c.runs.c c.requires.runs
+      c.requires.within c.runs.invariant.behind c.runs-test.true c.args.high.now c.runs.greatest _
+      c.requires.high c.runs.invariant.greatest c.max-greatest.ensures;
 }

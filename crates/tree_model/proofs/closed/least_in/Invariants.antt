@@ -1,12 +1,12 @@
 use Rattle.std.proofs.Common.{◌-◌, ◌<◌, ◌≤◌}
-use Rattle.tree_model.specs.RunLists.{IsLeastIn, first_name}
+use Rattle.tree_model.specs.RunLists.{IsLeastIn, name_after}
 use Rattle.tree_model.proofs.closed.least_in.Given as goal
 
 abbrev pub invariant-runs : goal.invariant-runs
 invariant-runs l = record {
   behind : l.e < l.c;
   upto : l.c ≤ l.end;
-  least : IsLeastIn (first_name l.runs.groups.now) l.e l.c l.least;
+  least : IsLeastIn (name_after l.runs.groups.now) l.e l.c l.least;
 }
 
 abbrev pub decreases-runs : goal.decreases-runs

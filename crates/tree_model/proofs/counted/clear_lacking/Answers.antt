@@ -7,5 +7,6 @@ pub entries-init : goal.entries-init
 entries-init c = record {
   upto = omega (arith, c.len-e.ensures);
   next = lacking_end c.args.sorted.now c.len-e.result c.len-e.ensures;
-  closed = subst (λ k. AreClosedFrom c.args.sorted.now k c.args.closed.now.items) (sym c.len-e.ensures) c.requires.closed;
+  closed = subst (λ k. AreClosedFrom c.args.sorted.now k c.args.closed.now.items)
+      (sym c.len-e.ensures) c.requires.closed;
 }

@@ -9,7 +9,8 @@ abbrev pub invariant-runs : goal.invariant-runs
 invariant-runs l = record {
   from : l.first ≤ l.c;
   flags : length l.live.items ≡ length l.fn.live.items;
-  cleared : IsClearedTo (λ e. at_or_below (entry_at l.sorted e).path (path_of l.path)) l.c l.fn.live.items l.live.items;
+  cleared : IsClearedTo (λ e. at_or_below (entry_at l.sorted e).path (path_of l.path)) l.c
+      l.fn.live.items l.live.items;
 }
 
 abbrev pub decreases-runs : goal.decreases-runs

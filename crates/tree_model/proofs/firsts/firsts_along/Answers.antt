@@ -4,6 +4,9 @@ use Rattle.tree_model.proofs.firsts.firsts_along.Goals as goal
 
 pub entries-preserved : goal.entries-preserved
 entries-preserved c =
-    let known : c.first_along-first.result < length c.args.entries.now.inodes.now = omega (arith, c.if-first-count.false) in
-    firsts_next c.args.entries.now.inodes.now c.entries.e c.first_along-first.result c.entries.firsts.items _ (omega (arith, c.entries-test.true)) (c.first_along-first.ensures known)
+    let known : c.first_along-first.result < length c.args.entries.now.inodes.now =
+    omega (arith, c.if-first-count.false) in
+    firsts_next c.args.entries.now.inodes.now c.entries.e c.first_along-first.result
+    c.entries.firsts.items _ (omega (arith, c.entries-test.true))
+    (c.first_along-first.ensures known)
     c.entries.invariant (search rules)

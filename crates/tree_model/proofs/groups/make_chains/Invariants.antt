@@ -1,12 +1,12 @@
 use Rattle.std.proofs.Common.{◌≡◌, ◌≤◌, length}
-use Rattle.tree_model.specs.GroupLists.{AreHeads, AreNext}
+use Rattle.tree_model.specs.GroupLists.{AreGroupHeads, AreNext}
 use Rattle.tree_model.proofs.groups.make_chains.Given as goal
 
 abbrev pub invariant-entries : goal.invariant-entries
 invariant-entries l = record {
   count : length l.first.items ≡ l.count;
   below : l.place ≤ length l.groups;
-  first : AreHeads l.groups l.place l.first.items;
+  first : AreGroupHeads l.groups l.place l.first.items;
   next : AreNext l.groups l.place l.next.items;
 }
 

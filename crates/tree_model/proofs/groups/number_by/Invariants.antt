@@ -5,5 +5,6 @@ use Rattle.tree_model.proofs.groups.number_by.Given as goal
 abbrev pub invariant-entries : goal.invariant-entries
 invariant-entries l = record {
   few : l.count ≤ l.first-index;
-  numbered : (inodes : List (ℕ × ℕ)) → l.firsts ≡ firsts_of inodes → AreNumbered inodes l.first-index l.group_of.items l.count;
+  numbered : (inodes : List (ℕ × ℕ)) → l.firsts ≡ firsts_of inodes
+      → AreNumbered inodes l.first-index l.group_of.items l.count;
 }

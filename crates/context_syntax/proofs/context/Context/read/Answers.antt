@@ -11,5 +11,6 @@ returns-in_default-clause-no_context c = λ _. no_spelling c.args.bytes.now (sea
 pub returns-in_default-rest-clause-no_context : goal.returns-in_default-rest-clause-no_context
 returns-in_default-rest-clause-no_context c = λ _. no_spelling c.args.bytes.now (search rules)
 
-pub returns-then-not-is_type_name-clause-no_context : goal.returns-then-not-is_type_name-clause-no_context
+pub returns-then-not-is_type_name-clause-no_context :
+    goal.returns-then-not-is_type_name-clause-no_context
 returns-then-not-is_type_name-clause-no_context c = λ _. no_spelling c.args.bytes.now (search rules)

@@ -11,7 +11,8 @@ returns-then-not-plain_at-clause-value c =
     let dir = path_of c.args.dir.now in
     let split : plain t.first t.second dir ≡ false = search rules in
     subst (λ bytes. OnOk c.add_all.result (c.add_all.new.to ≡ c.args.to.now ++ bytes))
-    (all_relevant t c.as_slice-texts.result.now dir (c.as_slice-texts.ensures ∙ c.args.self.now.spelled.specs_are) split) c.add_all.ensures
+    (all_relevant t c.as_slice-texts.result.now dir
+    (c.as_slice-texts.ensures ∙ c.args.self.now.spelled.specs_are) split) c.add_all.ensures
 
 pub returns-clause-value : goal.returns-clause-value
 returns-clause-value c =
@@ -19,5 +20,7 @@ returns-clause-value c =
     let dir = path_of c.args.dir.now in
     let whole : plain t.first t.second dir ≡ true = search rules in
     subst (λ bytes. OnOk c.add_found.result (c.add_found.new.to ≡ c.args.to.now ++ bytes))
-    (found_relevant t c.as_slice-texts.result.now c.as_slice.result.now dir (path_of c.args.path.now) (c.as_slice-texts.ensures ∙ c.args.self.now.spelled.specs_are)
-    whole c.requires.path (c.as_slice.ensures.value ∙ c.in_ok-found.ensures.value)) c.add_found.ensures
+    (found_relevant t c.as_slice-texts.result.now c.as_slice.result.now dir
+    (path_of c.args.path.now) (c.as_slice-texts.ensures ∙ c.args.self.now.spelled.specs_are)
+    whole c.requires.path (c.as_slice.ensures.value ∙ c.in_ok-found.ensures.value))
+    c.add_found.ensures

@@ -13,5 +13,7 @@ pub learn_as-requires-clause-rule : goal.learn_as-requires-clause-rule
 learn_as-requires-clause-rule g c = balances _ _ (search rules) (search rules)
 
 pub invariant_of-into-clause-under : goal.invariant_of-into-clause-under
-invariant_of-into-clause-under g c = subst ParentsAreTaken (sym (c.learn_as.ensures.queue.1 ∙ c.absorb.ensures.rule))
-    (joined_under (view c.args.into.now.pass) (view c.args.from.pass) (c.requires.1.parents ∙ sym c.requires.0.parents) c.args.into.now.under c.args.from.under)
+invariant_of-into-clause-under g c =
+    subst ParentsAreTaken (sym (c.learn_as.ensures.queue.1 ∙ c.absorb.ensures.rule))
+    (joined_under (view c.args.into.now.pass) (view c.args.from.pass)
+    (c.requires.1.parents ∙ sym c.requires.0.parents) c.args.into.now.under c.args.from.under)

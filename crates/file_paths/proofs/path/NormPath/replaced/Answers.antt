@@ -15,4 +15,5 @@ returns c =
     ap path_names c.in_ok-joined.ensures
     ∙ (joined_normal _ _ c.kept_text.ensures.normal c.kept_text-2.ensures.normal).0
     ∙ ap (λ names. names ++ path_names c.kept_text-2.result.now) c.kept_text.ensures.names
-    ∙ ap (λ names. path_of c.args.target.now ++ names) (c.kept_text-2.ensures.names ∙ c.behind-behind.ensures)
+    ∙ ap (λ names. path_of c.args.target.now ++ names) (c.kept_text-2.ensures.names
+    ∙ c.behind-behind.ensures)

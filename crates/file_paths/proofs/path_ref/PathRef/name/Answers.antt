@@ -15,5 +15,10 @@ pub returns : goal.returns
 returns c =
     let path = c.args.self.now in
     let some : 0 < length (path_names path.text.now) = omega (arith, c.requires) in
-    let found = rw (take_rest, names_behind_first path.text.now path.normal some) at c.piece_at.ensures in
-    record { value = found; named = name_at (path_names path.text.now) c.args.i c.piece_at.result.now path.normal.1 found }
+    let found = rw (take_rest, names_behind_first path.text.now path.normal some) at
+    c.piece_at.ensures in
+    record {
+      value = found;
+      named = name_at (path_names path.text.now) c.args.i
+          c.piece_at.result.now path.normal.1 found;
+    }

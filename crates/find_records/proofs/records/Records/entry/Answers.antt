@@ -1,7 +1,7 @@
 use Rattle.std.proofs.Common.{◌≡◌, ◌∙◌, ap, sym, subst}
 use Rattle.file_paths.specs.PathText.{IsNormal}
 use Rattle.find_records.specs.MarkRef.{mark_lent}
-use Rattle.find_records.specs.Rows.{text_in}
+use Rattle.find_records.specs.Rows.{row_text}
 use Rattle.find_records.proofs.RowLemmas.{entry_is, row_read, within_at}
 use Rattle.find_records.proofs.records.Records.entry.Goals as goal
 
@@ -9,28 +9,38 @@ pub get-mark-requires : goal.get-mark-requires
 get-mark-requires c =
     let s = c.self.inside in
     let row = c.index-row.result.now in
-    (within_at s.texts.items s.marks s.rows.items c.args.i row c.self.invariant.within (row_read s.texts.items s.marks c.args.self.now s.rows.items c.args.i row c.self.view_is c.requires c.index-row.ensures)).known
+    (within_at s.texts.items s.marks s.rows.items c.args.i row c.self.invariant.within
+    (row_read s.texts.items s.marks c.args.self.now s.rows.items c.args.i row c.self.view_is
+    c.requires c.index-row.ensures)).known
 
 pub text_at-requires : goal.text_at-requires
 text_at-requires c =
     let s = c.self.inside in
     let row = c.index-row.result.now in
     rw c.as_slice.ensures.value
-    (within_at s.texts.items s.marks s.rows.items c.args.i row c.self.invariant.within (row_read s.texts.items s.marks c.args.self.now s.rows.items c.args.i row c.self.view_is c.requires c.index-row.ensures)).fits
+    (within_at s.texts.items s.marks s.rows.items c.args.i row c.self.invariant.within
+    (row_read s.texts.items s.marks c.args.self.now s.rows.items c.args.i row c.self.view_is
+    c.requires c.index-row.ensures)).fits
 
 pub of_text-requires : goal.of_text-requires
 of_text-requires c =
     let s = c.self.inside in
     let row = c.index-row.result.now in
-    let text : c.text_at.result.now ≡ text_in s.texts.items row = c.text_at.ensures ∙ ap (λ t. text_in t row) c.as_slice.ensures.value in
+    let text : c.text_at.result.now ≡ row_text s.texts.items row = c.text_at.ensures
+    ∙ ap (λ t. row_text t row) c.as_slice.ensures.value in
     subst IsNormal (sym text)
-    (within_at s.texts.items s.marks s.rows.items c.args.i row c.self.invariant.within (row_read s.texts.items s.marks c.args.self.now s.rows.items c.args.i row c.self.view_is c.requires c.index-row.ensures)).normal
+    (within_at s.texts.items s.marks s.rows.items c.args.i row c.self.invariant.within
+    (row_read s.texts.items s.marks c.args.self.now s.rows.items c.args.i row c.self.view_is
+    c.requires c.index-row.ensures)).normal
 
 pub returns : goal.returns
 returns c =
     let s = c.self.inside in
     let row = c.index-row.result.now in
-    let text : c.text_at.result.now ≡ text_in s.texts.items row = c.text_at.ensures ∙ ap (λ t. text_in t row) c.as_slice.ensures.value in
-    entry_is s.texts.items s.marks c.args.self.now s.rows.items c.args.i row (mark_lent c.get-mark.result) c.text_at.result.now _ c.self.view_is
-    (row_read s.texts.items s.marks c.args.self.now s.rows.items c.args.i row c.self.view_is c.requires c.index-row.ensures)
+    let text : c.text_at.result.now ≡ row_text s.texts.items row = c.text_at.ensures
+    ∙ ap (λ t. row_text t row) c.as_slice.ensures.value in
+    entry_is s.texts.items s.marks c.args.self.now s.rows.items c.args.i row
+    (mark_lent c.get-mark.result) c.text_at.result.now _ c.self.view_is
+    (row_read s.texts.items s.marks c.args.self.now s.rows.items c.args.i row c.self.view_is
+    c.requires c.index-row.ensures)
     c.get-mark.ensures text c.of_text.ensures

@@ -7,7 +7,8 @@ abbrev pub invariant-records : goal.invariant-records
 invariant-records l = record {
   sound : IsSound l.self;
   most : l.self.most ≡ l.fn.self.most;
-  meant : (rest : List ℕ) → meant_with l.fn.self (l.piece ++ rest) ≡ meant_with l.self (l.left ++ rest);
+  meant : (rest : List ℕ) → meant_with l.fn.self (l.piece ++ rest) ≡ meant_with l.self
+      (l.left ++ rest);
 }
 
 abbrev pub decreases-records : goal.decreases-records

@@ -3,4 +3,5 @@ use Rattle.inode_claims.proofs.Keeps.{joins}
 use Rattle.inode_claims.proofs.claims.Claims.join.Goals as goal
 
 pub join_seat-requires : goal.join_seat-requires
-join_seat-requires c = (search rules, search rules, search rules, search rules, joins _ _ _ _ _ (search rules))
+join_seat-requires c =
+    (search rules, search rules, search rules, search rules, joins _ _ _ _ _ (search rules))

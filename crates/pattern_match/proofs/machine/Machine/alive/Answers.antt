@@ -13,12 +13,16 @@ pub returns-clause-onto : goal.returns-clause-onto
 returns-clause-onto c =
     let r = ready_by c.self.inside c.args.self.now c.self.view_is c.self.invariant in
     let b : is_bare c.args.self.now ≡ false = sym r.bare_is ∙ c.if-self.false in
-    let a : IsAny c.args.marks.now c.have_any.result = subst (λ (w : List ℕ). IsAny w c.have_any.result) c.as_slice.ensures (record { onto = c.have_any.ensures.onto; from = c.have_any.ensures.from }) in
+    let a : IsAny c.args.marks.now c.have_any.result =
+    subst (λ (w : List ℕ). IsAny w c.have_any.result) c.as_slice.ensures
+    (record { onto = c.have_any.ensures.onto; from = c.have_any.ensures.from }) in
     behind_any c.args.self.now c.args.marks.now c.have_any.result b a
 
 pub returns-clause-from : goal.returns-clause-from
 returns-clause-from c =
     let r = ready_by c.self.inside c.args.self.now c.self.view_is c.self.invariant in
     let b : is_bare c.args.self.now ≡ false = sym r.bare_is ∙ c.if-self.false in
-    let a : IsAny c.args.marks.now c.have_any.result = subst (λ (w : List ℕ). IsAny w c.have_any.result) c.as_slice.ensures (record { onto = c.have_any.ensures.onto; from = c.have_any.ensures.from }) in
+    let a : IsAny c.args.marks.now c.have_any.result =
+    subst (λ (w : List ℕ). IsAny w c.have_any.result) c.as_slice.ensures
+    (record { onto = c.have_any.ensures.onto; from = c.have_any.ensures.from }) in
     any_behind c.args.self.now c.args.marks.now c.have_any.result b c.requires a

@@ -6,16 +6,31 @@ use Rattle.pattern_match.proofs.LowestBits.{step_word, marked_row}
 use Rattle.pattern_match.proofs.marks.Marks.step.Goals as goal
 
 pub gathered-requires : goal.gathered-requires
-gathered-requires c = λ j l b. marked_row c.args.self.now c.self.inside.marks.items c.index.result.now (length c.args.follow.now) j c.self.view_is (c.index.ensures ∙ get_or_default c.self.inside.marks.items 0 c.index.result.now 0 (omega arith)) (omega arith) c.requires.rows l b
+gathered-requires c = λ j l b. marked_row c.args.self.now c.self.inside.marks.items
+    c.index.result.now (length c.args.follow.now) j c.self.view_is
+    (c.index.ensures ∙ get_or_default c.self.inside.marks.items 0 c.index.result.now 0
+    (omega arith)) (omega arith) c.requires.rows l b
 
 pub returns-then-len-eq1-clause-bits : goal.returns-then-len-eq1-clause-bits
 returns-then-len-eq1-clause-bits c = λ k l.
-    let v : length c.self.inside.marks.items ≡ length c.args.self.now = ap (λ (m : List ℕ). length m) c.self.view_is in
+    let v : length c.self.inside.marks.items ≡ length c.args.self.now =
+    ap (λ (m : List ℕ). length m) c.self.view_is in
     let u : k < 64 = omega arith in
-    step_word c.args.self.now c.self.inside.marks.items c.args.follow.now (λ i. takes_at c.args.classes.now i c.args.byte) c.index.result.now c.gathered.result c.taking.result k c.self.view_is (c.index.ensures ∙ get_or_default c.self.inside.marks.items 0 c.index.result.now 0 (omega arith)) (omega arith) l c.gathered.ensures (let z : 0 + k ≡ k = omega arith in rw z at (c.taking.ensures k u))
+    step_word c.args.self.now c.self.inside.marks.items c.args.follow.now
+    (λ i. takes_at c.args.classes.now i c.args.byte) c.index.result.now c.gathered.result
+    c.taking.result k c.self.view_is
+    (c.index.ensures ∙ get_or_default c.self.inside.marks.items 0 c.index.result.now 0
+    (omega arith)) (omega arith) l c.gathered.ensures (let z : 0 + k ≡ k = omega arith in
+    rw z at (c.taking.ensures k u))
 
 pub returns-clause-bits : goal.returns-clause-bits
 returns-clause-bits c = λ k l.
-    let v : length c.self.inside.marks.items ≡ length c.args.self.now = ap (λ (m : List ℕ). length m) c.self.view_is in
-    let n : length c.self.inside.reached.items ≡ length c.self.inside.marks.items = c.self.invariant in
-    step_bits c.args.self.now c.gather.new.to.items c.keep_taking.new.to.items c.as_slice.result.now c.as_slice-2.result.now c.args.follow.now (λ i. takes_at c.args.classes.now i c.args.byte) (length c.self.inside.reached.items) k (n ∙ v) (c.as_slice.ensures.value ∙ c.self.view_is) c.as_slice-2.ensures.value (c.gather.ensures.bits k (omega arith)) (c.keep_taking.ensures.bits k (omega arith))
+    let v : length c.self.inside.marks.items ≡ length c.args.self.now =
+    ap (λ (m : List ℕ). length m) c.self.view_is in
+    let n : length c.self.inside.reached.items ≡ length c.self.inside.marks.items =
+    c.self.invariant in
+    step_bits c.args.self.now c.gather.new.to.items c.keep_taking.new.to.items c.as_slice.result.now
+    c.as_slice-2.result.now c.args.follow.now (λ i. takes_at c.args.classes.now i c.args.byte)
+    (length c.self.inside.reached.items) k (n ∙ v) (c.as_slice.ensures.value ∙ c.self.view_is)
+    c.as_slice-2.ensures.value (c.gather.ensures.bits k (omega arith))
+    (c.keep_taking.ensures.bits k (omega arith))

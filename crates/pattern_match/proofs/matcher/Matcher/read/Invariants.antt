@@ -3,4 +3,5 @@ use Rattle.pattern_match.specs.States.{AreStatesOf, StandsFor}
 use Rattle.pattern_match.proofs.matcher.Matcher.read.Given as goal
 
 abbrev pub invariant-loop-byte : goal.invariant-loop-byte
-invariant-loop-byte l = AreStatesOf l.self l.states × StandsFor l.self l.states (take l.byte-index l.text)
+invariant-loop-byte l = AreStatesOf l.self l.states
+    × StandsFor l.self l.states (take l.byte-index l.text)

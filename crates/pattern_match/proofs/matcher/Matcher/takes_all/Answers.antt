@@ -6,18 +6,32 @@ use Rattle.pattern_match.proofs.matcher.Matcher.takes_all.Goals as goal
 
 pub returns-then-states-len-clause-exact : goal.returns-then-states-len-clause-exact
 returns-then-states-len-clause-exact c =
-    let s : c.self.inside.start ≡ literal_start_of c.args.self.now = c.self.invariant.start ∙ ap literal_start_of c.self.view_is in
-    let m : c.self.inside.machine ≡ behind_start c.args.self.now = c.self.invariant.behind ∙ ap behind_start c.self.view_is in
-    leads_not c.args.self.now c.self.inside.start c.self.inside.machine s m (record { seen = c.states.inside.seen; marks = c.states.inside.marks }) c.args.states.now c.len.result c.states.view_is c.len.ensures c.if-states-len.true
+    let s : c.self.inside.start ≡ literal_start_of c.args.self.now = c.self.invariant.start
+    ∙ ap literal_start_of c.self.view_is in
+    let m : c.self.inside.machine ≡ behind_start c.args.self.now = c.self.invariant.behind
+    ∙ ap behind_start c.self.view_is in
+    leads_not c.args.self.now c.self.inside.start c.self.inside.machine s m
+    (record { seen = c.states.inside.seen; marks = c.states.inside.marks }) c.args.states.now
+    c.len.result c.states.view_is c.len.ensures c.if-states-len.true
 
 pub returns-clause-exact : goal.returns-clause-exact
 returns-clause-exact c =
-    let s : c.self.inside.start ≡ literal_start_of c.args.self.now = c.self.invariant.start ∙ ap literal_start_of c.self.view_is in
-    let m : c.self.inside.machine ≡ behind_start c.args.self.now = c.self.invariant.behind ∙ ap behind_start c.self.view_is in
-    leads_at c.args.self.now c.self.inside.start c.self.inside.machine s m (record { seen = c.states.inside.seen; marks = c.states.inside.marks }) c.args.states.now c.len.result c.takes_all.result c.states.view_is c.len.ensures c.if-states-len.false c.takes_all.ensures.exact
+    let s : c.self.inside.start ≡ literal_start_of c.args.self.now = c.self.invariant.start
+    ∙ ap literal_start_of c.self.view_is in
+    let m : c.self.inside.machine ≡ behind_start c.args.self.now = c.self.invariant.behind
+    ∙ ap behind_start c.self.view_is in
+    leads_at c.args.self.now c.self.inside.start c.self.inside.machine s m
+    (record { seen = c.states.inside.seen; marks = c.states.inside.marks }) c.args.states.now
+    c.len.result c.takes_all.result c.states.view_is c.len.ensures c.if-states-len.false
+    c.takes_all.ensures.exact
 
 pub returns-clause-texts : goal.returns-clause-texts
 returns-clause-texts c =
-    let s : c.self.inside.start ≡ literal_start_of c.args.self.now = c.self.invariant.start ∙ ap literal_start_of c.self.view_is in
-    let m : c.self.inside.machine ≡ behind_start c.args.self.now = c.self.invariant.behind ∙ ap behind_start c.self.view_is in
-    λ h. takes_all c.args.self.now c.self.inside.start c.self.inside.machine s m (record { seen = c.states.inside.seen; marks = c.states.inside.marks }) c.args.states.now c.len.result c.states.view_is c.len.ensures c.if-states-len.false (c.takes_all.ensures.texts h)
+    let s : c.self.inside.start ≡ literal_start_of c.args.self.now = c.self.invariant.start
+    ∙ ap literal_start_of c.self.view_is in
+    let m : c.self.inside.machine ≡ behind_start c.args.self.now = c.self.invariant.behind
+    ∙ ap behind_start c.self.view_is in
+    λ h. takes_all c.args.self.now c.self.inside.start c.self.inside.machine s m
+    (record { seen = c.states.inside.seen; marks = c.states.inside.marks }) c.args.states.now
+    c.len.result c.states.view_is c.len.ensures c.if-states-len.false
+    (c.takes_all.ensures.texts h)

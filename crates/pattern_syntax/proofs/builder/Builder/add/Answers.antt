@@ -1,9 +1,13 @@
 use Rattle.std.proofs.Common.{◌∷◌, [], refl, List}
 use Rattle.pattern_syntax.specs.Tree.{Tree}
 use Rattle.pattern_syntax.specs.Reading.{Reading}
-use Rattle.pattern_syntax.specs.Building.{Stands}
+use Rattle.pattern_syntax.specs.Building.{IsBuilderOf}
 use Rattle.pattern_syntax.proofs.builder.Builder.add.Goals as goal
 
 pub returns-in_ok-add_piece-in-Byte : goal.returns-in_ok-add_piece-in-Byte
-returns-in_ok-add_piece-in-Byte c = λ (read : Reading) (s : Stands c.args.self.now read).
-    rw c.in-Byte.is (refl, c.in_ok-add_piece-in-Byte.ensures read (c.in-Byte.b ∷ []) s (rw c.in-Byte.is at c.requires) (λ (stack : List Tree). refl))
+returns-in_ok-add_piece-in-Byte c = λ (read : Reading) (s : IsBuilderOf c.args.self.now read).
+    rw c.in-Byte.is (
+      refl,
+      c.in_ok-add_piece-in-Byte.ensures read (c.in-Byte.b ∷ []) s
+          (rw c.in-Byte.is at c.requires) (λ (stack : List Tree). refl),
+    )

@@ -6,4 +6,5 @@ use Rattle.relabel_core.proofs.digests.Digests.changes.Goals as goal
 
 pub returns : goal.returns
 returns c =
-    c.is_some.ensures ∙ ap is_some c.change_at.ensures ∙ change_told (walk_before c.args.self.now) c.args.d
+    c.is_some.ensures ∙ ap is_some c.change_at.ensures ∙ change_told (walk_before c.args.self.now)
+    c.args.d

@@ -13,8 +13,12 @@ pub returns : goal.returns
 returns c =
     let known = c.args.self.now in
     let w = walk_of known.input in
-    c.is_some.ensures ∙ sym (some_told context_lent c.group_change.result) ∙ ap is_some c.group_change.ensures
-    ∙ ap (λ g. is_some (context_change w g (option_copied c.wanted_by_winner.result))) c.group.ensures.value
-    ∙ ap (λ wants. is_some (context_change w (group_of w.entries known.index) wants)) c.wanted_by_winner.ensures
-    ∙ ap (λ found. is_some (group_change w (group_of w.entries known.index) found)) known.known.winner_is
+    c.is_some.ensures ∙ sym (some_told context_lent c.group_change.result)
+    ∙ ap is_some c.group_change.ensures
+    ∙ ap (λ g. is_some (context_change w g (option_copied c.wanted_by_winner.result)))
+    c.group.ensures.value
+    ∙ ap (λ wants. is_some (context_change w (group_of w.entries known.index) wants))
+    c.wanted_by_winner.ensures
+    ∙ ap (λ found. is_some (group_change w (group_of w.entries known.index) found))
+    known.known.winner_is
     ∙ changed_name_is w known.index

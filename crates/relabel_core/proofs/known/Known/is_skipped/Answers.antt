@@ -6,4 +6,5 @@ use Rattle.relabel_core.proofs.known.Known.is_skipped.Goals as goal
 pub returns : goal.returns
 returns c =
     let known = c.args.self.now in
-    c.does_skip.ensures ∙ skipped_is (walk_of known.input) known.fit.by_path known.index known.skip known.known.inside known.known.skip_is
+    c.does_skip.ensures ∙ skipped_is (walk_of known.input) known.fit.by_path known.index known.skip
+    known.known.inside known.known.skip_is

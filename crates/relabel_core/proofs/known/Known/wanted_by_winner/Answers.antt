@@ -8,4 +8,5 @@ pub returns : goal.returns
 returns c =
     let known = c.args.self.now in
     let w = walk_of known.input in
-    c.given_at.ensures ∙ ap (λ found. given_at w.rules.rules found) known.known.winning_is ∙ winning_gives w known.winner
+    c.given_at.ensures ∙ ap (λ found. given_at w.rules.rules found) known.known.winning_is
+    ∙ winning_gives w known.winner

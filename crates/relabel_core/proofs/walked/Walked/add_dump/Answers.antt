@@ -9,5 +9,8 @@ entries-init c = none_dumped c.args.to.now
 
 pub entries-preserved : goal.entries-preserved
 entries-preserved c =
-    section_more (walk_in c.args.self.now) c.entries.e c.args.to.now c.entries.to c.add_section.new.to c.entries.invariant
-    (c.in_ok-add_section.ensures ∙ ap (λ w. c.entries.to ++ optional_section (section_at w c.entries.e)) c.in_ok-digests.ensures)
+    section_more (walk_in c.args.self.now) c.entries.e c.args.to.now c.entries.to
+    c.add_section.new.to c.entries.invariant
+    (c.in_ok-add_section.ensures
+    ∙ ap (λ w. c.entries.to ++ optional_section (section_at w c.entries.e))
+    c.in_ok-digests.ensures)

@@ -11,5 +11,6 @@ pub returns : goal.returns
 returns c =
     let w = walk_in c.args.self.now in
     c.in_ok-add_unflagged.ensures ∙ ap (λ t. c.args.to.now ++ t) (
-    ap (λ flags. text_below (unflagged_line w.rules flags) (length w.rules.rules)) c.as_slice.ensures.value
+    ap (λ flags. text_below (unflagged_line w.rules flags) (length w.rules.rules))
+    c.as_slice.ensures.value
     ∙ unmatched_text w c.in_ok-flags.flags.items c.if-not-self.false c.in_ok-flags.ensures)

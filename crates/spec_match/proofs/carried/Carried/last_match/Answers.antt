@@ -13,24 +13,35 @@ use Rattle.spec_match.proofs.carried.Carried.last_match.Goals.{in-Some, in-None}
 pub look_up_child-requires-clause-ready : goal.look_up_child-requires-clause-ready
 look_up_child-requires-clause-ready g c =
     let own = subst (IsScratchOf c.args.rules.now) (sym c.scratch.view_is) c.requires.scratch in
-    let lent = subst (λ (w : Workspace). IsScratchOf c.args.rules.now (room_in w)) (sym c.deref_mut.ensures.value) own in
-    rw c.as_slice.ensures.value (ready_in c.rules.inside.rules.items c.args.rules.now c.rules.view_is c.deref_mut.result.now lent)
+    let lent = subst (λ (w : Workspace). IsScratchOf c.args.rules.now (room_in w))
+    (sym c.deref_mut.ensures.value) own in
+    rw c.as_slice.ensures.value
+    (ready_in c.rules.inside.rules.items c.args.rules.now c.rules.view_is c.deref_mut.result.now
+    lent)
 
 pub look_up_child-requires-clause-own : goal.look_up_child-requires-clause-own
 look_up_child-requires-clause-own g c =
     let own = subst (IsCarriedOf c.args.rules.now) (sym c.self.view_is) c.requires.own in
-    rw c.as_slice.ensures.value (carried_by c.rules.inside.rules.items c.args.rules.now c.rules.view_is (record { alive = c.self.inside.alive; is_root = c.self.inside.is_root }) own)
+    rw c.as_slice.ensures.value
+    (carried_by c.rules.inside.rules.items c.args.rules.now c.rules.view_is
+    (record { alive = c.self.inside.alive; is_root = c.self.inside.is_root }) own)
 
 pub returns-clause-own : goal.returns-clause-own
 returns-clause-own g c =
-    scratch_of c.rules.inside.rules.items c.args.rules.now c.rules.view_is c.look_up_child.new.self (rw c.as_slice.ensures.value at c.look_up_child.ensures.ready)
+    scratch_of c.rules.inside.rules.items c.args.rules.now c.rules.view_is c.look_up_child.new.self
+    (rw c.as_slice.ensures.value at c.look_up_child.ensures.ready)
 
 pub returns-clause-told : goal.returns-clause-told
 returns-clause-told g c = λ path at.
     let rules = c.rules.inside.rules.items in
     let text = path_text (path ++ c.args.name.now ∷ []) in
-    let here = stands_by rules c.args.rules.now c.rules.view_is (record { alive = c.self.inside.alive; is_root = c.self.inside.is_root }) path
+    let here = stands_by rules c.args.rules.now c.rules.view_is
+    (record { alive = c.self.inside.alive; is_root = c.self.inside.is_root }) path
     (subst (λ (w : Carrying). StandsAt c.args.rules.now w path) (sym c.self.view_is) at) in
     let told = (rw c.as_slice.ensures.value at c.look_up_child.ensures.told) path here in
-    let same : c.match-look_up_child.result ≡ c.look_up_child.result = elim c.match-look_up_child.branch [ in-Some w ↦ w.result-is ∙ sym w.in-Some.is | in-None w ↦ w.result-is ∙ sym w.in-None.is ] in
-    subst (λ ss. IsAnswer c.args.asked text ss c.match-look_up_child.result) c.rules.view_is (subst (λ r. IsAnswer c.args.asked text (map spec_in rules) r) (sym same) told)
+    let same : c.match-look_up_child.result ≡ c.look_up_child.result =
+    elim c.match-look_up_child.branch
+    [ in-Some w ↦ w.result-is ∙ sym w.in-Some.is | in-None w ↦ w.result-is ∙ sym w.in-None.is ]
+    in
+    subst (λ ss. IsAnswer c.args.asked text ss c.match-look_up_child.result) c.rules.view_is
+    (subst (λ r. IsAnswer c.args.asked text (map spec_in rules) r) (sym same) told)

@@ -7,4 +7,5 @@ use Rattle.spec_match.proofs.rule.Rule.can_decide.Goals as goal
 pub returns-then-not-read_on-clause-value : goal.returns-then-not-read_on-clause-value
 returns-then-not-read_on-clause-value c =
     let dead = c.if-not-read_on.ensures.dead refl [] c.restart.ensures.stands in
-    sym (dead_decides (path_of c.args.path.now) c.args.self.now.spec (subst (λ w. Opens c.args.self.now.spec.pattern w → ⊥) c.as_text.ensures.value dead))
+    sym (dead_decides (path_of c.args.path.now) c.args.self.now.spec
+    (subst (λ w. Opens c.args.self.now.spec.pattern w → ⊥) c.as_text.ensures.value dead))

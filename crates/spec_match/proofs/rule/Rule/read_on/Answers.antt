@@ -5,9 +5,13 @@ use Rattle.spec_match.proofs.rule.Rule.read_on.Goals as goal
 pub text-preserved : goal.text-preserved
 text-preserved c = record {
   made = c.step.ensures.own;
-  stands = λ front s. read_stands c.args.self.now.spec.pattern c.step.new.states front c.args.text.now c.text.byte-index c.text-test.true (c.step.ensures.stands _ (c.text.invariant.stands front s));
+  stands = λ front s. read_stands c.args.self.now.spec.pattern c.step.new.states front
+      c.args.text.now c.text.byte-index c.text-test.true
+      (c.step.ensures.stands _ (c.text.invariant.stands front s));
 }
 
 pub returns-then-not-alive-clause-dead : goal.returns-then-not-alive-clause-dead
 returns-then-not-alive-clause-dead c = λ _ front s.
-    read_dead c.args.self.now.spec.pattern c.step.new.states front c.args.text.now c.text.byte-index _ c.alive.result (omega arith) refl c.if-not-alive.true (λ x h. (c.alive.ensures x h).1) (c.step.ensures.stands _ (c.text.invariant.stands front s))
+    read_dead c.args.self.now.spec.pattern c.step.new.states front c.args.text.now c.text.byte-index
+    _ c.alive.result (omega arith) refl c.if-not-alive.true (λ x h. (c.alive.ensures x h).1)
+    (c.step.ensures.stands _ (c.text.invariant.stands front s))

@@ -13,9 +13,12 @@ use Rattle.spec_match.proofs.TableLemmas.{nothing_kept}
 use Rattle.spec_match.proofs.TrailLemmas.{no_trail}
 use Rattle.spec_match.proofs.scratch.Scratch.with_room.Goals as goal
 
-new_ready : (rules : List Rule) (table : Table) (cuts : Bool) → kept_in table ≡ kept cuts [] [] [] [] → table.lists.draft ≡ [] → table.trail.known ≡ 0 → IsTableReady (patterns_of rules) (map spec_in rules) (remembered_in table)
+new_ready : (rules : List Rule) (table : Table) (cuts : Bool) → kept_in table ≡ kept cuts [] [] []
+    [] → table.lists.draft ≡ [] → table.trail.known ≡ 0
+    → IsTableReady (patterns_of rules) (map spec_in rules) (remembered_in table)
 new_ready rules table cuts none draft trail = record {
-  table = subst (IsTableOf (patterns_of rules) (map spec_in rules)) (sym none) (nothing_kept (patterns_of rules) (map spec_in rules) cuts);
+  table = subst (IsTableOf (patterns_of rules) (map spec_in rules)) (sym none)
+      (nothing_kept (patterns_of rules) (map spec_in rules) cuts);
   draft = draft;
   trail = no_trail (list_for rules table) table.lists.lists (trace_in table.trail) trail;
 }
@@ -25,12 +28,22 @@ returns c =
     let rules = c.rules.inside.rules.items in
     let table = c.in_ok-new.field-0 in
     let whole = c.in_ok-whole_table.field-0 in
-    let work : Workspace = record { states = c.in_ok-states_of.field-0; table = table; whole = whole; fronts = c.new-2.result; tried = 0 } in
+    let work : Workspace =
+    record {
+      states = c.in_ok-states_of.field-0;
+      table = table;
+      whole = whole;
+      fronts = c.new-2.result;
+      tried = 0;
+    } in
     let own = scratch_of rules c.args.rules.now c.rules.view_is work (record {
       states = rw c.as_slice.ensures.value at c.in_ok-states_of.ensures;
-      table = new_ready rules table true c.in_ok-new.ensures.kept c.in_ok-new.ensures.draft c.in_ok-new.ensures.trail;
-      whole = new_ready rules whole false c.in_ok-whole_table.ensures.kept c.in_ok-whole_table.ensures.draft c.in_ok-whole_table.ensures.trail;
+      table = new_ready rules table true c.in_ok-new.ensures.kept c.in_ok-new.ensures.draft
+          c.in_ok-new.ensures.trail;
+      whole = new_ready rules whole false c.in_ok-whole_table.ensures.kept
+          c.in_ok-whole_table.ensures.draft c.in_ok-whole_table.ensures.trail;
       is_whole = ap (λ (k : Kept). k.cuts) c.in_ok-whole_table.ensures.kept;
       fronts = λ e. let none : true ≡ false = sym e ∙ c.new-2.ensures in cc;
     }) in
-    subst (λ (w : Workspace). IsScratchOf c.args.rules.now (room_in w)) (sym c.in_ok-new-2.ensures.ok) own
+    subst (λ (w : Workspace). IsScratchOf c.args.rules.now (room_in w))
+    (sym c.in_ok-new-2.ensures.ok) own

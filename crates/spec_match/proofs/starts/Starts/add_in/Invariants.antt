@@ -8,7 +8,8 @@ abbrev pub invariant-chain : goal.invariant-chain
 invariant-chain l = record {
   states : AreStatesFor (patterns_of l.rules) l.states.items;
   within : l.next ≤ length l.rules;
-  going : IsGoing (path_of l.path) l.rules (length l.self.heads.items) l.bucket l.at l.next l.fn.found.items l.found.items;
+  going : IsGoing (path_of l.path) l.rules (length l.self.heads.items) l.bucket l.at l.next
+      l.fn.found.items l.found.items;
 }
 
 abbrev pub decreases-chain : goal.decreases-chain

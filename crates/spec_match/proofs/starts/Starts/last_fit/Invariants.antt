@@ -9,5 +9,6 @@ invariant-bytes l = record {
   states : AreStatesFor (patterns_of l.rules) l.states.items;
   hash : l.hash ≡ hashed 0 (take l.k l.text);
   bound : l.hash < 2 ^ 32;
-  seen : IsSeen l.rules (length l.self.heads.items) l.text (fits_at l.asked l.text l.rules) (suc l.k) l.found;
+  seen : IsSeen l.rules (length l.self.heads.items) l.text (fits_at l.asked l.text l.rules)
+      (suc l.k) l.found;
 }

@@ -1,5 +1,5 @@
 use Rattle.std.proofs.Common.{◌≤◌, length}
-use Rattle.spec_match.specs.Chains.{fits_from, is_in}
+use Rattle.spec_match.specs.Chains.{fits_from, is_in_bucket}
 use Rattle.spec_match.specs.StatesFor.{AreStatesFor, patterns_of}
 use Rattle.spec_match.proofs.ChainLemmas.{IsNext}
 use Rattle.spec_match.proofs.starts.Starts.last_in.Given as goal
@@ -8,7 +8,8 @@ abbrev pub invariant-chain : goal.invariant-chain
 invariant-chain l = record {
   states : AreStatesFor (patterns_of l.rules) l.states.items;
   within : l.next ≤ length l.rules;
-  next : IsNext (length l.rules) (is_in l.rules (length l.self.heads.items) l.bucket) (fits_from l.at l.asked l.text l.rules) l.next;
+  next : IsNext (length l.rules) (is_in_bucket l.rules (length l.self.heads.items) l.bucket)
+      (fits_from l.at l.asked l.text l.rules) l.next;
 }
 
 abbrev pub decreases-chain : goal.decreases-chain

@@ -12,8 +12,10 @@ note_stays-requires c =
     let added = ap (λ (k : Kept). k.lists) c.in_ok-number-in-Err.ensures.some in
     record {
       states = c.requires.states;
-      table = c.add.ensures.table ps (map spec_in c.args.rules.now) c.requires.table (can_be_added ps old c.requires.own c.requires.begun);
-      number = (added_last old.lists c.add.new.self.lists.lists old.draft c.in_ok-number-in-Err.number added c.in_ok-number-in-Err.ensures.number).0;
+      table = c.add.ensures.table ps (map spec_in c.args.rules.now) c.requires.table
+          (can_be_added ps old c.requires.own c.requires.begun);
+      number = (added_last old.lists c.add.new.self.lists.lists old.draft
+          c.in_ok-number-in-Err.number added c.in_ok-number-in-Err.ensures.number).0;
     }
 
 pub returns-in-Ok : goal.returns-in-Ok
@@ -34,11 +36,16 @@ returns-in_err-number-in-Err c =
     let old = c.args.self.now.lists in
     record {
       states = c.requires.states;
-      table = c.add.ensures.table ps (map spec_in c.args.rules.now) c.requires.table (can_be_added ps old c.requires.own c.requires.begun);
+      table = c.add.ensures.table ps (map spec_in c.args.rules.now) c.requires.table
+          (can_be_added ps old c.requires.own c.requires.begun);
       cuts = c.add.ensures.cuts;
       draft = c.add.ensures.draft;
       trail = c.add.ensures.trail;
-      grown = ([], ap (λ (k : Kept). k.lists) c.in_err-number-in-Err.ensures.none ∙ sym (append-nil old.lists));
+      grown = (
+        [],
+        ap (λ (k : Kept). k.lists) c.in_err-number-in-Err.ensures.none
+            ∙ sym (append-nil old.lists),
+      );
       within = search rules;
       found = search rules;
     }
@@ -48,7 +55,8 @@ returns-in_ok-number-in-Err c =
     let old = c.args.self.now.lists in
     let lists = ap (λ (w : Written). w.lists) c.note_stays.ensures.lists in
     let added = lists ∙ ap (λ (k : Kept). k.lists) c.in_ok-number-in-Err.ensures.some in
-    let last = added_last old.lists c.note_stays.new.self.lists.lists old.draft c.in_ok-number-in-Err.number added c.in_ok-number-in-Err.ensures.number in
+    let last = added_last old.lists c.note_stays.new.self.lists.lists old.draft
+    c.in_ok-number-in-Err.number added c.in_ok-number-in-Err.ensures.number in
     record {
       states = c.note_stays.ensures.states;
       table = c.note_stays.ensures.table;

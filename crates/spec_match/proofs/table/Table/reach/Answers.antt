@@ -1,5 +1,5 @@
 use Rattle.std.proofs.Common.{◌∙◌, arith, map, subst}
-use Rattle.spec_match.specs.Alive.{list_of}
+use Rattle.spec_match.specs.Alive.{alive_list}
 use Rattle.spec_match.specs.Listed.{IsListed}
 use Rattle.spec_match.specs.StatesFor.{patterns_of, spec_in}
 use Rattle.spec_match.specs.Tables.{kept_in, list_for}
@@ -28,10 +28,14 @@ returns-then-way-text c =
       table = c.follow-way.ensures.table;
       cuts = cuts;
       draft = c.follow-way.ensures.draft ∙ c.text.invariant.draft;
-      trail = trail_of_way (list_for c.args.rules.now table) table.lists.lists c.args.text.now (trace_in table.trail) c.follow-way.result.at c.follow-way.result.list c.follow-way.ensures.way;
+      trail = trail_of_way (list_for c.args.rules.now table) table.lists.lists c.args.text.now
+          (trace_in table.trail) c.follow-way.result.at c.follow-way.result.list
+          c.follow-way.ensures.way;
       within = read.within;
-      alive = subst (λ b. IsListed b (patterns_of c.args.rules.now) (map spec_in c.args.rules.now) c.args.text.now (list_of table.lists.lists c.follow-way.result.list)) cuts
-          (listed_to_end (list_for c.args.rules.now table) c.args.text.now c.follow-way.result.at (list_of table.lists.lists c.follow-way.result.list) (omega arith) read.listed);
+      alive = subst (λ b. IsListed b (patterns_of c.args.rules.now) (map spec_in c.args.rules.now)
+          c.args.text.now (alive_list table.lists.lists c.follow-way.result.list)) cuts
+          (listed_to_end (list_for c.args.rules.now table) c.args.text.now c.follow-way.result.at
+          (alive_list table.lists.lists c.follow-way.result.list) (omega arith) read.listed);
     }
 
 pub returns-then-not-has_no_zero : goal.returns-then-not-has_no_zero
@@ -42,7 +46,9 @@ returns-then-not-has_no_zero c =
       table = c.follow-way.ensures.table;
       cuts = c.follow-way.ensures.cuts ∙ c.text.invariant.cuts;
       draft = c.follow-way.ensures.draft ∙ c.text.invariant.draft;
-      trail = trail_of_way (list_for c.args.rules.now table) table.lists.lists c.args.text.now (trace_in table.trail) c.follow-way.result.at c.follow-way.result.list c.follow-way.ensures.way;
+      trail = trail_of_way (list_for c.args.rules.now table) table.lists.lists c.args.text.now
+          (trace_in table.trail) c.follow-way.result.at c.follow-way.result.list
+          c.follow-way.ensures.way;
       within = tt;
       alive = tt;
     }
@@ -54,19 +60,22 @@ returns-then-index c =
     let text = c.args.text.now in
     let table = c.follow-way.new.self in
     let number = c.follow-way.result.list in
-    let list = list_of table.lists.lists number in
+    let list = alive_list table.lists.lists number in
     let read = c.follow-way.ensures.way.read in
     let cuts = c.follow-way.ensures.cuts ∙ c.text.invariant.cuts in
-    let stays = stays_told ps specs (kept_in table) number c.index.result.now c.follow-way.ensures.table read.within c.index.ensures c.if-index.true in
+    let stays = stays_told ps specs (kept_in table) number c.index.result.now
+    c.follow-way.ensures.table read.within c.index.ensures c.if-index.true in
     record {
       states = c.text.invariant.states;
       table = c.follow-way.ensures.table;
       cuts = cuts;
       draft = c.follow-way.ensures.draft ∙ c.text.invariant.draft;
-      trail = trail_of_way (list_for c.args.rules.now table) table.lists.lists text (trace_in table.trail) c.follow-way.result.at number c.follow-way.ensures.way;
+      trail = trail_of_way (list_for c.args.rules.now table) table.lists.lists text
+          (trace_in table.trail) c.follow-way.result.at number c.follow-way.ensures.way;
       within = read.within;
       alive = subst (λ b. IsListed b ps specs text list) cuts
-          (stays_behind (list_for c.args.rules.now table) text c.follow-way.result.at list stays read.inside (c.has_no_zero.ensures c.if-not-has_no_zero.false) read.listed);
+          (stays_behind (list_for c.args.rules.now table) text c.follow-way.result.at list stays
+          read.inside (c.has_no_zero.ensures c.if-not-has_no_zero.false) read.listed);
     }
 
 pub read_byte-requires : goal.read_byte-requires
@@ -104,14 +113,17 @@ pub returns : goal.returns
 returns c =
     let table = c.text.self in
     let read = c.text.invariant.way.read in
-    let list = list_of table.lists.lists c.text.way.list in
+    let list = alive_list table.lists.lists c.text.way.list in
     record {
       states = c.text.invariant.states;
       table = c.text.invariant.table;
       cuts = c.text.invariant.cuts;
       draft = c.text.invariant.draft;
-      trail = trail_of_way (list_for c.args.rules.now table) table.lists.lists c.args.text.now (trace_in table.trail) c.text.way.at c.text.way.list c.text.invariant.way;
+      trail = trail_of_way (list_for c.args.rules.now table) table.lists.lists c.args.text.now
+          (trace_in table.trail) c.text.way.at c.text.way.list c.text.invariant.way;
       within = read.within;
-      alive = subst (λ b. IsListed b (patterns_of c.args.rules.now) (map spec_in c.args.rules.now) c.args.text.now list) c.text.invariant.cuts
-          (listed_to_end (list_for c.args.rules.now table) c.args.text.now c.text.way.at list (omega (arith, c.text-test.false)) read.listed);
+      alive = subst (λ b. IsListed b (patterns_of c.args.rules.now) (map spec_in c.args.rules.now)
+          c.args.text.now list) c.text.invariant.cuts
+          (listed_to_end (list_for c.args.rules.now table) c.args.text.now c.text.way.at list
+          (omega (arith, c.text-test.false)) read.listed);
     }

@@ -13,7 +13,8 @@ invariant-text l = record {
   cuts : l.self.cuts ≡ l.fn.self.cuts;
   draft : l.self.lists.draft ≡ [];
   begun : 0 < length l.self.lists.lists;
-  way : IsOnWay (list_for l.rules l.self) l.self.lists.lists l.text (trace_in l.self.trail) l.way.at l.way.list;
+  way : IsOnWay (list_for l.rules l.self) l.self.lists.lists l.text (trace_in l.self.trail) l.way.at
+      l.way.list;
 }
 
 -- what is left of the text

@@ -10,14 +10,17 @@ answer : (c : goal.In_ok-records) → tree_of c.args.records ≡ Ok c.in_ok-reco
 answer c = c.in_ok-records.ensures.answer
 
 none : (c : goal.In_ok-records) → doubled c.args.records ≡ None
-none c = calm_tree (doubled c.args.records) (entries_of c.args.records) c.in_ok-records.records (answer c)
+none c = calm_tree (doubled c.args.records) (entries_of c.args.records) c.in_ok-records.records
+    (answer c)
 
 kept : (c : goal.In_ok-records) → c.in_ok-records.records ≡ entries_of c.args.records
-kept c = kept_tree (doubled c.args.records) (entries_of c.args.records) c.in_ok-records.records (answer c)
+kept c = kept_tree (doubled c.args.records) (entries_of c.args.records) c.in_ok-records.records
+    (answer c)
 
 pub invariant_of-result : goal.invariant_of-result
 invariant_of-result c =
-    let fewer : length c.in_ok-records.records ≤ length c.args.records = c.in_ok-records.ensures.fewer in
+    let fewer : length c.in_ok-records.records ≤ length c.args.records =
+    c.in_ok-records.ensures.fewer in
     record {
       by_path = subst ByPath (sym (kept c)) (entries_pairs c.args.records);
       few = omega (arith, fewer, c.requires);

@@ -11,7 +11,9 @@ word_at-requires c =
 told : (c : goal.After-word_at) → c.word_at.result ≡ group_of c.args.self.now c.args.e
 told c =
     c.word_at.ensures ∙ ap (λ ws. get_or ws c.args.e 0) c.as_slice.ensures.value
-    ∙ group_told c.self.inside.sorted _ _ _ c.self.invariant.groups_are.lists c.args.e (omega (arith, c.requires, ap length c.self.view_is)) ∙ ap (λ es. group_of es c.args.e) c.self.view_is
+    ∙ group_told c.self.inside.sorted _ _ _ c.self.invariant.groups_are.lists c.args.e
+    (omega (arith, c.requires, ap length c.self.view_is))
+    ∙ ap (λ es. group_of es c.args.e) c.self.view_is
 
 pub returns-clause-value : goal.returns-clause-value
 returns-clause-value c = told c
@@ -19,5 +21,7 @@ returns-clause-value c = told c
 pub returns-clause-within : goal.returns-clause-within
 returns-clause-within c =
     subst (λ es. c.word_at.result < groups_in es) c.self.view_is
-    (subst (λ k. k < groups_in c.self.inside.sorted) (sym (told c ∙ ap (λ es. group_of es c.args.e) (sym c.self.view_is)))
-    (group_within c.self.inside.sorted _ _ _ c.self.invariant.groups_are.lists c.args.e (omega (arith, c.requires, ap length c.self.view_is))))
+    (subst (λ k. k < groups_in c.self.inside.sorted)
+    (sym (told c ∙ ap (λ es. group_of es c.args.e) (sym c.self.view_is)))
+    (group_within c.self.inside.sorted _ _ _ c.self.invariant.groups_are.lists c.args.e
+    (omega (arith, c.requires, ap length c.self.view_is))))
