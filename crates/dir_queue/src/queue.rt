@@ -36,9 +36,9 @@ impl DirQueue {
     ghost use Rattle.dir_queue.specs.Answers.{
       IsQueuePassOf,
       queue_view,
-      shape_of,
-      passes_of,
-      Takes,
+      queue_shape,
+      passes_of_queue,
+      TakesJob,
       NoneIfAllTaken,
       one_worker,
     };
@@ -52,9 +52,9 @@ impl DirQueue {
         passes: u32,
     ) -> Result<(DirQueue, Row<QueuePass>), OutOfMemory>
         requires { 0 < passes }
-        ensures shape { IfOk result (λ made. shape_of made.0 ≡ shape.now) }
+        ensures shape { IfOk result (λ made. queue_shape made.0 ≡ shape.now) }
         ensures passes { IfOk result
-            (λ made. (passes_of made.0 ≡ passes) × (length made.1 ≡ passes)) }
+            (λ made. (passes_of_queue made.0 ≡ passes) × (length made.1 ≡ passes)) }
         ensures each { IfOk result
             (λ made. All (λ p. IsQueuePassOf made.0 p
             × (queue_view p ≡ fresh_queue shape.now.parents passes 1)) made.1) }
@@ -71,7 +71,7 @@ impl DirQueue {
         passes: u32,
     ) -> Result<(DirQueue, Pass<Job, QueueView>), AllocError>
         ensures made { IfOk result
-            (λ made. (shape_of made.0 ≡ shape.now) × (passes_of made.0 ≡ passes)) }
+            (λ made. (queue_shape made.0 ≡ shape.now) × (passes_of_queue made.0 ≡ passes)) }
         ensures pass { IfOk result
             (λ made. IsPassOf made.0.queue made.1 × (view made.1 ≡ not_set_up)) }
     {
@@ -94,10 +94,10 @@ impl DirQueue {
 
     fn set_up<R: Wait>(&self, rt: &R, mut pass: Pass<Job, QueueView>) -> QueuePass
         requires { IsPassOf self.now.queue pass × (view pass ≡ not_set_up)
-            × (0 < passes_of self.now) }
+            × (0 < passes_of_queue self.now) }
         ensures pass { IsQueuePassOf self.now result }
         ensures view { queue_view result
-            ≡ fresh_queue (shape_of self.now).parents (passes_of self.now) (passes_of self.now) }
+            ≡ fresh_queue (queue_shape self.now).parents (passes_of_queue self.now) (passes_of_queue self.now) }
     {
         let job = self.job(0);
         if self
@@ -115,7 +115,7 @@ impl DirQueue {
         ensures old { IsQueuePassOf self.now pass.new
             × (queue_view pass.new ≡ queue_for_one_less (queue_view pass.old)) }
         ensures new { IsQueuePassOf self.now result
-            × (queue_view result ≡ fresh_queue (shape_of self.now).parents (passes_of self.now) 1) }
+            × (queue_view result ≡ fresh_queue (queue_shape self.now).parents (passes_of_queue self.now) 1) }
     {
         let pass = self.queue.another::<CutOne>(&mut pass.pass);
         QueuePass { pass }
@@ -129,12 +129,12 @@ impl DirQueue {
     ) -> Result<Row<QueuePass>, OutOfMemory>
         requires some { 0 < passes }
         requires pass { IsQueuePassOf self.now pass
-            × (queue_view pass ≡ fresh_queue (shape_of self.now).parents (passes_of self.now)
+            × (queue_view pass ≡ fresh_queue (queue_shape self.now).parents (passes_of_queue self.now)
             passes) }
         ensures len { IfOk result (λ all. length all ≡ passes) }
         ensures each { IfOk result
             (λ all. All (λ p. IsQueuePassOf self.now p
-            × (queue_view p ≡ fresh_queue (shape_of self.now).parents (passes_of self.now) 1)) all) }
+            × (queue_view p ≡ fresh_queue (queue_shape self.now).parents (passes_of_queue self.now) 1)) all) }
     {
         let mut all = Row::new(alloc);
         'passes: for _ in 1..passes {
@@ -166,14 +166,14 @@ impl DirQueue {
     pub fn take<R: Wait>(&self, rt: &R, pass: &mut QueuePass) -> Option<u32>
         requires { IsQueuePassOf self.now pass.old }
         ensures pass { IsQueuePassOf self.now pass.new }
-        ensures taken { Takes (shape_of self.now) (queue_view pass.old) (queue_view pass.new)
+        ensures taken { TakesJob (queue_shape self.now) (queue_view pass.old) (queue_view pass.new)
             result }
-        ensures each { (queue_view pass.old).stands_for ≡ passes_of self.now
+        ensures each { (queue_view pass.old).stands_for ≡ passes_of_queue self.now
             → HoldsEachOnce (queue_view pass.new) }
-        ensures none { (queue_view pass.old).stands_for ≡ passes_of self.now
+        ensures none { (queue_view pass.old).stands_for ≡ passes_of_queue self.now
             → NoneIfAllTaken (queue_view pass.old) result }
-        ensures sound { (queue_view pass.old).stands_for ≡ passes_of self.now
-            → IfNone result (Sound (shape_of self.now) (one_worker (queue_view pass.old))) }
+        ensures sound { (queue_view pass.old).stands_for ≡ passes_of_queue self.now
+            → IfNone result (Sound (queue_shape self.now) (one_worker (queue_view pass.old))) }
     {
         match self.queue.pop_as::<Taking, R>(rt, &mut pass.pass) {
             Some(job) => Some(job.number),
@@ -186,7 +186,7 @@ impl DirQueue {
         requires { IsQueuePassOf self.now into.old × IsQueuePassOf self.now from }
         ensures pass { IsQueuePassOf self.now into.new }
         ensures view { queue_view into.new ≡ queues_joined (queue_view into.old) (queue_view from) }
-        ensures each { (queue_view into.new).stands_for ≡ passes_of self.now
+        ensures each { (queue_view into.new).stands_for ≡ passes_of_queue self.now
             → HoldsEachOnce (queue_view into.new) }
     {
         let QueuePass { pass } = from;
@@ -198,14 +198,14 @@ impl DirQueue {
     /// every job that was given are taken.
     pub fn drain<R: Wait>(&self, rt: &R, pass: &mut QueuePass) -> Option<u32>
         requires pass { IsQueuePassOf self.now pass.old }
-        requires whole { (queue_view pass.old).stands_for ≡ passes_of self.now }
+        requires whole { (queue_view pass.old).stands_for ≡ passes_of_queue self.now }
         ensures pass { IsQueuePassOf self.now pass.new }
-        ensures taken { Takes (shape_of self.now) (queue_view pass.old) (queue_view pass.new)
+        ensures taken { TakesJob (queue_shape self.now) (queue_view pass.old) (queue_view pass.new)
             result }
         ensures each { HoldsEachOnce (queue_view pass.new) }
         ensures none { NoneIfAllTaken (queue_view pass.old) result }
         ensures sound { IfNone result
-            (Sound (shape_of self.now) (one_worker (queue_view pass.old))) }
+            (Sound (queue_shape self.now) (one_worker (queue_view pass.old))) }
     {
         self.take(rt, pass)
     }

@@ -34,10 +34,10 @@ pub struct QueueView {
 pub(crate) struct NothingLostOrDoubled;
 
 impl Protocol<Job, QueueView> for NothingLostOrDoubled {
-    ghost use Rattle.dir_queue.specs.Rule.{IsKept};
+    ghost use Rattle.dir_queue.specs.Rule.{IsJobKept};
     ghost use Rattle.dir_queue.specs.Passes.{not_set_up};
 
-    ghost holds = { IsKept };
+    ghost holds = { IsJobKept };
 
     ghost first = { not_set_up };
 }
@@ -67,9 +67,9 @@ impl Outcome<Job, QueueView> for Offering {
 }
 
 impl Lesson<Job, QueueView> for Offering {
-    ghost use Rattle.dir_queue.specs.Rule.{HasRoom};
+    ghost use Rattle.dir_queue.specs.Rule.{HasQueueRoom};
 
-    ghost fact = { HasRoom };
+    ghost fact = { HasQueueRoom };
 }
 
 /// One take.
@@ -91,9 +91,9 @@ impl Lesson<Job, QueueView> for Taking {
 pub(crate) struct CutOne;
 
 impl Split<QueueView> for CutOne {
-    ghost use Rattle.dir_queue.specs.Passes.{for_one_less, for_one};
+    ghost use Rattle.dir_queue.specs.Passes.{queue_for_one_less, for_one};
 
-    ghost left = { for_one_less };
+    ghost left = { queue_for_one_less };
 
     ghost right = { for_one };
 }
@@ -102,9 +102,9 @@ impl Split<QueueView> for CutOne {
 pub(crate) struct Joining;
 
 impl Join<QueueView> for Joining {
-    ghost use Rattle.dir_queue.specs.Passes.{joined, spent};
+    ghost use Rattle.dir_queue.specs.Passes.{queues_joined, spent};
 
-    ghost both = { joined };
+    ghost both = { queues_joined };
 
     ghost spent = { spent };
 }

@@ -32,7 +32,7 @@ pub struct Labels {
 impl Model for Labels {
     ghost use Rattle.std.specs.Prelude.{List};
     ghost use Rattle.context_syntax.specs.declared.label.Label.{Label};
-    ghost use Rattle.find_records.specs.Labels.{AreSpelled, labels_in};
+    ghost use Rattle.find_records.specs.Labels.{AreLabelsSpelled, labels_in};
 
     ghost Value = { List Label };
 

@@ -35,7 +35,7 @@ pub struct Marks {
 
 impl Model for Marks {
     ghost use Rattle.std.specs.Prelude.{List};
-    ghost use Rattle.find_records.specs.Marks.{AreMarks, Mark, marks_in};
+    ghost use Rattle.find_records.specs.Marks.{AreMarkRows, Mark, marks_in};
 
     ghost Value = { List Mark };
 

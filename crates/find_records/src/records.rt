@@ -45,13 +45,13 @@ impl Drop for Records {
 impl Model for Records {
     ghost use Rattle.std.specs.Prelude.{List};
     ghost use Rattle.find_records.specs.Record.{Record};
-    ghost use Rattle.find_records.specs.Rows.{AreRows, records_in};
+    ghost use Rattle.find_records.specs.Rows.{AreRecordRows, records_in};
 
     ghost Value = { List Record };
 
     ghost view = { λ r. records_in r.texts.items r.marks r.rows.items };
 
-    ghost invariant = { λ r. AreRows r.texts.items r.marks r.rows.items };
+    ghost invariant = { λ r. AreRecordRows r.texts.items r.marks r.rows.items };
 }
 
 fn reserve_row(rows: &mut Vec<RecordRow>) -> Result<(), PathFault>

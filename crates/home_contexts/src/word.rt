@@ -62,7 +62,7 @@ fn word_text(word: Word) -> &'static [u8]
     }
 }
 
-#[tactic(auto, unfolding(crate::specs::Words::word_at))]
+#[tactic(auto, unfolding(crate::specs::Words::template_word_at))]
 fn word_at(text: &[u8]) -> Option<Word>
     ensures { result ≡ template_word_at text.now }
 {

@@ -39,7 +39,7 @@ pub struct Claims {
 impl Claims {
     ghost use Rattle.inode_claims.specs.Answers.{
       IsPassOf,
-      passes_of,
+      passes_of_claims,
       groups_of,
       claim_view,
       Wins,
@@ -55,7 +55,7 @@ impl Claims {
     ) -> Result<(Claims, Row<ClaimPass>), OutOfMemory>
         requires { 0 < passes }
         ensures groups { IfOk result (λ made. groups_of made.0 ≡ groups) }
-        ensures passes { IfOk result (λ made. (passes_of made.0 ≡ passes)
+        ensures passes { IfOk result (λ made. (passes_of_claims made.0 ≡ passes)
             × (length made.1 ≡ passes)) }
         ensures each { IfOk result
             (λ made. All (λ p. IsPassOf made.0 p × (claim_view p ≡ fresh_claims 1)) made.1) }
@@ -71,7 +71,7 @@ impl Claims {
         passes: u32,
     ) -> Result<(Claims, Seat<u8, ClaimView>), AllocError>
         requires { 0 < passes }
-        ensures made { IfOk result (λ r. (groups_of r.0 ≡ groups) × (passes_of r.0 ≡ passes)) }
+        ensures made { IfOk result (λ r. (groups_of r.0 ≡ groups) × (passes_of_claims r.0 ≡ passes)) }
         ensures seat { IfOk result
             (λ r. (r.1.table_id ≡ r.0.table.shared.table_id) × (r.1.me ≡ (fresh_claims passes, []))) }
     {
@@ -91,7 +91,7 @@ impl Claims {
         requires some { 0 < passes }
         requires words { words.now ≡ replicate (groups + 1) NONE_WORD }
         requires room { (room.items ≡ []) × (groups ≤ vec_capacity room) }
-        ensures made { IfOk result (λ r. (groups_of r.0 ≡ groups) × (passes_of r.0 ≡ passes)) }
+        ensures made { IfOk result (λ r. (groups_of r.0 ≡ groups) × (passes_of_claims r.0 ≡ passes)) }
         ensures seat { IfOk result
             (λ r. (r.1.table_id ≡ r.0.table.shared.table_id) × (r.1.me ≡ (fresh_claims passes, []))) }
     {
@@ -179,7 +179,7 @@ impl Claims {
     pub fn close(self, pass: ClaimPass) -> Winners
         requires { IsPassOf self pass }
         ensures wins { Wins (groups_of self) (claim_view pass).calls result }
-        ensures all { (claim_view pass).stands_for ≡ passes_of self
+        ensures all { (claim_view pass).stands_for ≡ passes_of_claims self
             → TellsAll (groups_of self) (claim_view pass).calls result }
         ensures claims { result.claims ≡ min (length (claim_view pass).calls) NONE_WORD }
     {

@@ -27,11 +27,11 @@ pub(crate) struct Least;
 
 impl TableRule<u8, ClaimView, Plan> for Least {
     ghost use Rattle.inode_claims.specs.Rule.{LeastIsKept};
-    ghost use Rattle.inode_claims.specs.Claiming.{fresh};
+    ghost use Rattle.inode_claims.specs.Claiming.{fresh_claims};
 
     ghost holds = { λ plan table. LeastIsKept plan table.words table.views };
 
-    ghost first = { λ plan. fresh plan.passes };
+    ghost first = { λ plan. fresh_claims plan.passes };
 }
 
 /// One claim.
@@ -47,20 +47,20 @@ impl Play<u8, ClaimView> for Claiming {
 pub(crate) struct CutOne;
 
 impl Split<ClaimView> for CutOne {
-    ghost use Rattle.inode_claims.specs.Claiming.{fresh, for_one_less};
+    ghost use Rattle.inode_claims.specs.Claiming.{fresh_claims, claims_for_one_less};
 
-    ghost left = { for_one_less };
+    ghost left = { claims_for_one_less };
 
-    ghost right = { λ _. fresh 1 };
+    ghost right = { λ _. fresh_claims 1 };
 }
 
 /// Two passes made one.
 pub(crate) struct Joining;
 
 impl Join<ClaimView> for Joining {
-    ghost use Rattle.inode_claims.specs.Claiming.{fresh, joined};
+    ghost use Rattle.inode_claims.specs.Claiming.{fresh_claims, claims_joined};
 
-    ghost both = { joined };
+    ghost both = { claims_joined };
 
-    ghost spent = { fresh 0 };
+    ghost spent = { fresh_claims 0 };
 }

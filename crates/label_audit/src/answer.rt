@@ -198,7 +198,7 @@ fn ending_stored(
 }
 
 /// What audit writes: the line that tells its finding. It fails for want of memory alone.
-#[tactic(auto, unfolding(crate::specs::Answer::answer_of))]
+#[tactic(auto, unfolding(crate::specs::Answer::audit_of))]
 pub fn answer_of(
     alloc: Global,
     words: &AuditWords,

@@ -29,7 +29,7 @@ fn add_output(alloc: Global, output: &Option<Name>, list: &mut FileList) -> Resu
 
 impl Tool for AuditWords {
     ghost use Rattle.std.specs.Prelude.{◌<◌, ◌^◌, None, Ok, Some, false, length};
-    ghost use Rattle.label_audit.specs.Answer.{answer_of};
+    ghost use Rattle.label_audit.specs.Answer.{audit_of};
     ghost use Rattle.label_audit.specs.Found.{audit_found};
     ghost use Rattle.label_audit.specs.Plan.{audit_names};
 
@@ -47,7 +47,7 @@ impl Tool for AuditWords {
 
     ghost IsFit = { λ words. length words.inner.choice.operands < 2 ^ 31 };
 
-    ghost answered = { λ words found entries. Ok (answer_of words found entries) };
+    ghost answered = { λ words found entries. Ok (audit_of words found entries) };
 
     fn file_list(&self, alloc: Global) -> Result<FileList, OutOfMemory> {
         let mut list = self.inner.file_list(alloc)?;

@@ -65,7 +65,7 @@ fn verified_ending(
 }
 
 /// What matchpathcon writes. It fails for want of memory alone.
-#[tactic(auto, unfolding(crate::specs::Answer::answer_of))]
+#[tactic(auto, unfolding(crate::specs::Answer::lookups_of))]
 pub fn answer_of(
     alloc: Global,
     words: &LookupWords,

@@ -33,7 +33,7 @@ fn read_found<S: Store>(alloc: Global, list: &FileList, store: &mut S) -> Result
 
 impl Tool for LookupWords {
     ghost use Rattle.std.specs.Prelude.{◌<◌, ◌^◌, None, Ok, false, length};
-    ghost use Rattle.path_lookups.specs.Answer.{answer_of};
+    ghost use Rattle.path_lookups.specs.Answer.{lookups_of};
     ghost use Rattle.path_lookups.specs.Plan.{lookup_names, lookup_records};
 
     type Found = Rules;
@@ -50,7 +50,7 @@ impl Tool for LookupWords {
 
     ghost IsFit = { λ words. length words.paths < 2 ^ 31 };
 
-    ghost answered = { λ words found entries. Ok (answer_of words found entries) };
+    ghost answered = { λ words found entries. Ok (lookups_of words found entries) };
 
     fn file_list(&self, alloc: Global) -> Result<FileList, OutOfMemory> {
         let mut list = FileList::new(alloc);

@@ -37,7 +37,7 @@ pub struct SubList {
 
 impl Model for SubList {
     ghost use Rattle.std.specs.Prelude.{List, length};
-    ghost use Rattle.path_subs.specs.Listed.{IsListed};
+    ghost use Rattle.path_subs.specs.Listed.{AreSubsListed};
     ghost use Rattle.path_subs.specs.Subs.{SubValue};
 
     ghost Value = { List SubValue };

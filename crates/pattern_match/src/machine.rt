@@ -31,7 +31,7 @@ impl Model for Machine {
 
     ghost coded = { tree_code };
 
-    ghost use Rattle.pattern_syntax.specs.Nodes.{tree_of};
+    ghost use Rattle.pattern_syntax.specs.Nodes.{nodes_tree};
     ghost use Rattle.pattern_match.specs.Compiled.{IsCompiled};
 
     ghost view = { λ m. nodes_tree m.nodes.items };

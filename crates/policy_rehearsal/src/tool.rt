@@ -17,7 +17,7 @@ use tree_model::Tree;
 
 impl Tool for RehearseWords {
     ghost use Rattle.std.specs.Prelude.{None, Some, Ok, false, length};
-    ghost use Rattle.policy_rehearsal.specs.Answer.{answer_of};
+    ghost use Rattle.policy_rehearsal.specs.Answer.{rehearsal_of};
     ghost use Rattle.policy_rehearsal.specs.Files.{files_named, rules_read};
     ghost use Rattle.policy_rehearsal.specs.Words.{AreFew};
 
@@ -35,7 +35,7 @@ impl Tool for RehearseWords {
 
     ghost IsFit = { AreFew };
 
-    ghost answered = { λ words policies entries. Ok (answer_of words policies entries) };
+    ghost answered = { λ words policies entries. Ok (rehearsal_of words policies entries) };
 
     fn file_list(&self, alloc: Global) -> Result<FileList, OutOfMemory> {
         let mut list = FileList::new(alloc);

@@ -25,7 +25,7 @@ impl<'w, 'a> Digests<'w, 'a> {
     ghost use Rattle.relabel_core.specs.Changes.{digest_change, digest_changes};
     ghost use Rattle.relabel_core.specs.DigestAfter.{digest_told};
     ghost use Rattle.relabel_core.specs.Digests.{walk_before};
-    ghost use Rattle.relabel_core.specs.Walk.{count, digest_after, has_changed_name};
+    ghost use Rattle.relabel_core.specs.Walk.{walk_count, digest_after, has_changed_name};
 
     /// The walk after which they are.
     pub fn walked(&self) -> &'w Walked<'a>
@@ -37,7 +37,7 @@ impl<'w, 'a> Digests<'w, 'a> {
     // Whether the counts rise from an entry to the end of its extent: where its digest can change,
     // an entry at or below it is a name of a group whose label changes.
     fn does_rise(&self, d: u32) -> bool
-        requires { d < count (walk_before self.now) }
+        requires { d < walk_count (walk_before self.now) }
         ensures { (walk_before self.now).options.dry ≡ false
             → is_some ((walk_before self.now).stored d) ≡ true
             → result ≡ has_changed_name (walk_before self.now) d }
@@ -57,7 +57,7 @@ impl<'w, 'a> Digests<'w, 'a> {
     ///
     /// [`Options::dry`]: crate::Options::dry
     pub fn at(&self, d: u32) -> DigestAfter
-        requires { d < count (walk_before self.now) }
+        requires { d < walk_count (walk_before self.now) }
         ensures { digest_told result ((walk_before self.now).stored d)
             ≡ digest_after (walk_before self.now) d }
     {
@@ -67,7 +67,7 @@ impl<'w, 'a> Digests<'w, 'a> {
 
     /// The digest that an entry's changes to, if it changes.
     pub fn change_at(&self, d: u32) -> Option<Digest>
-        requires { d < count (walk_before self.now) }
+        requires { d < walk_count (walk_before self.now) }
         ensures { result ≡ digest_change (walk_before self.now) d }
     {
         let walked = self.walked;
@@ -76,7 +76,7 @@ impl<'w, 'a> Digests<'w, 'a> {
 
     /// Whether the digest of an entry changes.
     pub fn changes(&self, d: u32) -> bool
-        requires { d < count (walk_before self.now) }
+        requires { d < walk_count (walk_before self.now) }
         ensures { result ≡ digest_changes (walk_before self.now) d }
     {
         self.change_at(d).is_some()
@@ -87,11 +87,11 @@ impl<'a> Walked<'a> {
     ghost use Rattle.std.specs.Prelude.{◌<◌, IfOk};
     ghost use Rattle.relabel_core.specs.Digests.{walk_before};
     ghost use Rattle.relabel_core.specs.Passed.{renewal};
-    ghost use Rattle.relabel_core.specs.Walk.{count};
+    ghost use Rattle.relabel_core.specs.Walk.{walk_count};
 
     /// The digest that was made anew for an entry, if one was.
     pub fn renewed(&self, d: u32) -> Option<Digest>
-        requires { d < count (walk_in self.now) }
+        requires { d < walk_count (walk_in self.now) }
         ensures { result ≡ renewal (walk_in self.now) d }
     {
         if !is_directory(self.input.tree, d) {

@@ -98,7 +98,7 @@ impl<'a> Known<'a> {
     ghost use Rattle.relabel_core.specs.KnownEntry.{index_known, walk_known};
     ghost use Rattle.relabel_core.specs.Walk.{
       conflict_with,
-      count,
+      walk_count,
       decided_line,
       has_conflict,
       is_changed_name,
@@ -156,13 +156,13 @@ impl<'a> Known<'a> {
     // The winner of its group.
     fn winner(&self) -> Option<u32>
         ensures value { result ≡ self.now.winner }
-        ensures within { IfSome result (λ k. k < count (walk_known self.now)) }
+        ensures within { IfSome result (λ k. k < walk_count (walk_known self.now)) }
     {
         self.winner
     }
 
     fn path(&self, e: u32) -> PathRef<'a>
-        requires { e < count (walk_known self.now) }
+        requires { e < walk_count (walk_known self.now) }
         ensures { path_of result ≡ path_at (walk_known self.now) e }
     {
         self.input.tree.entry(e).path

@@ -47,7 +47,7 @@ impl<'a> Walked<'a> {
     ghost use Rattle.relabel_core.specs.KnownEntry.{index_known, walk_known};
     ghost use Rattle.label_rules.specs.LabelAfter.{label_told};
     ghost use Rattle.relabel_core.specs.Walk.{
-      count,
+      walk_count,
       count_wanted,
       deciding,
       group_winner,
@@ -81,21 +81,21 @@ impl<'a> Walked<'a> {
 
     /// How many entries were walked over.
     pub fn len(&self) -> u32
-        ensures { result ≡ count (walk_in self.now) }
+        ensures { result ≡ walk_count (walk_in self.now) }
     {
         self.input.tree.len()
     }
 
     /// The path of an entry.
     pub fn path(&self, e: u32) -> PathRef<'a>
-        requires { e < count (walk_in self.now) }
+        requires { e < walk_count (walk_in self.now) }
         ensures { path_of result ≡ path_at (walk_in self.now) e }
     {
         self.input.tree.entry(e).path
     }
 
     fn group(&self, e: u32) -> u32
-        requires { e < count (walk_in self.now) }
+        requires { e < walk_count (walk_in self.now) }
         ensures value { result ≡ group_of self.now.input.tree.now e }
         ensures within { result < groups_in self.now.input.tree.now }
     {
@@ -104,7 +104,7 @@ impl<'a> Walked<'a> {
 
     /// Whether an entry was looked at: the run is asked for it, and it isn't skipped.
     pub fn is_walked(&self, e: u32) -> bool
-        requires { e < count (walk_in self.now) }
+        requires { e < walk_count (walk_in self.now) }
         ensures { result ≡ walked (walk_in self.now) e }
     {
         is_walked(&self.input, e, is_skipped(&self.input, &self.passed, e))
@@ -112,7 +112,7 @@ impl<'a> Walked<'a> {
 
     /// Whether an entry is a directory that is skipped, and below no other such one.
     pub fn is_skipped_first(&self, e: u32) -> bool
-        requires { e < count (walk_in self.now) }
+        requires { e < walk_count (walk_in self.now) }
         ensures { result ≡ is_skipped_first (walk_in self.now) e }
     {
         self.known(e).is_skipped_first()
@@ -120,7 +120,7 @@ impl<'a> Walked<'a> {
 
     /// The index of the specification that decides an entry, if one does.
     pub fn deciding(&self, e: u32) -> Option<u32>
-        requires { e < count (walk_in self.now) }
+        requires { e < walk_count (walk_in self.now) }
         ensures { result ≡ deciding (walk_in self.now) e }
     {
         self.noted.decided_at(e)
@@ -137,7 +137,7 @@ impl<'a> Walked<'a> {
     fn winner_in(&self, g: u32) -> Option<u32>
         requires { g < groups_in (walk_in self.now).entries }
         ensures value { result ≡ winner (walk_in self.now) g }
-        ensures within { IfSome result (λ k. k < count (walk_in self.now)) }
+        ensures within { IfSome result (λ k. k < walk_count (walk_in self.now)) }
     {
         self.noted.winner_at(g)
     }
@@ -145,16 +145,16 @@ impl<'a> Walked<'a> {
     /// The winner of an entry's group, if it has one: the first of its entries for which a context
     /// is decided.
     pub fn winner(&self, e: u32) -> Option<u32>
-        requires { e < count (walk_in self.now) }
+        requires { e < walk_count (walk_in self.now) }
         ensures value { result ≡ group_winner (walk_in self.now) e }
-        ensures within { IfSome result (λ k. k < count (walk_in self.now)) }
+        ensures within { IfSome result (λ k. k < walk_count (walk_in self.now)) }
     {
         self.winner_in(self.group(e))
     }
 
     // What decides the winner of a group.
     fn winning(&self, found: Option<u32>) -> Option<u32>
-        requires { IfSome found (λ k. k < count (walk_in self.now)) }
+        requires { IfSome found (λ k. k < walk_count (walk_in self.now)) }
         ensures { result ≡ option_and_then (deciding (walk_in self.now)) found }
     {
         match found {
@@ -165,7 +165,7 @@ impl<'a> Walked<'a> {
 
     /// What is known of an entry.
     pub fn known(&self, e: u32) -> Known<'a>
-        requires { e < count (walk_in self.now) }
+        requires { e < walk_count (walk_in self.now) }
         ensures walk { walk_known result ≡ walk_in self.now }
         ensures index { index_known result ≡ e }
     {
@@ -183,7 +183,7 @@ impl<'a> Walked<'a> {
     /// The context that is decided for an entry, if one is.
     #[tactic(auto, unfolding(crate::specs::Walk::wanted))]
     pub fn wanted(&self, e: u32) -> Option<&'a Context>
-        requires { e < count (walk_in self.now) }
+        requires { e < walk_count (walk_in self.now) }
         ensures { option_copied result ≡ wanted (walk_in self.now) e }
     {
         given_at(self.input.rules, self.deciding(e))
@@ -192,7 +192,7 @@ impl<'a> Walked<'a> {
     /// Whether a context is decided for an entry.
     #[tactic(auto, unfolding(crate::specs::Walk::wanted))]
     pub fn is_wanted(&self, e: u32) -> bool
-        requires { e < count (walk_in self.now) }
+        requires { e < walk_count (walk_in self.now) }
         ensures { result ≡ is_wanted (walk_in self.now) e }
     {
         does_give(self.input.rules, self.deciding(e))
@@ -211,7 +211,7 @@ impl<'a> Walked<'a> {
 
     // The context that is decided for the winner of a group.
     fn wanted_by(&self, found: Option<u32>) -> Option<&'a Context>
-        requires { IfSome found (λ k. k < count (walk_in self.now)) }
+        requires { IfSome found (λ k. k < walk_count (walk_in self.now)) }
         ensures { option_copied result ≡ option_and_then (wanted (walk_in self.now)) found }
     {
         match found {
@@ -230,7 +230,7 @@ impl<'a> Walked<'a> {
 
     /// The context that the label of an entry changes to, if it changes.
     pub fn change_at(&self, e: u32) -> Option<ContextRef<'a>>
-        requires { e < count (walk_in self.now) }
+        requires { e < walk_count (walk_in self.now) }
         ensures { option_map context_lent result ≡ change_at (walk_in self.now) e }
     {
         self.known(e).change()
@@ -238,7 +238,7 @@ impl<'a> Walked<'a> {
 
     /// Whether an entry is a name of a group whose label changes.
     pub fn is_changed(&self, e: u32) -> bool
-        requires { e < count (walk_in self.now) }
+        requires { e < walk_count (walk_in self.now) }
         ensures { result ≡ is_changed_name (walk_in self.now) e }
     {
         self.known(e).is_changed()
@@ -247,7 +247,7 @@ impl<'a> Walked<'a> {
     /// The label of an entry after the walk: that of its group, which changes at the group's
     /// winner.
     pub fn label_at(&self, e: u32) -> LabelAfter<'a>
-        requires { e < count (walk_in self.now) }
+        requires { e < walk_count (walk_in self.now) }
         ensures { label_told result ≡ label_after (walk_in self.now) e }
     {
         self.known(e).label()
@@ -255,7 +255,7 @@ impl<'a> Walked<'a> {
 
     /// What is told of an entry, if anything is.
     pub fn message_at(&self, e: u32) -> Option<Message<'a>>
-        requires { e < count (walk_in self.now) }
+        requires { e < walk_count (walk_in self.now) }
         ensures { option_map message_of result ≡ line (walk_in self.now) e }
     {
         self.known(e).message()
@@ -263,7 +263,7 @@ impl<'a> Walked<'a> {
 
     /// Whether an entry is decided to another context than the winner of its group.
     pub fn has_conflict(&self, e: u32) -> bool
-        requires { e < count (walk_in self.now) }
+        requires { e < walk_count (walk_in self.now) }
         ensures { result ≡ has_conflict (walk_in self.now) e }
     {
         self.known(e).has_conflict()

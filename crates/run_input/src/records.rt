@@ -68,7 +68,7 @@ fn no_entries(alloc: Global) -> Result<Tree, Cause>
 ///
 /// The error is a failed read, a limit that is passed, the first record that is none, or the first
 /// two of one path.
-#[tactic(auto, unfolding(crate::specs::Records::entries_of))]
+#[tactic(auto, unfolding(crate::specs::Records::records_read))]
 pub fn read_tree<I: Source>(alloc: Global, format: Format, input: &mut I) -> Result<Tree, Cause>
     ensures answer { IfSome (I.left input.old) (λ bytes. Gives (records_read format bytes) result) }
     ensures ended { OnOk result (IfSome (I.left input.old) (λ bytes. I.left input.new ≡ Some [])) }

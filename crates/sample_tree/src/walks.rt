@@ -70,7 +70,7 @@ fn line_at(kind: LineKind, walked: &Walked<'_>, e: u32) -> u32
 }
 
 // How many entries have a line of a kind.
-#[tactic(auto, using(crate::proofs::WalkLemmas::one_more_line), unfolding(crate::specs::Walks::lines_of))]
+#[tactic(auto, using(crate::proofs::WalkLemmas::one_more_line), unfolding(crate::specs::Walks::lines_of_kind))]
 fn lines_of(kind: LineKind, walked: &Walked<'_>) -> u32
     ensures { result ≡ lines_of_kind kind (walk_in walked.now) }
 {

@@ -91,7 +91,7 @@ fn read_attr(alloc: Global, line: &[u8]) -> Result<Attr, Fault<DumpWhy>>
     made_attr(alloc, key, given)
 }
 
-#[tactic(auto, unfolding(crate::specs::Texts::is_marked))]
+#[tactic(auto, unfolding(crate::specs::Texts::is_file_line))]
 fn is_marked(line: &[u8]) -> bool
     ensures value { result ≡ is_file_line line.now }
     ensures bound { result ≡ true → length FILE_MARK.now ≤ length line.now }

@@ -26,13 +26,13 @@ pub struct Lists {
 }
 
 impl Model for Lists {
-    ghost use Rattle.spec_match.specs.Written.{Written, written_in, AreWritten};
+    ghost use Rattle.spec_match.specs.Written.{Written, written_in, AreListsWritten};
 
     ghost Value = { Written };
 
     ghost view = { written_in };
 
-    ghost invariant = { AreWritten };
+    ghost invariant = { AreListsWritten };
 }
 
 fn mixed(hash: u64, number: u64) -> u64 {

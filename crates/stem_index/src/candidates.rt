@@ -23,7 +23,7 @@ pub struct Candidates<'a> {
 
 impl<'a> Model for Candidates<'a> {
     ghost use Rattle.std.specs.Prelude.{List, ℕ};
-    ghost use Rattle.stem_index.specs.Kept.{AreHeads};
+    ghost use Rattle.stem_index.specs.Kept.{AreStemHeads};
     ghost use Rattle.stem_index.specs.Stems.{candidates_below};
 
     ghost Value = { List ℕ };

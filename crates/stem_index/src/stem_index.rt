@@ -26,7 +26,7 @@ pub struct StemIndex {
 
 impl Model for StemIndex {
     ghost use Rattle.std.specs.Prelude.{List, ℕ};
-    ghost use Rattle.stem_index.specs.Kept.{IsKept};
+    ghost use Rattle.stem_index.specs.Kept.{AreStemsKept};
 
     ghost Value = { List (List ℕ) };
 

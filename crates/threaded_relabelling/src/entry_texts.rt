@@ -21,9 +21,9 @@ struct Lines<'w, 'a> {
 impl Texts for Lines<'_, '_> {
     ghost use Rattle.relabel_core.specs.Answer.{walk_in};
     ghost use Rattle.relabel_core.specs.Report.{optional_text};
-    ghost use Rattle.relabel_core.specs.Walk.{count, line};
+    ghost use Rattle.relabel_core.specs.Walk.{walk_count, line};
 
-    ghost count = { λ lines. count (walk_in lines.walked.now) };
+    ghost count = { λ lines. walk_count (walk_in lines.walked.now) };
 
     ghost text = { λ lines e. optional_text (line (walk_in lines.walked.now) e) };
 
@@ -48,9 +48,9 @@ struct Sections<'d, 'w, 'a> {
 impl Texts for Sections<'_, '_, '_> {
     ghost use Rattle.relabel_core.specs.Changes.{optional_section, section_at};
     ghost use Rattle.relabel_core.specs.Digests.{walk_before};
-    ghost use Rattle.relabel_core.specs.Walk.{count};
+    ghost use Rattle.relabel_core.specs.Walk.{walk_count};
 
-    ghost count = { λ sections. count (walk_before sections.digests.now) };
+    ghost count = { λ sections. walk_count (walk_before sections.digests.now) };
 
     ghost text = { λ sections e.
         optional_section (section_at (walk_before sections.digests.now) e) };

@@ -32,7 +32,7 @@ impl<R: Threads + Wait + Sync> Drop for ByWorkers<'_, R> {
 impl<'r, R: Threads + Wait + Sync> Tool for ByWorkers<'r, R> {
     ghost use Rattle.std.specs.Prelude.{◌<◌, ◌^◌, Ok, Some, length};
     ghost use Rattle.std.specs.Thread.{IsSync};
-    ghost use Rattle.tree_relabelling.specs.Answer.{answer_of};
+    ghost use Rattle.tree_relabelling.specs.Answer.{relabelling_of};
     ghost use Rattle.tree_relabelling.specs.Found.{found_for};
     ghost use Rattle.tree_relabelling.specs.Plan.{relabel_names};
 
@@ -50,7 +50,7 @@ impl<'r, R: Threads + Wait + Sync> Tool for ByWorkers<'r, R> {
 
     ghost IsFit = { λ by. (length by.words.choice.operands < 2 ^ 31) × IsSync R.row };
 
-    ghost answered = { λ by found entries. Ok (answer_of by.words found entries) };
+    ghost answered = { λ by found entries. Ok (relabelling_of by.words found entries) };
 
     fn file_list(&self, alloc: Global) -> Result<FileList, OutOfMemory> {
         self.words.file_list(alloc)

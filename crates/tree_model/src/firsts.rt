@@ -18,7 +18,7 @@ const MIX: u64 = 0x9E37_79B9_7F4A_7C15;
 const STEPS: u64 = 8;
 
 // The bucket of an inode, one of so many.
-#[tactic(auto, unfolding(crate::specs::Firsts::bucket_of))]
+#[tactic(auto, unfolding(crate::specs::Firsts::inode_bucket))]
 fn bucket_of(inode: Inode, count: u32) -> u32
     requires { 0 < count }
     ensures { result ≡ inode_bucket count inode }

@@ -19,7 +19,7 @@ pub struct JobEntries<'a> {
 
 impl<'a> Model for JobEntries<'a> {
     ghost use Rattle.std.specs.Prelude.{List, ℕ};
-    ghost use Rattle.tree_model.specs.Jobs.{IsPlaced, entries_from};
+    ghost use Rattle.tree_model.specs.Jobs.{IsPlaced, children_from};
 
     ghost Value = { List ℕ };
 

@@ -23,13 +23,13 @@ pub struct Numbered<'a> {
 
 impl<'a> Model for Numbered<'a> {
     ghost use Rattle.tree_model.specs.Numbered.{Numbered};
-    ghost use Rattle.tree_model.specs.Known.{IsKnown, with_number};
+    ghost use Rattle.tree_model.specs.Known.{IsPathKnown, with_number};
 
     ghost Value = { Numbered };
 
     ghost view = { λ n. with_number n.records.now n.number };
 
-    ghost invariant = { λ n. IsKnown n.key n.number n.records.now };
+    ghost invariant = { λ n. IsPathKnown n.key n.number n.records.now };
 }
 
 impl<'a> Numbered<'a> {

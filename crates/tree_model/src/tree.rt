@@ -58,9 +58,9 @@ impl Drop for Tree {
 
 impl Model for Tree {
     ghost use Rattle.std.specs.Prelude.{List};
-    ghost use Rattle.find_records.specs.Record.{AreOf, Record};
+    ghost use Rattle.find_records.specs.Record.{AreOfFormat, Record};
     ghost use Rattle.find_records.specs.declared.format.Format.{Format};
-    ghost use Rattle.tree_model.specs.Kept.{IsKept};
+    ghost use Rattle.tree_model.specs.Kept.{IsTreeKept};
 
     ghost Value = { List Record };
 

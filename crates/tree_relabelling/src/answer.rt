@@ -127,7 +127,7 @@ fn ending_stored<W: Walker>(
 
 /// What setfiles and restorecon write: the report of a walk, and its dump where one is asked for,
 /// whoever walks. It fails for want of memory alone.
-#[tactic(auto, unfolding(crate::specs::Answer::answer_of))]
+#[tactic(auto, unfolding(crate::specs::Answer::relabelling_of))]
 pub fn answer_of<W: Walker>(
     walker: &W,
     alloc: Global,

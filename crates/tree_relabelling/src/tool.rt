@@ -31,7 +31,7 @@ fn add_stored(alloc: Global, stored: &Option<Name>, list: &mut FileList) -> Resu
 
 impl Tool for RelabelWords {
     ghost use Rattle.std.specs.Prelude.{◌<◌, ◌^◌, Ok, Some, length};
-    ghost use Rattle.tree_relabelling.specs.Answer.{answer_of};
+    ghost use Rattle.tree_relabelling.specs.Answer.{relabelling_of};
     ghost use Rattle.tree_relabelling.specs.Found.{found_for};
     ghost use Rattle.tree_relabelling.specs.Plan.{relabel_names};
 
@@ -49,7 +49,7 @@ impl Tool for RelabelWords {
 
     ghost IsFit = { λ words. length words.choice.operands < 2 ^ 31 };
 
-    ghost answered = { λ words found entries. Ok (answer_of words found entries) };
+    ghost answered = { λ words found entries. Ok (relabelling_of words found entries) };
 
     fn file_list(&self, alloc: Global) -> Result<FileList, OutOfMemory> {
         let mut list = FileList::new(alloc);

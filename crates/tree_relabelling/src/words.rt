@@ -142,7 +142,7 @@ fn lacks_output(items: &[Item<'_>]) -> bool
 }
 
 // What is missing at the end of the words, whose number this is.
-#[tactic(auto, unfolding(crate::specs::Words::end_wrong))]
+#[tactic(auto, unfolding(crate::specs::Words::relabel_end_wrong))]
 fn end_wrong(items: &[Item<'_>], count: u32) -> Option<Usage>
     ensures { result ≡ relabel_end_wrong items.now count }
 {

@@ -104,7 +104,7 @@ impl Machine {
       after_take,
       after_offer,
       after_claim,
-      after,
+      step_after,
       Refuses,
     };
 
@@ -188,7 +188,7 @@ impl Machine {
     fn make(&mut self, shape: &Shape, step: &Step) -> Result<(), OutOfMemory>
         requires valid { IsValid shape.now }
         requires allowed { is_allowed shape.now (state_of self.old) step.now ≡ true }
-        ensures { OnOk result (state_of self.new ≡ after shape.now (state_of self.old) step.now) }
+        ensures { OnOk result (state_of self.new ≡ step_after shape.now (state_of self.old) step.now) }
     {
         match *step {
             Step::Take { worker } => self.take(worker),
@@ -205,7 +205,7 @@ impl Machine {
         requires valid { IsValid shape.now }
         ensures ok { OnOk result (is_allowed shape.now (state_of self.old) step.now ≡ true) }
         ensures after { OnOk result
-            (state_of self.new ≡ after shape.now (state_of self.old) step.now) }
+            (state_of self.new ≡ step_after shape.now (state_of self.old) step.now) }
         ensures err { IfErr result
             (Refuses index (is_allowed shape.now (state_of self.old) step.now)) }
     {
