@@ -53,7 +53,7 @@ impl Passed {
 
     /// The same, with room to note of so many entries whether they are skipped.
     pub fn with_room(alloc: Global, count: u32) -> Result<Passed, OutOfMemory>
-        ensures skips { IfOk result (λ passed. passed.skips.items ≡ replicate walk_count Skip.Not) }
+        ensures skips { IfOk result (λ passed. passed.skips.items ≡ replicate count Skip.Not) }
         ensures made { IfOk result (λ passed. (d : ℕ) → digests_in passed.made d ≡ None) }
     {
         let skips = none_skipped(alloc, count)?;
@@ -110,7 +110,7 @@ fn put_skip(skips: &mut Vec<Skip>, e: u32, skip: Skip)
 }
 
 fn none_skipped(alloc: Global, count: u32) -> Result<Vec<Skip>, OutOfMemory>
-    ensures { IfOk result (λ skips. skips.items ≡ replicate walk_count Skip.Not) }
+    ensures { IfOk result (λ skips. skips.items ≡ replicate count Skip.Not) }
 {
     let mut skips = Vec::with_capacity(alloc, count as usize)?;
     'places: for _ in 0..count {

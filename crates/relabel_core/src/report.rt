@@ -86,7 +86,7 @@ fn add_entries(alloc: Global, walked: &Walked<'_>, to: &mut Bytes) -> Result<(),
 
 /// So many flags that are not raised.
 pub fn no_flags(alloc: Global, count: u32) -> Result<Vec<bool>, OutOfMemory>
-    ensures { IfOk result (λ flags. flags.items ≡ replicate walk_count false) }
+    ensures { IfOk result (λ flags. flags.items ≡ replicate count false) }
 {
     let mut flags = Vec::with_capacity(alloc, count as usize)?;
     'places: for _ in 0..count {

@@ -177,9 +177,9 @@ fn put_winners(input: &WalkInput<'_>, winners: &Winners, noted: &mut Noted)
 
 // Nothing decides any entry.
 fn decide_none(count: u32, noted: &mut Noted)
-    requires { length noted.old.decided.items ≡ walk_count }
-    ensures none { (e : ℕ) → e < walk_count → found_in noted.new.decided.items e ≡ None }
-    ensures room { length noted.new.decided.items ≡ walk_count }
+    requires { length noted.old.decided.items ≡ count }
+    ensures none { (e : ℕ) → e < count → found_in noted.new.decided.items e ≡ None }
+    ensures room { length noted.new.decided.items ≡ count }
     ensures winners { noted.new.winners.items ≡ noted.old.winners.items }
 {
     'entries: for e in 0..count {

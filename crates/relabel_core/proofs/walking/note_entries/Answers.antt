@@ -4,8 +4,8 @@ use Rattle.relabel_core.specs.Walked.{walk_of}
 use Rattle.relabel_core.proofs.NotedLemmas.{all_noted, more_walked, within_walked}
 use Rattle.relabel_core.proofs.walking.note_entries.Goals as goal
 
-pub returns-in_err-found-clause-walk_count : goal.returns-in_err-found-clause-walk_count
-returns-in_err-found-clause-walk_count g c =
+pub returns-in_err-found-clause-count : goal.returns-in_err-found-clause-count
+returns-in_err-found-clause-count g c =
     within_walked (walk_of c.args.input.now) c.entries.e (length c.args.input.now.tree.now)
     c.entries.steps c.decide_entry.new.steps c.args.steps.now
     (omega (arith, c.entries-test.true, c.len-e-end.ensures)) c.entries.invariant.count

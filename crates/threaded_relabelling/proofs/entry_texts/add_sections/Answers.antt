@@ -8,5 +8,5 @@ use Rattle.threaded_relabelling.proofs.entry_texts.add_sections.Goals as goal
 pub returns : goal.returns
 returns g c =
     IfOk-weaker _ _ _ (λ made m. sections_made (walk_before c.args.digests.now) c.args.to made
-    c.len-walk_count.result
-    (c.len-walk_count.ensures ∙ ap walk_count c.walked.ensures) m) c.add_texts.ensures
+    c.len-count.result
+    (c.len-count.ensures ∙ ap walk_count c.walked.ensures) m) c.add_texts.ensures
