@@ -21,14 +21,14 @@ use Rattle.pattern_syntax.specs.Shape.{is_proper, is_sequence, is_choice, tree_s
 use Rattle.pattern_syntax.specs.Building.{IsBuilderOf, Ends, ExplainedAs, IsProperLevel}
 use Rattle.pattern_syntax.specs.Building.{IsProperIfAny, fault_of, outer_counts, outer_trees}
 use Rattle.pattern_syntax.specs.Building.{tree_on, level_counts, capped_positions, capped}
-use Rattle.pattern_syntax.specs.Parts.{AreWholeNodes}
+use Rattle.pattern_syntax.specs.Parts.{AreParts, start_trees, pattern_tree, lead_of}
 use Rattle.pattern_syntax.specs.declared.builder.Builder.{Builder}
 use Rattle.pattern_syntax.specs.declared.builder.Level.{Level}
 use Rattle.pattern_syntax.specs.declared.pattern_fault.PatternWhy.{PatternWhy}
 use Rattle.pattern_syntax.specs.declared.pattern_fault.PatternWhy.TheVariants.{Syntax, TooDeep}
 use Rattle.pattern_syntax.specs.declared.pattern_fault.PatternWhy.TheVariants.{TooManyPositions}
 use Rattle.pattern_syntax.specs.declared.node.Node.TheVariants as node
-use Rattle.pattern_syntax.specs.Nodes.{after_node, after_nodes, trees_behind, rest_tree}
+use Rattle.pattern_syntax.specs.Nodes.{after_node, after_nodes}
 use Rattle.pattern_syntax.specs.declared.node.Node.{Node}
 use Rattle.pattern_syntax.specs.declared.limits.TheConstants.{MOST_GROUPS, MOST_POSITIONS}
 
@@ -36,10 +36,6 @@ pub after_append : (ns : List Node) (n : Node) (stack : List Tree)
     → after_nodes (ns ++ n ∷ []) stack ≡ after_node n (after_nodes ns stack)
 after_append [] n stack = refl
 after_append (m ∷ ns) n stack = after_append ns n (after_node m stack)
-
-pub after_pushed : (new old : List Node) (n : Node) → new ≡ old ++ n ∷ []
-    → trees_behind new ≡ after_node n (trees_behind old)
-after_pushed new old n e = ap (λ l. trees_behind l) e ∙ after_append old n (tree.Nothing ∷ [])
 
 pub outer_length : (outer : List reading.Level) → length (outer_counts outer) ≡ length outer
 outer_length [] = refl
@@ -103,17 +99,18 @@ open_outer old read count s e =
 
 pub open_stands : (old new : Builder) (read : Reading) (count at : ℕ) → IsBuilderOf old read
     → length old.outer.items < MOST_GROUPS → count ≡ capped_positions (sequence_of read.level)
-    → trees_behind new.nodes.items
+    → start_trees new.start new.nodes.items
     ≡ tree.Nothing ∷ (sequence_of read.level ∷ tree_on read.level.sides
     (outer_trees read.outer))
     → new.level ≡ level_counts new_level
     → new.outer.items ≡ old.outer.items
     ++ record { sides = old.level.sides; sequence = count; piece = None } ∷ []
-    → length new.nodes.items + 1
+    → 2 * length new.start + length new.nodes.items + 1
     ≡ 1 + (tree_size (sequence_of read.level) + stack_size
     (tree_on read.level.sides (outer_trees read.outer)))
+    → lead_of new.nodes.items ≡ None
     → (fault_of read at tokens.Open ≡ None) × IsBuilderOf new (after_token read tokens.Open)
-open_stands old new read count at s small e trees level outer size =
+open_stands old new read count at s small e trees level outer size led =
     let p = s.level_proper in
     let q = sequence_proper read.level.sequence read.level.piece p.shape p.sequence p.piece in
     let l = ap length s.outer ∙ outer_length read.outer in (
@@ -129,6 +126,7 @@ open_stands old new read count at s small e trees level outer size =
           s.outer_proper,
         );
         size = size;
+        led = led;
       },
     )
 
@@ -188,15 +186,18 @@ pub repeat_stands : (old new : Builder) (sides : Option Tree) (sequence : Tree)
       level = record { sides = sides; sequence = sequence; piece = piece };
       outer = outer;
     }) → old.level.piece ≡ Some count
-    → trees_behind new.nodes.items ≡ after_node node.Both
-    (after_node (node.Repeat least most) (trees_behind old.nodes.items))
+    → start_trees new.start new.nodes.items ≡ after_node node.Both
+    (after_node (node.Repeat least most) (start_trees old.start old.nodes.items))
     → new.level ≡ record {
       sides = old.level.sides;
       sequence = capped
           (old.level.sequence + capped (count * factor least most));
       piece = None;
     }
-    → new.outer.items ≡ old.outer.items → length new.nodes.items ≡ length old.nodes.items + 2
+    → new.outer.items ≡ old.outer.items
+    → 2 * length new.start + length new.nodes.items
+    ≡ 2 * length old.start + length old.nodes.items + 2
+    → lead_of new.nodes.items ≡ None
     → (fault_of (record {
       level = record { sides = sides; sequence = sequence; piece = piece };
       outer = outer;
@@ -207,11 +208,12 @@ pub repeat_stands : (old new : Builder) (sides : Option Tree) (sequence : Tree)
       level = record { sides = sides; sequence = sequence; piece = piece };
       outer = outer;
     }) (tokens.Times least most))
-repeat_stands old new sides sequence None outer least most count at s p nodes level out size =
+repeat_stands old new sides sequence None outer least most count at s p nodes level out size
+    led =
     absurd (let e : old.level.piece ≡ None = ap (λ (l : Level). l.piece) s.level in
     let f : Some count ≡ None = sym p ∙ e in cc)
 repeat_stands old new sides sequence (Some tree) outer least most count at s p nodes level out
-    size =
+    size led =
     let e : old.level.piece ≡ Some (capped_positions tree) = ap (λ (l : Level). l.piece) s.level in
     let f : count ≡ capped_positions tree = cc in (
       refl,
@@ -230,6 +232,7 @@ repeat_stands old new sides sequence (Some tree) outer least most count at s p n
             };
         outer_proper = s.outer_proper;
         size = let n = s.size in omega (arith, n, size);
+        led = led;
       },
     )
 
@@ -252,8 +255,9 @@ finish_many old new read at count s e h ends k =
     let n = ends.counted in
     ends_many at read (omega (arith, l, g)) (omega (arith, n, k))
 
-whole_tree : (nodes : List Node) (t : Tree) → trees_behind nodes ≡ t ∷ [] → rest_tree nodes ≡ t
-whole_tree nodes t e = ap tree_from e
+whole_tree : (start : List ℕ) (nodes : List Node) (t : Tree) → start_trees start nodes ≡ t ∷ []
+    → pattern_tree start nodes ≡ t
+whole_tree start nodes t e = ap tree_from e
 
 choice_proper : (level : reading.Level) → IsProperLevel level → is_proper (sides_of level) ≡ true
 choice_proper level p = side_proper level.sides (sequence_of level) p.sides
@@ -288,15 +292,16 @@ no_levels (around ∷ outer) h = absurd (omega arith)
 pub finish_whole : (old new : Builder) (read : Reading) (at count : ℕ) → IsBuilderOf old read
     → new.outer ≡ old.outer → length new.outer.items ≡ 0
     → Ends new (outer_trees read.outer) (sides_of read.level) count → count ≤ MOST_POSITIONS
-    → (reads_as at read [] ≡ Ok (rest_tree new.nodes.items)) × AreWholeNodes new.nodes.items
+    → (reads_as at read [] ≡ Ok (pattern_tree new.start new.nodes.items))
+    × AreParts new.start new.nodes.items
 finish_whole old new read at count s e h ends k =
     let l = ap length s.outer ∙ outer_length read.outer in
     let g : length old.outer.items ≡ 0 = rw e at h in
     let z : length read.outer ≡ 0 = omega (arith, l, g) in
     let n = ends.counted in
-    let stack : trees_behind new.nodes.items ≡ sides_of read.level ∷ [] = ends.trees
+    let stack : start_trees new.start new.nodes.items ≡ sides_of read.level ∷ [] = ends.trees
     ∙ ap (λ (ts : List Tree). sides_of read.level ∷ ts) (no_levels read.outer z) in
-    let t = whole_tree new.nodes.items (sides_of read.level) stack in (
+    let t = whole_tree new.start new.nodes.items (sides_of read.level) stack in (
       ends_whole at read z (omega (arith, n, k)) ∙ ap (λ (u : Tree). Ok u) (sym t),
       record {
         builds = stack ∙ ap (λ (u : Tree). u ∷ []) (sym t);
@@ -306,6 +311,7 @@ finish_whole old new read at count s e h ends k =
             (no_levels read.outer z)
             ∙ (let m : tree_size (sides_of read.level) + 0 ≡ tree_size (sides_of read.level) = omega
             arith in m) ∙ ap tree_size (sym t);
+        led = ends.led;
       },
     )
 

@@ -4,6 +4,7 @@ pub mod ClassLemmas
 pub mod BracketLemmas
 pub mod TokenLemmas
 pub mod BuildingLemmas
+pub mod StartLemmas
 pub mod ReadingLemmas
 pub mod ShapeLemmas
 pub mod GrammarLemmas

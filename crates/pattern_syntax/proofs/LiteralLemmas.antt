@@ -1,21 +1,21 @@
 -- The nodes of a pattern begin with its literal start, and so does each text of its language.
-use Rattle.std.proofs.Common.{◌≡◌, ◌∙◌, sym, refl, ap, subst, ℕ, suc, zero, ◌+◌, ◌==◌, ◌<◌, ◌≤◌}
+use Rattle.std.proofs.Common.{◌≡◌, ◌∙◌, sym, refl, ap, subst, ℕ, suc, zero, ◌+◌, ◌==◌, ◌≤◌}
 use Rattle.std.proofs.Common.{Bool, true, false, ◌&&◌, ◌||◌, List, [], ◌∷◌, ◌++◌, length, map, drop}
 use Rattle.std.proofs.Common.{get_or, append_assoc, append-nil, arith}
 use Rattle.std.specs.Prelude.{Option, Some, None, unwrap_or}
 use Rattle.std.specs.List.{list_any}
-use Rattle.std.proofs.lemmas.List.{drop_more, length-drop, length-map, length_push, get_or_push}
+use Rattle.std.proofs.lemmas.List.{length-map, length_push, get_or_push}
 use Rattle.std.proofs.lemmas.Bool.Decides.{nat_tests}
 use Rattle.std.specs.Cmp.{first_so, second_so}
 use Rattle.pattern_syntax.specs.ByteSet.{only_of}
 use Rattle.pattern_syntax.specs.Tree as tree
 use Rattle.pattern_syntax.specs.Tree.{Tree, TreeNode, tree_nodes}
 use Rattle.pattern_syntax.specs.Language.{In}
-use Rattle.pattern_syntax.specs.Nodes.{after_node, after_nodes, rest_tree}
+use Rattle.pattern_syntax.specs.Nodes.{after_node, after_nodes, trees_behind, rest_tree}
 use Rattle.pattern_syntax.specs.Shape.{is_proper, is_sequence, is_choice, tree_size, stack_size}
 use Rattle.pattern_syntax.specs.Literal.{single_byte, start_joined, single_bytes, literal_start_of}
 use Rattle.pattern_syntax.specs.Literal.{node_code, code_byte, led_byte, is_several}
-use Rattle.pattern_syntax.specs.Parts.{AreWholeNodes}
+use Rattle.pattern_syntax.specs.Parts.{lead_of, start_nodes}
 use Rattle.pattern_syntax.specs.declared.node.Node.{Node}
 use Rattle.pattern_syntax.specs.declared.node.Node.TheVariants as node
 
@@ -377,47 +377,18 @@ pub leading_start : (ns : List Node) (t : Tree) → map node_code ns ≡ tree_no
     → is_proper t ≡ true → is_sequence t ≡ true → leading_from 1 ns ≡ literal_start_of t
 leading_start ns t e h k = ap leading_bytes (sym (drop_codes 1 ns)) ∙ start_of_nodes ns t e h k
 
-pub two_nodes : (ns : List Node) (at : ℕ) (d : Node) → at + 1 < length ns
-    → drop at ns ≡ get_or ns at d ∷ (get_or ns (at + 1) d ∷ drop (at + 2) ns)
-two_nodes ns at d h =
-    let e : at + 1 + 1 ≡ at + 2 = omega arith in
-    drop_more ns at d (omega arith) ∙ ap (λ (l : List Node). get_or ns at d ∷ l)
-    (drop_more ns (at + 1) d h ∙ ap (λ (n : ℕ). get_or ns (at + 1) d ∷ drop n ns) e)
-
 lead_none : (o : Option ℕ) (joins : Bool) (rest : List ℕ) → led_byte o joins ≡ None
     → leads o joins rest ≡ []
 lead_none (Some b) true rest h = absurd (let f : Some b ≡ None = h in cc)
 lead_none (Some b) false rest h = refl
 lead_none None joins rest h = refl
 
-lead_some : (o : Option ℕ) (joins : Bool) (rest : List ℕ) (b : ℕ) → led_byte o joins ≡ Some b
-    → leads o joins rest ≡ b ∷ rest
-lead_some (Some c) true rest b h = let f : Some c ≡ Some b = h in let g : c ≡ b = cc in
-    ap (λ (x : ℕ). x ∷ rest) g
-lead_some (Some c) false rest b h = absurd (let f : None ≡ Some b = h in cc)
-lead_some None joins rest b h = absurd (let f : None ≡ Some b = h in cc)
-
-abbrev pub led_at : List Node → ℕ → Node → Option ℕ
-led_at ns at d = led_byte (code_byte (node_code (get_or ns at d)))
-    ((node_code (get_or ns (at + 1) d)).0 == 2)
-
-pub leading_none : (ns : List Node) (at : ℕ) (d : Node) → at + 1 < length ns → led_at ns at d ≡ None
-    → leading_from at ns ≡ []
-leading_none ns at d h e = ap (λ (l : List Node). leading_bytes (map node_code l))
-    (two_nodes ns at d h) ∙ lead_none _ _ (leading_from (at + 2) ns) e
-
-pub leading_some : (ns : List Node) (at b : ℕ) (d : Node) → at + 1 < length ns
-    → led_at ns at d ≡ Some b → leading_from at ns ≡ b ∷ leading_from (at + 2) ns
-leading_some ns at b d h e = ap (λ (l : List Node). leading_bytes (map node_code l))
-    (two_nodes ns at d h) ∙ lead_some _ _ (leading_from (at + 2) ns) b e
-
-short_leads : (ns : List Node) → length ns ≤ 1 → leading_bytes (map node_code ns) ≡ []
-short_leads [] h = refl
-short_leads (n ∷ []) h = refl
-short_leads (n ∷ m ∷ ns) h = absurd (omega arith)
-
-pub leading_end : (ns : List Node) (at : ℕ) → length ns ≤ at + 1 → leading_from at ns ≡ []
-leading_end ns at h = short_leads (drop at ns) (let l = length-drop at ns in omega (arith, l))
+-- behind an empty sequence the nodes build one tree, of a pattern's shape
+pub record AreWholeNodes (nodes : List Node) : Type 0 where
+  pub builds : trees_behind nodes ≡ rest_tree nodes ∷ []
+  pub proper : is_proper (rest_tree nodes) ≡ true
+  pub choice : is_choice (rest_tree nodes) ≡ true
+  pub size : length nodes + 1 ≡ tree_size (rest_tree nodes)
 
 -- behind the first node stand nodes that lead with the literal start, or the last says that there
 -- are several sides
@@ -447,10 +418,12 @@ pub text_begins : (t : Tree) (start : List ℕ) → start ≡ literal_start_of t
 text_begins t start e text h = let r = begins_with_start t text h in
     (r.0, r.1 ∙ ap (λ (l : List ℕ). l ++ r.0) (sym e))
 
-pub one_more : (ns : List Node) (start new : List ℕ) (at b : ℕ) (d : Node) → at + 1 < length ns
-    → led_at ns at d ≡ Some b → leading_from 0 ns ≡ start ++ leading_from at ns
-    → new ≡ start ++ b ∷ [] → leading_from 0 ns ≡ new ++ leading_from (at + 2) ns
-one_more ns start new at b d h e k f =
-    k ∙ ap (λ (l : List ℕ). start ++ l) (leading_some ns at b d h e)
-    ∙ sym (append_assoc start (b ∷ []) (leading_from (at + 2) ns))
-    ∙ ap (λ (l : List ℕ). l ++ leading_from (at + 2) ns) (sym f)
+pub start_leads : (start : List ℕ) (nodes : List Node) → leading_from 0 (start_nodes start ++ nodes)
+    ≡ start ++ leading_from 0 nodes
+start_leads [] nodes = refl
+start_leads (b ∷ start) nodes = ap (λ (l : List ℕ). b ∷ l) (start_leads start nodes)
+
+pub no_leads : (nodes : List Node) → lead_of nodes ≡ None → leading_from 0 nodes ≡ []
+no_leads [] h = refl
+no_leads (n ∷ []) h = refl
+no_leads (n ∷ m ∷ nodes) h = lead_none _ _ (leading_from 0 nodes) h

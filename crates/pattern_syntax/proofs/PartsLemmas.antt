@@ -1,27 +1,23 @@
 -- The tree of a pattern is that of its rest, with the start in place of the first empty sequence;
 -- so is its language.
-use Rattle.std.proofs.Common.{◌≡◌, ◌∙◌, sym, refl, ap, subst, ℕ, ◌+◌, ◌*◌, ◌==◌, ◌<◌, ◌≤◌, Bool}
-use Rattle.std.proofs.Common.{true, false, ◌&&◌, ◌||◌, List, [], ◌∷◌, ◌++◌, length, drop, get_or}
+use Rattle.std.proofs.Common.{◌≡◌, ◌∙◌, sym, refl, ap, subst, ℕ, ◌==◌, Bool}
+use Rattle.std.proofs.Common.{true, false, ◌&&◌, ◌||◌, List, [], ◌∷◌, ◌++◌}
 use Rattle.std.proofs.Common.{append_assoc, append-nil, arith}
-use Rattle.std.specs.Prelude.{Option, Some, None, fold, ◌↔◌}
-use Rattle.std.proofs.lemmas.List.{length_push}
-use Rattle.std.proofs.lemmas.List.Sums.{fold_push}
+use Rattle.std.specs.Prelude.{Some, None, fold, ◌↔◌}
 use Rattle.std.proofs.lemmas.Bool.Decides.{nat_tests}
 use Rattle.std.specs.Cmp.{first_so, second_so}
-use Rattle.pattern_syntax.specs.ByteSet.{only_of, bytes_with, has_byte}
+use Rattle.pattern_syntax.specs.ByteSet.{only_of}
 use Rattle.pattern_syntax.specs.Tree as tree
 use Rattle.pattern_syntax.specs.Tree.{Tree, tree_from}
 use Rattle.pattern_syntax.specs.Language.{In}
 use Rattle.pattern_syntax.specs.Nodes.{after_node, after_nodes, trees_behind, rest_tree}
 use Rattle.pattern_syntax.specs.Shape.{is_proper, is_sequence, is_choice}
-use Rattle.pattern_syntax.specs.Literal.{literal_start_of, node_code, code_byte, led_byte}
+use Rattle.pattern_syntax.specs.Literal.{literal_start_of}
 use Rattle.pattern_syntax.specs.Literal.{is_several}
-use Rattle.pattern_syntax.specs.Parts.{with_byte, bytes_tree, pattern_tree, Follows, AreWholeNodes}
-use Rattle.pattern_syntax.specs.Parts.{IsStart, IsPattern}
+use Rattle.pattern_syntax.specs.Parts.{with_byte, bytes_tree, pattern_tree, Follows, IsPattern}
 use Rattle.pattern_syntax.specs.declared.node.Node.{Node}
 use Rattle.pattern_syntax.specs.declared.node.Node.TheVariants as node
-use Rattle.pattern_syntax.proofs.LiteralLemmas.{leading_from, led_at, single_text, two_nodes}
-use Rattle.pattern_syntax.proofs.LiteralLemmas.{one_more, whole_leads, several_start, not_several}
+use Rattle.pattern_syntax.proofs.LiteralLemmas.{single_text, several_start, not_several}
 
 -- ---- the start within the tree
 
@@ -209,79 +205,10 @@ pub rest_alone : (start : List ℕ) (rest : List Node) → IsPattern start rest
     → trees_behind rest ≡ rest_tree rest ∷ []
 rest_alone start rest p = (parts_apart start rest (pattern_tree start rest) p.builds).0
 
--- ---- the walk over the single bytes at the beginning
-
-led_both : (o : Option ℕ) (joins : Bool) (b : ℕ) → led_byte o joins ≡ Some b → (o ≡ Some b)
-    × (joins ≡ true)
-led_both None joins b h = absurd (let f : None ≡ Some b = h in cc)
-led_both (Some c) true b h = (h, refl)
-led_both (Some c) false b h = absurd (let f : None ≡ Some b = h in cc)
+-- ---- sets of one byte
 
 pub only_byte : (bytes : List ℕ) (b : ℕ) → only_of bytes ≡ Some b → bytes ≡ b ∷ []
 only_byte [] b h = absurd (let f : None ≡ Some b = h in cc)
 only_byte (x ∷ []) b h = let f : Some x ≡ Some b = h in let g : x ≡ b = cc in
     ap (λ (y : ℕ). y ∷ []) g
 only_byte (x ∷ y ∷ bytes) b h = absurd (let f : None ≡ Some b = h in cc)
-
-byte_node : (n : Node) (b : ℕ) (stack : List Tree) → code_byte (node_code n) ≡ Some b
-    → after_node n stack ≡ tree.Set (b ∷ []) ∷ stack
-byte_node (node.Byte c) b stack h = ap (λ (l : List ℕ). tree.Set l ∷ stack) (only_byte (c ∷ []) b h)
-byte_node (node.Set set) b stack h =
-    ap (λ (l : List ℕ). tree.Set l ∷ stack) (only_byte (bytes_with (has_byte set)) b h)
-byte_node node.Nothing b stack h = absurd (let f : None ≡ Some b = h in cc)
-byte_node node.Both b stack h = absurd (let f : None ≡ Some b = h in cc)
-byte_node node.Either b stack h = absurd (let f : None ≡ Some b = h in cc)
-byte_node (node.Repeat least most) b stack h = absurd (let f : None ≡ Some b = h in cc)
-
-joining_node : (n : Node) (first second : Tree) → ((node_code n).0 == 2) ≡ true
-    → after_node n (second ∷ first ∷ []) ≡ tree.Both first second ∷ []
-joining_node (node.Byte c) first second h = absurd (let f : false ≡ true = h in cc)
-joining_node (node.Set set) first second h = absurd (let f : false ≡ true = h in cc)
-joining_node node.Nothing first second h = absurd (let f : false ≡ true = h in cc)
-joining_node node.Both first second h = refl
-joining_node node.Either first second h = absurd (let f : false ≡ true = h in cc)
-joining_node (node.Repeat least most) first second h = absurd (let f : false ≡ true = h in cc)
-
-led_step : (n m : Node) (t : Tree) (b : ℕ) → led_byte (code_byte (node_code n))
-    ((node_code m).0 == 2) ≡ Some b → after_node m (after_node n (t ∷ [])) ≡ with_byte t b ∷ []
-led_step n m t b h =
-    let l = led_both (code_byte (node_code n)) ((node_code m).0 == 2) b h in
-    ap (λ (s : List Tree). after_node m s) (byte_node n b (t ∷ []) l.0)
-    ∙ joining_node m t (tree.Set (b ∷ [])) l.1
-
--- so many nodes were passed, and these are their bytes
-pub record Passed (nodes : List Node) (start : List ℕ) (at : ℕ) : Type 0 where
-  pub within : at ≤ length nodes
-  pub twice : at ≡ 2 * length start
-  pub leads : leading_from 0 nodes ≡ start ++ leading_from at nodes
-  pub builds : after_nodes (drop at nodes) (bytes_tree start ∷ []) ≡ rest_tree nodes ∷ []
-
-pub one_passed : (nodes : List Node) (start new : List ℕ) (at b : ℕ) (d : Node)
-    → at + 1 < length nodes → led_at nodes at d ≡ Some b → new ≡ start ++ b ∷ []
-    → Passed nodes start at → Passed nodes new (at + 2)
-one_passed nodes start new at b d h l e p = record {
-  within = omega arith;
-  twice = let t = p.twice in let n = ap length e in let m = length_push start b in
-      omega (arith, t, n, m);
-  leads = one_more nodes start new at b d h l p.leads e;
-  builds =
-      ap (λ (s : List ℕ). after_nodes (drop (at + 2) nodes) (bytes_tree s ∷ [])) e
-      ∙ ap (λ (t : Tree). after_nodes (drop (at + 2) nodes) (t ∷ []))
-      (fold_push with_byte tree.Nothing start b)
-      ∙ ap (λ (s : List Tree). after_nodes (drop (at + 2) nodes) s)
-      (sym (led_step (get_or nodes at d) (get_or nodes (at + 1) d) (bytes_tree start) b l))
-      ∙ ap (λ (ns : List Node). after_nodes ns (bytes_tree start ∷ []))
-      (sym (two_nodes nodes at d h)) ∙ p.builds;
-}
-
-pub all_passed : (nodes : List Node) (start : List ℕ) (at : ℕ) → AreWholeNodes nodes
-    → is_several (rest_tree nodes) ≡ false → Passed nodes start at → leading_from at nodes ≡ []
-    → IsStart nodes start
-all_passed nodes start at w s p e =
-    let t = p.twice in record {
-      within = let i = p.within in omega (arith, t, i);
-      literal = sym (whole_leads nodes w s) ∙ p.leads ∙ ap (λ (l : List ℕ). start ++ l) e
-          ∙ append-nil start;
-      builds = ap (λ (n : ℕ). after_nodes (drop n nodes) (bytes_tree start ∷ [])) (sym t)
-          ∙ p.builds;
-    }

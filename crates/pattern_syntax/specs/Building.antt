@@ -1,13 +1,13 @@
 -- What a builder of a pattern stands for.
-use Rattle.std.specs.Prelude.{◌≡◌, ℕ, ◌+◌, min, true, List, [], ◌∷◌, ◌++◌, length, Option, Some}
-use Rattle.std.specs.Prelude.{None, option_map, is_some, Result, Ok, Err}
+use Rattle.std.specs.Prelude.{◌≡◌, ℕ, ◌+◌, ◌*◌, ◌<◌, ◌≤◌, min, true, List, [], ◌∷◌, ◌++◌, length}
+use Rattle.std.specs.Prelude.{drop, fold, Option, Some, None, option_map, is_some, Result, Ok, Err}
 use Rattle.std.specs.Global.{Vec}
 use Rattle.label_base.specs.Answers.{Explains}
 use Rattle.pattern_syntax.specs.Tree.{Tree, Set}
 use Rattle.pattern_syntax.specs.Shape.{is_proper, is_proper_set, is_sequence, stack_size}
-use Rattle.pattern_syntax.specs.Nodes.{after_node, trees_behind, rest_tree}
-use Rattle.pattern_syntax.specs.Parts.{AreWholeNodes}
-use Rattle.pattern_syntax.specs.Tokens.{Token, Bytes, Open, Close, Bar, Anchor, Times}
+use Rattle.pattern_syntax.specs.Nodes.{after_node}
+use Rattle.pattern_syntax.specs.Parts.{AreParts, start_trees, pattern_tree, lead_of}
+use Rattle.pattern_syntax.specs.Tokens.{Token, Bytes, Open, Close, Bar, Anchor, Times, tokens_from}
 use Rattle.pattern_syntax.specs.Reading as reading
 use Rattle.pattern_syntax.specs.Reading.{Reading, positions, after_token, structure_fault, reads_as}
 use Rattle.pattern_syntax.specs.PatternCause.{pattern_cause}
@@ -66,21 +66,25 @@ AreProperLevels [] = Unit {0}
 AreProperLevels (around ∷ outer) =
     (around.piece ≡ None) × IsProperLevel around × AreProperLevels outer
 
--- the builder's nodes are the trees of what is read, and its counts are theirs
+-- the builder's nodes behind its start are the trees of what is read, and its counts are theirs
 pub record IsBuilderOf (builder : Builder) (read : Reading) : Type 0 where
-  pub trees : trees_behind builder.nodes.items ≡ level_trees read.level (outer_trees read.outer)
+  pub trees : start_trees builder.start builder.nodes.items
+      ≡ level_trees read.level (outer_trees read.outer)
   pub level : builder.level ≡ level_counts read.level
   pub outer : builder.outer.items ≡ outer_counts read.outer
   pub level_proper : IsProperLevel read.level
   pub outer_proper : AreProperLevels read.outer
-  pub size : length builder.nodes.items + 1
+  pub size : 2 * length builder.start + length builder.nodes.items + 1
       ≡ stack_size (level_trees read.level (outer_trees read.outer))
+  pub led : lead_of builder.nodes.items ≡ None
 
 -- the nodes end a tree that stands on these, and this is its count
 pub record Ends (builder : Builder) (stack : List Tree) (tree : Tree) (count : ℕ) : Type 0 where
-  pub trees : trees_behind builder.nodes.items ≡ tree ∷ stack
+  pub trees : start_trees builder.start builder.nodes.items ≡ tree ∷ stack
   pub counted : count ≡ capped_positions tree
-  pub size : length builder.nodes.items + 1 ≡ stack_size (tree ∷ stack)
+  pub size : 2 * length builder.start + length builder.nodes.items + 1
+      ≡ stack_size (tree ∷ stack)
+  pub led : lead_of builder.nodes.items ≡ None
 
 abbrev pub IsProperToken : Token → Type 0
 IsProperToken (Bytes bytes) = is_proper_set bytes ≡ true
@@ -112,11 +116,27 @@ Steps (Err e) old new place token =
 abbrev pub IsSetNode : Node → List ℕ → Type 0
 IsSetNode node bytes = (stack : List Tree) → after_node node stack ≡ Set bytes ∷ stack
 
--- what is read is whole, and the nodes are those of its tree; or the error is its fault, or want of
--- memory
-abbrev pub Finishes : Result (Vec Node) PatternFault → Reading → ℕ → Type 0
-Finishes (Ok nodes) read end =
-    (reads_as end read [] ≡ Ok (rest_tree nodes.items)) × AreWholeNodes nodes.items
+abbrev pub after_bytes : Reading → List ℕ → Reading
+after_bytes read bytes = fold (λ (r : Reading) (b : ℕ). after_token r (Bytes (b ∷ []))) read bytes
+
+-- what the text reads as from a place on is what it reads as from the next place on, behind what is
+-- read up to there; or the error is its fault, or want of memory
+abbrev pub ReadsOn : Result ℕ PatternFault → Builder → Builder → List ℕ → ℕ → Type 0
+ReadsOn (Ok next) old new text place =
+    (place < next) × (next ≤ length text) × ((read : Reading) → IsBuilderOf old read
+    → (more : Reading) × IsBuilderOf new more × (reads_as (length text) read
+    (tokens_from place 0 (drop place text))
+    ≡ reads_as (length text) more (tokens_from next 0 (drop next text))))
+ReadsOn (Err e) old new text place =
+    (read : Reading) → IsBuilderOf old read → Explains (pattern_cause e)
+    (reads_as (length text) read (tokens_from place 0 (drop place text)))
+
+-- what is read is whole, and the start and the nodes are those of its tree; or the error is its
+-- fault, or want of memory
+abbrev pub Finishes : Result (List ℕ × Vec Node) PatternFault → Reading → ℕ → Type 0
+Finishes (Ok parts) read end =
+    (reads_as end read [] ≡ Ok (pattern_tree parts.0 parts.1.items))
+    × AreParts parts.0 parts.1.items
 Finishes (Err e) read end = Explains (pattern_cause e) (reads_as end read [])
 
 abbrev pub side_positions : Option Tree → ℕ

@@ -27,6 +27,9 @@ abbrev pub is_proper_set : List ℕ → Bool
 is_proper_set [] = false
 is_proper_set (b ∷ bs) = list_all is_text_byte (b ∷ bs)
 
+abbrev pub are_text_bytes : List ℕ → Bool
+are_text_bytes bytes = list_all is_text_byte bytes
+
 -- each set is proper, and what stands before the last piece of a sequence is a sequence
 abbrev pub is_proper : Tree → Bool
 is_proper (Set bytes) = is_proper_set bytes

@@ -1,16 +1,19 @@
 //! The nodes of a pattern, built as its tokens are read.
-ghost use Rattle.std.specs.Prelude.{◌≡◌, ◌+◌, ◌*◌, ◌∷◌, ◌++◌, [], length, ◌<◌, min, IfOk, OnOk};
-ghost use Rattle.std.specs.Prelude.{Some, ℕ, List, true, is_some};
+ghost use Rattle.std.specs.Prelude.{◌≡◌, ◌==◌, ◌+◌, ◌*◌, ◌∷◌, ◌++◌, [], length, ◌<◌, ◌^◌, min};
+ghost use Rattle.std.specs.Prelude.{IfOk, OnOk, Some, None, ℕ, List, true, false, is_some};
 ghost use Rattle.std.specs.Bool.{OnTrue};
 ghost use Rattle.pattern_syntax.specs.Tokens as tokens;
-ghost use Rattle.pattern_syntax.specs.Nodes.{after_node, trees_behind};
+ghost use Rattle.pattern_syntax.specs.Nodes.{after_node, after_nodes};
+ghost use Rattle.pattern_syntax.specs.Literal.{node_code, code_byte};
+ghost use Rattle.pattern_syntax.specs.Parts.{start_nodes, start_trees, lead_of, lone_byte};
+ghost use Rattle.pattern_syntax.specs.declared.node.Node.TheVariants as node_of;
 ghost use Rattle.pattern_syntax.specs.Reading.{Reading, new_level, new_reading, sequence_of};
 ghost use Rattle.pattern_syntax.specs.Reading.{sides_of, after_token};
 ghost use Rattle.pattern_syntax.specs.Reading as reading;
 ghost use Rattle.pattern_syntax.specs.Building.{capped, level_counts, tree_on, outer_trees};
 ghost use Rattle.pattern_syntax.specs.Building.{IsBuilderOf, Ends, Steps, Finishes, IsProperToken};
-ghost use Rattle.pattern_syntax.specs.Building.{IsSetNode, base_positions};
-ghost use Rattle.pattern_syntax.specs.Shape.{is_proper_set};
+ghost use Rattle.pattern_syntax.specs.Building.{IsSetNode, base_positions, after_bytes};
+ghost use Rattle.pattern_syntax.specs.Shape.{is_proper_set, are_text_bytes};
 ghost use Rattle.pattern_syntax.specs.Views.{token_of};
 ghost use Rattle.pattern_syntax.specs.declared.limits.TheConstants.{MOST_POSITIONS};
 
@@ -18,8 +21,11 @@ use crate::limits::{MOST_GROUPS, MOST_POSITIONS};
 use crate::node::Node;
 use crate::pattern_fault::PatternFault;
 use crate::token::Token;
-use label_base::OutOfMemory;
+use label_base::{Bytes, OutOfMemory};
 use std::alloc::Global;
+
+/// What most patterns need behind their start; a row that needs more grows.
+const NODES_ROOM: usize = 24;
 
 /// What is read of a choice, by its positions, counted up to one more than a pattern may have: its
 /// sides before the last bar, the sequence since, and the piece that a repeat may follow.
@@ -43,9 +49,11 @@ impl Level {
 }
 
 /// The nodes so far, in postfix order, behind an empty sequence, but for those that join a level's
-/// parts; the innermost choice, and those around it.
+/// parts; the innermost choice, and those around it. Bytes that come first, joined one after
+/// another, are kept as bytes, and have no nodes.
 #[derive(Drop)]
 pub(crate) struct Builder {
+    start: Bytes,
     nodes: Vec<Node>,
     level: Level,
     outer: Vec<Level>,
@@ -72,24 +80,60 @@ fn factor(least: u32, most: Option<u32>) -> u32
     }
 }
 
+/// The byte of a node of a single byte.
+fn byte_of(node: &Node) -> Option<u8>
+    ensures { result ≡ code_byte (node_code node.now) }
+{
+    match node {
+        Node::Byte(b) => Some(*b),
+        Node::Set(set) => set.only(),
+        _ => None,
+    }
+}
+
+/// The byte of the only node, if that is of a single byte.
+fn lone_byte(nodes: &[Node]) -> Option<u8>
+    ensures { result ≡ lone_byte nodes.now }
+{
+    match nodes {
+        [node] => byte_of(node),
+        _ => None,
+    }
+}
+
+/// Adds the nodes of bytes that are joined to a sequence, one after another.
+pub(crate) fn push_bytes(nodes: &mut Vec<Node>, bytes: &[u8]) -> Result<(), OutOfMemory>
+    ensures { OnOk result (nodes.new.items ≡ nodes.old.items ++ start_nodes bytes.now) }
+{
+    'bytes: for b in bytes {
+        nodes.push(Node::Byte(*b))?;
+        nodes.push(Node::Both)?;
+    }
+    Ok(())
+}
+
 impl Builder {
-    /// Nothing read yet, with room for so many nodes.
-    pub(crate) fn with_room(alloc: Global, room: usize) -> Result<Builder, OutOfMemory>
+    /// Nothing read yet.
+    pub(crate) fn new(alloc: Global) -> Result<Builder, OutOfMemory>
         ensures { IfOk result (λ builder. IsBuilderOf builder new_reading) }
     {
         Ok(Builder {
-            nodes: Vec::with_capacity(alloc, room)?,
+            start: Bytes::new(alloc),
+            nodes: Vec::with_capacity(alloc, NODES_ROOM)?,
             level: Level::new(),
             outer: Vec::new(alloc),
         })
     }
 
-    #[tactic(auto, using(crate::proofs::BuildingLemmas::after_pushed))]
-    fn push(&mut self, node: Node) -> Result<(), OutOfMemory>
+    /// Adds a node that joins nothing.
+    #[tactic(auto, using(crate::proofs::StartLemmas::trees_put))]
+    fn put(&mut self, node: Node) -> Result<(), OutOfMemory>
         ensures size { OnOk result (length self.new.nodes.items ≡ length self.old.nodes.items + 1) }
-        ensures nodes { OnOk result
-            (trees_behind self.new.nodes.items
-            ≡ after_node node (trees_behind self.old.nodes.items)) }
+        ensures start { self.new.start ≡ self.old.start }
+        ensures trees { OnOk result (start_trees self.new.start self.new.nodes.items
+            ≡ after_node node (start_trees self.old.start self.old.nodes.items)) }
+        ensures led { OnOk result (((node_code node).0 == 2) ≡ false
+            → lead_of self.old.nodes.items ≡ None → lead_of self.new.nodes.items ≡ None) }
         ensures level { self.new.level ≡ self.old.level }
         ensures outer { self.new.outer ≡ self.old.outer }
     {
@@ -97,8 +141,52 @@ impl Builder {
         Ok(())
     }
 
+    /// Joins the last piece to the sequence before it. A byte right behind the start becomes its
+    /// last one.
+    fn join(&mut self) -> Result<(), OutOfMemory>
+        ensures size { OnOk result (2 * length self.new.start + length self.new.nodes.items
+            ≡ 2 * length self.old.start + length self.old.nodes.items + 1) }
+        ensures trees { OnOk result (start_trees self.new.start self.new.nodes.items
+            ≡ after_node node_of.Both (start_trees self.old.start self.old.nodes.items)) }
+        ensures led { OnOk result
+            (lead_of self.old.nodes.items ≡ None → lead_of self.new.nodes.items ≡ None) }
+        ensures level { self.new.level ≡ self.old.level }
+        ensures outer { self.new.outer ≡ self.old.outer }
+    {
+        match lone_byte(self.nodes.as_slice()) {
+            None => self.nodes.push(Node::Both)?,
+            Some(b) => {
+                self.start.push_byte(b)?;
+                self.nodes.clear();
+            }
+        }
+        Ok(())
+    }
+
+    /// Joins bytes to the sequence, one after another.
+    fn join_bytes(&mut self, bytes: &[u8]) -> Result<(), OutOfMemory>
+        ensures size { OnOk result (2 * length self.new.start + length self.new.nodes.items
+            ≡ 2 * length self.old.start + length self.old.nodes.items + 2 * length bytes.now) }
+        ensures trees { OnOk result (start_trees self.new.start self.new.nodes.items
+            ≡ after_nodes (start_nodes bytes.now)
+            (start_trees self.old.start self.old.nodes.items)) }
+        ensures led { OnOk result
+            (lead_of self.old.nodes.items ≡ None → lead_of self.new.nodes.items ≡ None) }
+        ensures level { self.new.level ≡ self.old.level }
+        ensures outer { self.new.outer ≡ self.old.outer }
+    {
+        let nodes = self.nodes.len();
+        if nodes == 0 {
+            self.start.push(bytes)?;
+        } else {
+            push_bytes(&mut self.nodes, bytes)?;
+        }
+        Ok(())
+    }
+
     /// Goes into a new level within this one.
     fn enter(&mut self, around: Level) -> Result<(), OutOfMemory>
+        ensures start { self.new.start ≡ self.old.start }
         ensures nodes { self.new.nodes ≡ self.old.nodes }
         ensures level { OnOk result (self.new.level ≡ level_counts new_level) }
         ensures outer { OnOk result (self.new.outer.items ≡ self.old.outer.items ++ around ∷ []) }
@@ -120,7 +208,7 @@ impl Builder {
         match self.level.piece {
             None => Ok(self.level.sequence),
             Some(piece) => {
-                self.push(Node::Both)?;
+                self.join()?;
                 Ok(sum(self.level.sequence, piece))
             }
         }
@@ -138,7 +226,7 @@ impl Builder {
         match self.level.sides {
             None => Ok(sequence),
             Some(sides) => {
-                self.push(Node::Either)?;
+                self.put(Node::Either)?;
                 Ok(sum(sides, sequence))
             }
         }
@@ -152,10 +240,33 @@ impl Builder {
             → IsSetNode node bytes → IsBuilderOf self.new (after_token read (tokens.Bytes bytes))) }
     {
         let count = self.end_sequence()?;
-        self.push(node)?;
+        self.put(node)?;
         self.level = Level {
             sides: self.level.sides,
             sequence: count,
+            piece: Some(1),
+        };
+        Ok(())
+    }
+
+    /// Adds bytes that stand for themselves.
+    pub(crate) fn add_bytes(&mut self, bytes: &[u8]) -> Result<(), OutOfMemory>
+        requires { length bytes.now < 2 ^ 32 }
+        ensures { OnOk result
+            ((read : Reading) → IsBuilderOf self.old read → are_text_bytes bytes.now ≡ true
+            → IsBuilderOf self.new (after_bytes read bytes.now)) }
+    {
+        let length = bytes.len();
+        if length == 0 {
+            return Ok(());
+        }
+        let last = length - 1;
+        let count = self.end_sequence()?;
+        self.join_bytes(&bytes[..last])?;
+        self.put(Node::Byte(bytes[last]))?;
+        self.level = Level {
+            sides: self.level.sides,
+            sequence: sum(count, last as u32),
             piece: Some(1),
         };
         Ok(())
@@ -183,7 +294,7 @@ impl Builder {
             return Err(PatternFault::TooDeep { at });
         }
         let count = self.end_sequence()?;
-        self.push(Node::Nothing)?;
+        self.put(Node::Nothing)?;
         self.enter(Level {
             sides: self.level.sides,
             sequence: count,
@@ -215,7 +326,7 @@ impl Builder {
             → IsBuilderOf self.new (after_token read tokens.Bar)) }
     {
         let count = self.end_choice()?;
-        self.push(Node::Nothing)?;
+        self.put(Node::Nothing)?;
         self.level = Level {
             sides: Some(count),
             sequence: 0,
@@ -230,8 +341,8 @@ impl Builder {
         match self.level.piece {
             None => Err(PatternFault::Syntax { at }),
             Some(piece) => {
-                self.push(Node::Repeat { least, most })?;
-                self.push(Node::Both)?;
+                self.put(Node::Repeat { least, most })?;
+                self.join()?;
                 let count = product(piece, factor(least, most));
                 self.level = Level {
                     sides: self.level.sides,
@@ -259,8 +370,8 @@ impl Builder {
         }
     }
 
-    /// The nodes, where the text ends here, which is at most 2^32 - 1.
-    pub(crate) fn finish(mut self, at: u32) -> Result<Vec<Node>, PatternFault>
+    /// The start and the nodes behind it, where the text ends here, which is at most 2^32 - 1.
+    pub(crate) fn finish(mut self, at: u32) -> Result<(Bytes, Vec<Node>), PatternFault>
         ensures { (read : Reading) → IsBuilderOf self read → Finishes result read at }
     {
         let count = self.end_choice()?;
@@ -272,11 +383,12 @@ impl Builder {
             return Err(PatternFault::TooManyPositions);
         }
         let Builder {
+            start,
             nodes,
             level: _,
             outer: _,
         } = self;
-        Ok(nodes)
+        Ok((start, nodes))
     }
 
     /// Whether a repeat may follow.

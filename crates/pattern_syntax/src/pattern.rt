@@ -1,15 +1,15 @@
-ghost use Rattle.std.specs.Prelude.{◌≡◌, ◌==◌, ◌∷◌, [], ◌<◌, ◌^◌, length, IfOk, Ok, Err, true, ℕ};
-ghost use Rattle.std.specs.Prelude.{List, ◌↔◌};
+ghost use Rattle.std.specs.Prelude.{◌≡◌, ◌==◌, ◌∷◌, ◌++◌, [], ◌<◌, ◌^◌, length, IfOk, Ok, Err};
+ghost use Rattle.std.specs.Prelude.{true, ℕ, List, ◌↔◌};
 ghost use Rattle.label_base.specs.Answers.{Answers};
 ghost use Rattle.pattern_syntax.specs.Nodes.{after_nodes, trees_behind, rest_tree};
-ghost use Rattle.pattern_syntax.specs.Literal.{node_code, code_byte, led_byte, is_several};
-ghost use Rattle.pattern_syntax.specs.Parts.{AreWholeNodes, IsStart, IsPattern};
+ghost use Rattle.pattern_syntax.specs.Literal.{node_code, is_several};
+ghost use Rattle.pattern_syntax.specs.Parts.{AreParts, pattern_tree, start_nodes};
+ghost use Rattle.pattern_syntax.specs.Building.{ReadsOn};
 
-use crate::builder::Builder;
-use crate::limits::MOST_POSITIONS;
+use crate::builder::{Builder, push_bytes};
 use crate::node::Node;
 use crate::pattern_fault::PatternFault;
-use crate::placed::token_from;
+use crate::placed::{run_length, token_from};
 use crate::rest::refuse_rest;
 use label_base::{Bytes, OutOfMemory};
 use std::alloc::Global;
@@ -50,54 +50,40 @@ fn is_either(node: &Node) -> bool
     matches!(node, Node::Either)
 }
 
-/// The byte of a node of a single byte that the next node joins to the sequence before it.
-fn joined_byte(node: &Node, next: &Node) -> Option<u8>
-    ensures { result ≡ led_byte (code_byte (node_code node.now)) ((node_code next.now).0 == 2) }
-{
-    match next {
-        Node::Both => match node {
-            Node::Byte(b) => Some(*b),
-            Node::Set(set) => set.only(),
-            _ => None,
-        },
-        _ => None,
-    }
-}
-
-/// Whether the nodes behind an empty sequence make a choice of several sides.
-fn have_sides(nodes: &[Node]) -> bool
-    requires { AreWholeNodes nodes.now }
-    ensures { result ≡ is_several (rest_tree nodes.now) }
+/// Whether the nodes behind a start make a choice of several sides.
+fn have_sides(start: &[u8], nodes: &[Node]) -> bool
+    requires { AreParts start.now nodes.now }
+    ensures { result ≡ is_several (pattern_tree start.now nodes.now) }
 {
     nodes.len() > 0 && is_either(&nodes[nodes.len() - 1])
 }
 
-/// The literal start of the nodes behind an empty sequence.
-fn leading_bytes(alloc: Global, nodes: &[Node]) -> Result<Bytes, OutOfMemory>
-    requires { AreWholeNodes nodes.now }
-    ensures { IfOk result (λ start. IsStart nodes.now start) }
+/// The nodes of a start, and those behind it.
+fn all_nodes(alloc: Global, start: &[u8], nodes: &[Node]) -> Result<Vec<Node>, OutOfMemory>
+    ensures { IfOk result (λ all. all.items ≡ start_nodes start.now ++ nodes.now) }
 {
-    let mut start = Bytes::with_capacity(alloc, nodes.len() / 2)?;
-    if have_sides(nodes) {
-        return Ok(start);
-    }
-    let mut at = 0;
-    'bytes: while at + 1 < nodes.len() {
-        match joined_byte(&nodes[at], &nodes[at + 1]) {
-            None => return Ok(start),
-            Some(b) => {
-                start.push_byte(b)?;
-                at += 2;
-            }
-        }
-    }
-    Ok(start)
+    let room = start.len().saturating_mul(2).saturating_add(nodes.len());
+    let mut all = Vec::with_capacity(alloc, room)?;
+    push_bytes(&mut all, start)?;
+    all.extend_from_slice(nodes)?;
+    Ok(all)
 }
 
-// Room for two nodes a byte, which most texts don't pass, for as many bytes as a pattern may have
-// positions. A row that needs more grows.
-fn room_for(length: usize) -> usize {
-    length.min(MOST_POSITIONS as usize) * 2
+/// Reads the bytes that stand for themselves at a place, or else the token there, and gives the
+/// place behind.
+fn read_on(builder: &mut Builder, bytes: &[u8], at: usize) -> Result<usize, PatternFault>
+    requires room { length bytes.now < 2 ^ 32 }
+    requires before_end { at < length bytes.now }
+    ensures { ReadsOn result builder.old builder.new bytes.now at }
+{
+    let run = run_length(&bytes[at..]);
+    if run > 0 {
+        builder.add_bytes(&bytes[at..at + run])?;
+        return Ok(at + run);
+    }
+    let (token, length) = token_from(bytes, at)?;
+    builder.add(token, at as u32)?;
+    Ok(at + length)
 }
 
 impl Pattern {
@@ -112,7 +98,6 @@ impl Pattern {
     ghost use Rattle.pattern_syntax.specs.Language.{In};
     ghost use Rattle.pattern_syntax.specs.Literal.{literal_start_of};
     ghost use Rattle.pattern_syntax.specs.Parts.{bytes_tree, Follows};
-    ghost use Rattle.std.specs.Prelude.{◌++◌};
 
     /// Reads a pattern, in the dialect of pcrepattern(3) that selabel_file(5) needs: sets, groups,
     /// choices, repeats, and anchors at the ends. The fault at the least place decides; a pattern
@@ -121,29 +106,32 @@ impl Pattern {
         requires { length bytes.now < 2 ^ 32 }
         ensures { Answers (λ pattern. pattern) pattern_cause result (pattern_of bytes.now) }
     {
-        let mut builder = Builder::with_room(alloc, room_for(bytes.len()))?;
+        let mut builder = Builder::new(alloc)?;
         let mut at = 0;
         'tokens: while at < bytes.len() {
             if builder.is_full() {
                 return Err(refuse_rest(bytes, at, builder.is_after_piece()));
             }
-            let (token, length) = token_from(bytes, at)?;
-            builder.add(token, at as u32)?;
-            at += length;
+            at = read_on(&mut builder, bytes, at)?;
         }
-        let nodes = builder.finish(at as u32)?;
-        Ok(Pattern::of_nodes(alloc, nodes.as_slice())?)
+        let (start, nodes) = builder.finish(at as u32)?;
+        Ok(Pattern::of_parts(alloc, start, nodes.as_slice())?)
     }
 
-    /// The pattern of these nodes behind an empty sequence.
-    fn of_nodes(alloc: Global, nodes: &[Node]) -> Result<Pattern, OutOfMemory>
-        requires { AreWholeNodes nodes.now }
-        ensures { IfOk result (λ pattern. pattern ≡ rest_tree nodes.now) }
+    /// The pattern of a start and the nodes behind it.
+    fn of_parts(alloc: Global, start: Bytes, nodes: &[Node]) -> Result<Pattern, OutOfMemory>
+        requires { AreParts start nodes.now }
+        ensures { IfOk result (λ pattern. pattern ≡ pattern_tree start nodes.now) }
     {
-        let start = leading_bytes(alloc, nodes)?;
+        if have_sides(start.as_slice(), nodes) {
+            return Ok(Pattern {
+                rest: all_nodes(alloc, start.as_slice(), nodes)?,
+                start: Bytes::new(alloc),
+            });
+        }
         Ok(Pattern {
-            rest: Vec::from_slice(alloc, &nodes[2 * start.len()..])?,
-            start: Bytes::copy_of(alloc, start.as_slice())?,
+            rest: Vec::from_slice(alloc, nodes)?,
+            start,
         })
     }
 

@@ -1,16 +1,19 @@
 //! Tokens at their places.
 ghost use Rattle.std.specs.Prelude.{◌≡◌, ◌==◌, ◌<◌, ◌≤◌, ◌^◌, length, drop, IfOk, IfErr, is_some};
-ghost use Rattle.std.specs.Prelude.{true};
+ghost use Rattle.std.specs.Prelude.{true, take};
+ghost use Rattle.std.specs.List.{list_all};
 ghost use Rattle.label_base.specs.Answers.{Answers};
 ghost use Rattle.pattern_syntax.specs.PatternCause.{pattern_cause};
 ghost use Rattle.pattern_syntax.specs.Reading.{placed_cut};
 ghost use Rattle.pattern_syntax.specs.Exact.{is_itself};
+ghost use Rattle.pattern_syntax.specs.Shape.{are_text_bytes};
 ghost use Rattle.pattern_syntax.specs.Tokens.{token_at};
 ghost use Rattle.pattern_syntax.specs.Views.{token_of, token_cut};
 ghost use Rattle.pattern_syntax.specs.Building.{IsProperToken};
 
 use crate::cutting::read_token;
 use crate::exact::is_metacharacter;
+use crate::limits::MOST_POSITIONS;
 use crate::pattern_fault::PatternFault;
 use crate::refusal::Refusal;
 use crate::token::Token;
@@ -20,6 +23,23 @@ fn is_itself(b: u8) -> bool
     ensures { result ≡ is_itself b }
 {
     !(is_metacharacter(b) || b == b'\\' || b == b')' || b == 0)
+}
+
+/// How many bytes at the beginning of a text stand for themselves, counted up to one more than a
+/// pattern may have positions.
+pub(crate) fn run_length(text: &[u8]) -> usize
+    ensures within { result ≤ length text.now }
+    ensures plain { list_all is_itself (take result text.now) ≡ true }
+    ensures proper { are_text_bytes (take result text.now) ≡ true }
+{
+    let mut n = 0;
+    'bytes: while n < text.len() && n <= MOST_POSITIONS as usize {
+        if !is_itself(text[n]) {
+            return n;
+        }
+        n += 1;
+    }
+    n
 }
 
 /// The token at a place, and its length. Most bytes stand for themselves, which is seen at once.

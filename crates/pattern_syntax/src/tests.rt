@@ -120,6 +120,40 @@ fn nodes_stand_behind_their_parts(rt: HostRuntime) -> Result<(), Fail> {
 }
 
 #[test]
+fn a_repeat_takes_its_byte_from_the_start(rt: HostRuntime) -> Result<(), Fail> {
+    let pattern = Pattern::read(rt.alloc(), b"/a\\.bc*d")?;
+    let wanted = [
+        Node::Byte(b'c'),
+        Node::Repeat {
+            least: 0,
+            most: None,
+        },
+        Node::Both,
+        Node::Byte(b'd'),
+        Node::Both,
+    ];
+    assert_eq!(rt; pattern.start(), b"/a.b".as_slice());
+    assert_eq!(rt; pattern.rest(), wanted.as_slice());
+    Ok(())
+}
+
+#[test]
+fn a_bar_outside_of_groups_leaves_no_start(rt: HostRuntime) -> Result<(), Fail> {
+    let pattern = Pattern::read(rt.alloc(), b"a|b")?;
+    let wanted = [
+        Node::Byte(b'a'),
+        Node::Both,
+        Node::Nothing,
+        Node::Byte(b'b'),
+        Node::Both,
+        Node::Either,
+    ];
+    assert!(rt; pattern.start().is_empty());
+    assert_eq!(rt; pattern.rest(), wanted.as_slice());
+    Ok(())
+}
+
+#[test]
 fn brackets_hold_their_bytes(rt: HostRuntime) -> Result<(), Fail> {
     let pattern = Pattern::read(rt.alloc(), b"[]a-c[:digit:]]")?;
     let set = ByteSet::empty()

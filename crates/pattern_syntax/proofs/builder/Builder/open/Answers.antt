@@ -15,15 +15,17 @@ returns c = λ (read : Reading) (s : IsBuilderOf c.args.self.now read).
     let ends = c.in_ok-count.ensures.ends read s in
     open_stands c.args.self.now c.enter.new.self read c.in_ok-count.count c.args.at s (omega arith)
     ends.counted
-    (rw c.in_ok-enter.ensures.nodes (c.in_ok-push.ensures.nodes
+    (rw (c.in_ok-enter.ensures.nodes, c.in_ok-enter.ensures.start) (c.in_ok-put.ensures.trees
     ∙ ap (λ (l : List Tree). Nothing ∷ l) ends.trees))
     c.in_ok-enter.ensures.level
     (rw (
       c.in_ok-enter.ensures.outer,
-      c.in_ok-push.ensures.outer,
-      c.in_ok-push.ensures.level,
+      c.in_ok-put.ensures.outer,
+      c.in_ok-put.ensures.level,
       c.in_ok-count.ensures.outer,
       c.in_ok-count.ensures.level,
     ) refl)
-    (rw c.in_ok-enter.ensures.nodes (let n = c.in_ok-push.ensures.size in let m = ends.size in
-    omega (arith, n, m)))
+    (rw (c.in_ok-enter.ensures.nodes, c.in_ok-enter.ensures.start)
+    (let n = c.in_ok-put.ensures.size in let m = ends.size in
+    let k = ap length c.in_ok-put.ensures.start in omega (arith, n, m, k)))
+    (rw c.in_ok-enter.ensures.nodes (c.in_ok-put.ensures.led refl ends.led))
