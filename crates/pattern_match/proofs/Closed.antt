@@ -12,7 +12,7 @@ use Rattle.pattern_match.specs.Segments.{in_word, IsSegment}
 use Rattle.pattern_match.specs.Whole.{IsWholeSegment}
 use Rattle.pattern_match.specs.declared.class.Class.{Class}
 use Rattle.pattern_match.specs.declared.class.Class.TheVariants as class
-use Rattle.pattern_match.specs.declared.readying.Ready.{Ready}
+use Rattle.pattern_match.specs.declared.readying.PatternTables.{PatternTables}
 use Rattle.pattern_match.specs.declared.segment.Segment.{Segment}
 use Rattle.pattern_match.proofs.Closing.{closed_tables}
 
@@ -28,7 +28,8 @@ bare_whole rows classes whole tree n e w = ap (λ v. (n == 0) && v) w.stands.emp
     ∙ bare_by (automaton tree).places (automaton tree).holds_empty n (e ∙ w.count)
 
 pub bare_ready : (rows : List ℕ) (classes : List Class) (whole : Segment) (tree : Tree) (n : ℕ)
-    (r : Ready) → n ≡ length rows → r.is_bare ≡ true → r.width ≡ 0 → ((n == 0) && whole.holds_empty)
+    (r : PatternTables) → n ≡ length rows → r.is_bare ≡ true → r.width ≡ 0
+    → ((n == 0) && whole.holds_empty)
     ≡ true → IsWholeSegment rows classes whole tree → IsReadyFor tree r
 bare_ready rows classes whole tree n r e b z h w = record {
   bare_is = b ∙ sym h ∙ bare_whole rows classes whole tree n e w;

@@ -25,6 +25,7 @@ pub mod WordBits
 pub mod LowestBits
 pub mod Sweeps
 pub mod Keeping
+pub mod Rooms
 pub mod Rows
 pub mod RunTables
 pub mod Ready

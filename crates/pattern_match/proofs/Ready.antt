@@ -1,5 +1,6 @@
 -- An automaton made ready: marks, and what they leave, where it has tables and where it needs none.
-use Rattle.std.proofs.Common.{◌≡◌, refl, sym, ◌∙◌, subst, ℕ, suc, ◌-◌, ◌*◌, ◌<◌, ◌==◌, Bool, true}
+use Rattle.std.proofs.Common.{◌≡◌, refl, sym, ◌∙◌, ap, subst, ℕ, suc, ◌-◌, ◌*◌, ◌<◌, ◌==◌, Bool}
+use Rattle.std.proofs.Common.{true}
 use Rattle.std.proofs.Common.{false, List, [], ◌∷◌, ◌++◌, length, take, drop, arith}
 use Rattle.std.specs.Prelude.{◌&&◌, not, nat_lt}
 use Rattle.std.proofs.lemmas.List.{take-append-drop}
@@ -11,9 +12,11 @@ use Rattle.pattern_match.specs.Residuals.{residuals, is_some_list}
 use Rattle.pattern_match.specs.Automaton.{automaton, all_places}
 use Rattle.pattern_match.specs.Settled.{MarksLeadOnward}
 use Rattle.pattern_match.specs.States.{bit, is_bare, AreMarks, IsMarked, AreMarksBy, IsBehindBy}
+use Rattle.pattern_match.specs.States.{AreStatesOf, Progress, words_by, words_for}
+use Rattle.pattern_match.specs.Starts.{behind_start}
 use Rattle.pattern_match.specs.States.{AreMarksOf, IsBehind, IsRead}
 use Rattle.pattern_match.specs.Onwards.{AreTextBytes}
-use Rattle.pattern_syntax.specs.Nodes.{nodes_tree}
+use Rattle.pattern_syntax.specs.Nodes.{rest_tree}
 use Rattle.pattern_match.specs.Compiled.{AreTablesReady, IsReadyFor, IsCompiled}
 use Rattle.pattern_match.specs.declared.machine.Machine.TheInside.{Inside}
 use Rattle.pattern_match.specs.declared.class.Class.{Class}
@@ -23,7 +26,7 @@ use Rattle.pattern_match.proofs.Running.{Runs, automaton_runs, no_first}
 use Rattle.pattern_match.proofs.WordBits.{bit_within}
 use Rattle.pattern_match.proofs.Stepping.{IsStep, IsEnd, IsAny, step_onto, step_from, end_from}
 use Rattle.pattern_match.proofs.Stepping.{end_onto, any_left, left_any}
-use Rattle.pattern_match.proofs.RunTables.{IsMachine, start_made, start_stands, wide}
+use Rattle.pattern_match.proofs.RunTables.{IsMachine, start_made, start_stands, width_is}
 use Rattle.pattern_match.proofs.RunTables.{stepped_states}
 
 -- a pattern without a byte set holds the empty text alone
@@ -77,9 +80,9 @@ bare_unmarked t marks e a p h =
     omega arith
 
 -- what a machine keeps, as its pattern's
-pub ready_by : (m : Inside) (t : Tree) → nodes_tree m.nodes.items ≡ t → IsCompiled m
-    → IsReadyFor t m.ready
-ready_by m t is kept = subst (λ u. IsReadyFor u m.ready) is kept
+pub ready_by : (m : Inside) (t : Tree) → rest_tree m.nodes.now ≡ t → IsCompiled m
+    → IsReadyFor t m.tables.now
+ready_by m t is kept = subst (λ u. IsReadyFor u m.tables.now) is kept
 
 module _ (t : Tree) (bare : Bool) (rows width : ℕ) (follow accept : List ℕ) (classes : List Class)
     (r : AreTablesReady t bare rows width follow accept classes) where
@@ -113,10 +116,13 @@ module _ (t : Tree) (bare : Bool) (rows width : ℕ) (follow accept : List ℕ) 
             (not_bare e) (s.onto text a),
       )
 
-  wide_at : (v : Bool) → bare ≡ v → (old : List ℕ) → AreMarksOf t old → length old ≡ width
-  wide_at true e old a = subst (λ v. AreMarksBy v t old) (sym r.bare_is ∙ e) a ∙ sym (r.none e)
-  wide_at false e old a = wide t rows width follow accept classes (machine e) old
-      (some_marks t old (not_bare e) a)
+  words_at : (v : Bool) → bare ≡ v → words_for t ≡ width
+  words_at true e = ap (λ v. words_by v t) (sym r.bare_is ∙ e) ∙ sym (r.none e)
+  words_at false e = ap (λ v. words_by v t) (not_bare e)
+      ∙ sym (width_is t rows width follow accept classes (machine e))
+
+  pub words_are : words_for t ≡ width
+  words_are = words_at bare refl
 
   pub restart_made : (new : List ℕ) → length new ≡ width
       → ((k : ℕ) → k < 64 * length new → bit new k ≡ (nat_lt 0 rows && (rows - 1 == k)))
@@ -128,8 +134,17 @@ module _ (t : Tree) (bare : Bool) (rows width : ℕ) (follow accept : List ℕ) 
       → (text : List ℕ) → (IsBehind t new text → In t text) × (In t text → IsBehind t new text)
   restart_starts = starts_at bare refl
 
-  pub as_wide : (old : List ℕ) → AreMarksOf t old → length old ≡ width
-  as_wide = wide_at bare refl
+-- as many words as the pattern has
+pub marks_counted : (t : Tree) (states : Progress) → AreStatesOf t states
+    → length states.marks ≡ words_for (behind_start t)
+marks_counted t states s = at (is_bare (behind_start t)) refl
+  where
+    at : (v : Bool) → is_bare (behind_start t) ≡ v → length states.marks
+        ≡ words_for (behind_start t)
+    at true e = subst (λ v. AreMarksBy v (behind_start t) states.marks) e s.marks
+        ∙ sym (ap (λ v. words_by v (behind_start t)) e)
+    at false e = (some_marks (behind_start t) states.marks e s.marks).words
+        ∙ sym (ap (λ v. words_by v (behind_start t)) e)
 
 pub step_made : (t : Tree) (old new : List ℕ) (b : ℕ) → is_bare t ≡ false → AreMarksOf t old
     → length new ≡ length old → IsStep (all_places (automaton t)) old new b → AreMarksOf t new

@@ -299,7 +299,7 @@ pub record IsMachine (t : Tree) (rows width : ℕ) (follow accept : List ℕ)
 
 module _ (t : Tree) (rows width : ℕ) (follow accept : List ℕ) (classes : List Class)
     (m : IsMachine t rows width follow accept classes) where
-  width_is : width ≡ width_of t
+  pub width_is : width ≡ width_of t
   width_is = let w : width ≡ (length (all_places (automaton t)) + 63) / 64 = m.tables.wide in
       let n = as_many t in omega arith
 

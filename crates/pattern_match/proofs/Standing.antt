@@ -13,7 +13,7 @@ use Rattle.pattern_syntax.specs.Literal.{literal_start_of}
 use Rattle.pattern_match.specs.Onwards.{AreTextBytes, TakesAll}
 use Rattle.pattern_match.specs.Starts.{behind_start}
 use Rattle.pattern_match.specs.Settled.{MarksLeadOnward, StatesLeadOnward, MarksStay, StatesStay}
-use Rattle.pattern_match.specs.States.{Progress, IsLeft, IsBehind, StandsFor, is_bare}
+use Rattle.pattern_match.specs.States.{Progress, Working, IsLeft, IsBehind, StandsFor, is_bare}
 use Rattle.pattern_match.proofs.Cutting.{cut_behind_start}
 use Rattle.pattern_match.proofs.Holding.{holds_tells}
 use Rattle.pattern_match.proofs.Ready.{bare_behind}
@@ -24,6 +24,9 @@ Tells v P = (v ≡ true → P) × (P → v ≡ true)
 
 pub false_tells : (P : Type 0) → (P → ⊥) → Tells false P
 false_tells P h = (λ e. cc, λ p. absurd (h p))
+
+pub known_is : {a b : Working} → a ≡ b → a.known ≡ b.known
+known_is e = ap (λ (w : Working). w.known) e
 
 abbrev pub start_state : List ℕ → Progress
 start_state marks = record { seen = 0; marks = marks }

@@ -1,12 +1,15 @@
 -- What an automaton made ready keeps.
 use Rattle.std.specs.Prelude.{◌≡◌, ℕ, Bool, true, false, List, length}
-use Rattle.pattern_syntax.specs.Nodes.{nodes_tree}
+use Rattle.std.specs.Coded.{Coded-set, coded_list, coded_ℕ, Π_prop}
+use mathlib.Core.Bool.{Bool-set}
+use Rattle.pattern_syntax.specs.Nodes.{rest_tree}
 use Rattle.pattern_syntax.specs.Tree.{Tree}
-use Rattle.pattern_match.specs.Automaton.{automaton, all_places}
+use Rattle.pattern_match.specs.Automaton.{Place, automaton, all_places}
 use Rattle.pattern_match.specs.States.{is_bare}
+use Rattle.pattern_match.specs.Starts.{behind_start}
 use Rattle.pattern_match.specs.Tables.{AreTables}
 use Rattle.pattern_match.specs.declared.class.Class.{Class}
-use Rattle.pattern_match.specs.declared.readying.Ready.{Ready}
+use Rattle.pattern_match.specs.declared.readying.PatternTables.{PatternTables}
 use Rattle.pattern_match.specs.declared.machine.Machine.TheInside.{Inside}
 
 -- the tables are those of the tree's automaton; one that holds the empty text alone has none
@@ -17,9 +20,42 @@ pub record AreTablesReady (tree : Tree) (bare : Bool) (rows width : ℕ) (follow
   pub rows_are : bare ≡ false → rows ≡ length (all_places (automaton tree))
   pub tables : bare ≡ false → AreTables width follow accept classes (all_places (automaton tree))
 
-abbrev pub IsReadyFor : Tree → Ready → Type 0
+abbrev pub IsReadyFor : Tree → PatternTables → Type 0
 IsReadyFor tree r =
     AreTablesReady tree r.is_bare r.rows r.width r.follow.items r.accept.items r.classes.items
 
+all_tables : (width : ℕ) (follow accept : List ℕ) (classes : List Class) (places : List Place)
+    → IsProp (AreTables width follow accept classes places)
+all_tables width follow accept classes places x y = λ i. record {
+  wide = Coded-set coded_ℕ _ _ x.wide y.wide i;
+  rows = Coded-set coded_ℕ _ _ x.rows y.rows i;
+  accepts = Coded-set coded_ℕ _ _ x.accepts y.accepts i;
+  follows = Π_prop (λ p. Π_prop (λ q. Π_prop (λ l. Π_prop (λ m. Bool-set _ _))))
+      x.follows y.follows i;
+  last = Π_prop (λ p. Π_prop (λ l. Bool-set _ _)) x.last y.last i;
+  bytes = Coded-set (coded_list (coded_list coded_ℕ)) _ _ x.bytes y.bytes i;
+}
+
+ready_tables : (tree : Tree) (bare : Bool) (rows width : ℕ) (follow accept : List ℕ)
+    (classes : List Class) → IsProp (AreTablesReady tree bare rows width follow accept classes)
+ready_tables tree bare rows width follow accept classes x y = λ i. record {
+  bare_is = Bool-set _ _ x.bare_is y.bare_is i;
+  none = Π_prop (λ e. Coded-set coded_ℕ _ _) x.none y.none i;
+  rows_are = Π_prop (λ e. Coded-set coded_ℕ _ _) x.rows_are y.rows_are i;
+  tables = Π_prop (λ e. all_tables width follow accept classes (all_places (automaton tree)))
+      x.tables y.tables i;
+}
+
+-- they are those of what stands behind the pattern's literal start
+pub record AreTablesOf (tree : Tree) (tables : PatternTables) : Type 0 where
+  pub behind : IsReadyFor (behind_start tree) tables
+
+-- it is a fact
+pub are_tables : (tree : Tree) (tables : PatternTables) → IsProp (AreTablesOf tree tables)
+are_tables tree t x y = λ i. record {
+  behind = ready_tables (behind_start tree) t.is_bare t.rows t.width t.follow.items
+      t.accept.items t.classes.items x.behind y.behind i;
+}
+
 abbrev pub IsCompiled : Inside → Type 0
-IsCompiled m = IsReadyFor (nodes_tree m.nodes.items) m.ready
+IsCompiled m = IsReadyFor (rest_tree m.nodes.now) m.tables.now

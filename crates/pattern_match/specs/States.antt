@@ -56,6 +56,19 @@ IsRead tree marks text =
     (rest : List ℕ) → (IsBehind tree marks rest → In tree (text ++ rest))
     × (In tree (text ++ rest) → IsBehind tree marks rest)
 
+-- how many words of marks a pattern has, which takes none if it is bare
+abbrev pub words_by : Bool → Tree → ℕ
+words_by true tree = 0
+words_by false tree = width_of tree
+
+abbrev pub words_for : Tree → ℕ
+words_for tree = words_by (is_bare tree) tree
+
+-- marks, and for how many words of them there is room
+pub record Held : Type 0 where
+  pub marks : List ℕ
+  pub room : ℕ
+
 -- how many bytes of the literal start were read, more than it has where another byte was met; and
 -- marks of what stands behind it
 pub record Progress : Type 0 where
@@ -64,6 +77,15 @@ pub record Progress : Type 0 where
 
 abbrev pub progress : ℕ → List ℕ → Progress
 progress seen marks = record { seen = seen; marks = marks }
+
+-- what is known of a text, and for how many words of marks there is room
+pub record Working : Type 0 where
+  pub known : Progress
+  pub room : ℕ
+
+-- there is room for the marks of this pattern
+pub record HasRoomFor (tree : Tree) (room : ℕ) : Type 0 where
+  pub words : words_for (behind_start tree) ≤ room
 
 -- the states are a matcher's of this pattern
 pub record AreStatesOf (tree : Tree) (states : Progress) : Type 0 where

@@ -32,11 +32,11 @@ pub fn set_bit(words: &mut [u64], start: usize, k: usize)
 }
 
 /// Adds the bits of the row that starts at a word.
-pub fn add_row(to: &mut Vec<u64>, table: &[u64], start: usize)
-    requires { start + length to.old.items ≤ length table.now }
-    ensures bits { (k : ℕ) → k < 64 * length to.old.items
-        → bit to.new.items k ≡ (bit to.old.items k || bit table.now (64 * start + k)) }
-    ensures words { length to.new.items ≡ length to.old.items }
+pub fn add_row(to: &mut [u64], table: &[u64], start: usize)
+    requires { start + length to.old ≤ length table.now }
+    ensures bits { (k : ℕ) → k < 64 * length to.old
+        → bit to.new k ≡ (bit to.old k || bit table.now (64 * start + k)) }
+    ensures words { length to.new ≡ length to.old }
 {
     for i in 0..to.len() {
         to[i] |= table[start + i];
@@ -56,9 +56,9 @@ pub fn with_bit_if(word: u64, k: usize, is_wanted: bool) -> u64
 }
 
 /// Takes all bits out.
-pub fn clear(words: &mut Vec<u64>)
-    ensures bits { (k : ℕ) → k < 64 * length words.old.items → bit words.new.items k ≡ false }
-    ensures words { length words.new.items ≡ length words.old.items }
+pub fn clear(words: &mut [u64])
+    ensures bits { (k : ℕ) → k < 64 * length words.old → bit words.new k ≡ false }
+    ensures words { length words.new ≡ length words.old }
 {
     for i in 0..words.len() {
         words[i] = 0;
@@ -66,16 +66,16 @@ pub fn clear(words: &mut Vec<u64>)
 }
 
 // Adds the rows of the bits that are set in word i of the marks.
-fn add_marked(to: &mut Vec<u64>, word: u64, i: usize, table: &[u64])
-    requires word { i < length to.old.items }
+fn add_marked(to: &mut [u64], word: u64, i: usize, table: &[u64])
+    requires word { i < length to.old }
     requires rows { (j : ℕ) → j < 64 → bit_at word j ≡ 1
-        → (64 * i + j) * length to.old.items + length to.old.items ≤ length table.now }
-    ensures bits { (k : ℕ) → k < 64 * length to.old.items
-        → bit to.new.items k
-        ≡ (bit to.old.items k
+        → (64 * i + j) * length to.old + length to.old ≤ length table.now }
+    ensures bits { (k : ℕ) → k < 64 * length to.old
+        → bit to.new k
+        ≡ (bit to.old k
         || any_bit (λ j. (bit_at word j == 1)
-        && bit table.now (64 * ((64 * i + j) * length to.old.items) + k))) }
-    ensures words { length to.new.items ≡ length to.old.items }
+        && bit table.now (64 * ((64 * i + j) * length to.old) + k))) }
+    ensures words { length to.new ≡ length to.old }
 {
     let mut left = word;
     'marks: while left != 0 {
@@ -102,15 +102,15 @@ pub fn gathered(marks: u64, table: &[u64]) -> u64
 }
 
 /// Makes the bits those of all rows whose number is marked.
-pub fn gather(to: &mut Vec<u64>, marks: &[u64], table: &[u64])
-    requires words { length marks.now ≡ length to.old.items }
+pub fn gather(to: &mut [u64], marks: &[u64], table: &[u64])
+    requires words { length marks.now ≡ length to.old }
     requires rows { (p : ℕ) → bit marks.now p ≡ true
-        → p * length to.old.items + length to.old.items ≤ length table.now }
-    ensures bits { (k : ℕ) → k < 64 * length to.old.items
-        → bit to.new.items k
+        → p * length to.old + length to.old ≤ length table.now }
+    ensures bits { (k : ℕ) → k < 64 * length to.old
+        → bit to.new k
         ≡ any_under (λ p. bit marks.now p
-        && bit table.now (64 * (p * length to.old.items) + k)) (64 * length to.old.items) }
-    ensures words { length to.new.items ≡ length to.old.items }
+        && bit table.now (64 * (p * length to.old) + k)) (64 * length to.old) }
+    ensures words { length to.new ≡ length to.old }
 {
     clear(to);
     'words: for i in 0..marks.len() {
@@ -119,10 +119,10 @@ pub fn gather(to: &mut Vec<u64>, marks: &[u64], table: &[u64])
 }
 
 /// Sets bit k if it is wanted, and among the words.
-pub fn set_if(words: &mut Vec<u64>, k: usize, is_wanted: bool)
-    ensures bits { (j : ℕ) → j < 64 * length words.old.items
-        → bit words.new.items j ≡ (bit words.old.items j || (is_wanted && (k == j))) }
-    ensures words { length words.new.items ≡ length words.old.items }
+pub fn set_if(words: &mut [u64], k: usize, is_wanted: bool)
+    ensures bits { (j : ℕ) → j < 64 * length words.old
+        → bit words.new j ≡ (bit words.old j || (is_wanted && (k == j))) }
+    ensures words { length words.new ≡ length words.old }
 {
     if is_wanted {
         if k / 64 < words.len() {

@@ -4,41 +4,31 @@ ghost use Rattle.std.specs.List.{starts_with};
 ghost use Rattle.pattern_syntax.specs.Tree.{Tree};
 ghost use Rattle.pattern_syntax.specs.Language.{In, Opens, holds};
 ghost use Rattle.pattern_syntax.specs.Literal.{literal_start_of};
-ghost use Rattle.pattern_syntax.specs.Nodes.{nodes_tree};
-ghost use Rattle.pattern_syntax.specs.declared.node.Node.TheVariants as node;
 ghost use Rattle.file_paths.specs.Path.{Path};
 ghost use Rattle.pattern_match.specs.Quotients.{holds_below};
 ghost use Rattle.pattern_match.specs.Onwards.{TakesAll};
 ghost use Rattle.pattern_match.specs.Settled.{StatesLeadOnward, StatesStay};
-ghost use Rattle.pattern_match.specs.Starts.{StartParts};
-ghost use Rattle.pattern_match.specs.States.{AreStatesOf, StandsFor, Below};
+ghost use Rattle.pattern_match.specs.Compiled.{AreTablesOf};
+ghost use Rattle.pattern_match.specs.States.{AreStatesOf, Below, HasRoomFor, StandsFor};
 
 use crate::machine::Machine;
+use crate::readying::{PatternTables, rest_of};
 use crate::states::States;
 use file_paths::NormPath;
-use label_base::{Bytes, OutOfMemory};
-use pattern_syntax::{Node, Pattern};
+use label_base::OutOfMemory;
+use pattern_syntax::Pattern;
 use std::alloc::Global;
 use std::marker::Model;
 
 /// A pattern made ready for matching, seen as the pattern.
-pub struct Matcher {
-    start: Bytes,
+#[derive(Drop)]
+pub struct Matcher<'a> {
+    start: &'a [u8],
     // The automaton of what stands behind the literal start.
-    machine: Machine,
+    machine: Machine<'a>,
 }
 
-// By hand: one call for an owner, where a derived drop is a step for each field.
-impl Drop for Matcher {
-    fn drop(self) {
-        let Matcher {
-            start: _,
-            machine: _,
-        } = self;
-    }
-}
-
-impl Model for Matcher {
+impl<'a> Model for Matcher<'a> {
     ghost use Rattle.std.specs.Prelude.{◌≡◌};
     ghost use Rattle.pattern_syntax.specs.Tree.{Tree, tree_code};
 
@@ -49,36 +39,12 @@ impl Model for Matcher {
     ghost use Rattle.pattern_syntax.specs.Literal.{literal_start_of};
     ghost use Rattle.pattern_match.specs.Starts.{behind_start, with_start};
 
-    ghost view = { λ m. with_start m.start m.machine };
+    ghost view = { λ m. with_start m.start.now m.machine };
 
     ghost invariant = { λ m. record {
-      start : m.start ≡ literal_start_of (with_start m.start m.machine);
-      behind : m.machine ≡ behind_start (with_start m.start m.machine);
+      start : m.start.now ≡ literal_start_of (with_start m.start.now m.machine);
+      behind : m.machine ≡ behind_start (with_start m.start.now m.machine);
     } };
-}
-
-// The nodes behind a start, as a sequence of their own.
-fn sequence(alloc: Global, rest: &[Node]) -> Result<Vec<Node>, OutOfMemory>
-    ensures { IfOk result (λ nodes. nodes_tree nodes.items ≡ nodes_tree (node.Nothing ∷ rest.now)) }
-{
-    let mut nodes = Vec::new(alloc);
-    if rest.is_empty() {
-        return Ok(nodes);
-    }
-    nodes.reserve(rest.len() + 1)?;
-    nodes.push(Node::Nothing)?;
-    nodes.extend_from_slice(rest)?;
-    Ok(nodes)
-}
-
-// The nodes of what stands behind the literal start.
-fn nodes_behind(alloc: Global, pattern: &Pattern) -> Result<Vec<Node>, OutOfMemory>
-    ensures { IfOk result (λ nodes.
-        StartParts pattern.now (literal_start_of pattern.now) (nodes_tree nodes.items)) }
-{
-    pattern.has_no_empty_set();
-    let nodes = sequence(alloc, pattern.rest())?;
-    Ok(nodes)
 }
 
 // Whether the text begins with the start. Most texts differ within a few bytes, where std's test
@@ -107,24 +73,24 @@ pub fn may_hold(pattern: &Pattern, text: &[u8]) -> bool
     begins_with(text, start)
 }
 
-impl Matcher {
-    /// Makes a pattern ready. There may be too little memory for its tables.
-    pub fn new(alloc: Global, pattern: &Pattern) -> Result<Matcher, OutOfMemory>
-        ensures { IfOk result (λ matcher. matcher ≡ pattern.now) }
+impl<'a> Matcher<'a> {
+    /// The matcher of a pattern, whose tables these are.
+    pub fn new(pattern: &'a Pattern, tables: &'a PatternTables) -> Matcher<'a>
+        requires { AreTablesOf pattern.now tables.now }
+        ensures { result ≡ pattern.now }
     {
-        let start = pattern.literal_start(alloc)?;
-        let nodes = nodes_behind(alloc, pattern)?;
-        Ok(Matcher {
-            start,
-            machine: Machine::new(alloc, nodes)?,
-        })
+        Matcher {
+            start: pattern.start(),
+            machine: Machine::new(rest_of(pattern), tables),
+        }
     }
 
     /// The states before the first byte of a text. Only they take memory, so later calls can't
     /// fail.
     pub fn states(&self, alloc: Global) -> Result<States, OutOfMemory>
-        ensures made { IfOk result (λ states. AreStatesOf self.now states) }
-        ensures stands { IfOk result (λ states. StandsFor self.now states []) }
+        ensures made { IfOk result (λ states. AreStatesOf self.now states.known) }
+        ensures stands { IfOk result (λ states. StandsFor self.now states.known []) }
+        ensures room { IfOk result (λ states. HasRoomFor self.now states.room) }
     {
         Ok(States {
             seen: 0,
@@ -132,11 +98,12 @@ impl Matcher {
         })
     }
 
-    /// Goes back to the states before the first byte.
+    /// Goes back to the states before the first byte, whichever pattern's they were.
     pub fn restart(&self, states: &mut States)
-        requires { AreStatesOf self.now states.old }
-        ensures made { AreStatesOf self.now states.new }
-        ensures stands { StandsFor self.now states.new [] }
+        requires { HasRoomFor self.now states.old.room }
+        ensures made { AreStatesOf self.now states.new.known }
+        ensures stands { StandsFor self.now states.new.known [] }
+        ensures room { states.new.room ≡ states.old.room }
     {
         states.seen = 0;
         self.machine.restart(&mut states.marks);
@@ -144,13 +111,14 @@ impl Matcher {
 
     /// Goes on by a byte: what the states stand for gets it at its end.
     pub fn step(&self, states: &mut States, byte: u8)
-        requires { AreStatesOf self.now states.old }
-        ensures made { AreStatesOf self.now states.new }
-        ensures stands { (text : List ℕ) → StandsFor self.now states.old text
-            → StandsFor self.now states.new (text ++ byte ∷ []) }
+        requires { AreStatesOf self.now states.old.known }
+        ensures made { AreStatesOf self.now states.new.known }
+        ensures stands { (text : List ℕ) → StandsFor self.now states.old.known text
+            → StandsFor self.now states.new.known (text ++ byte ∷ []) }
+        ensures room { states.new.room ≡ states.old.room }
     {
         let seen = states.seen;
-        let start = self.start.as_slice();
+        let start = self.start;
         if seen > start.len() {
             return;
         }
@@ -171,13 +139,14 @@ impl Matcher {
 
     /// Whether the text that was read is in the language.
     pub fn accepts(&self, states: &States) -> bool
-        requires { AreStatesOf self.now states.now }
-        ensures language { (text : List ℕ) → StandsFor self.now states.now text
+        requires { AreStatesOf self.now states.now.known }
+        ensures language { (text : List ℕ) → StandsFor self.now states.now.known text
             → IsTrue result ↔ In self.now text }
-        ensures value { (text : List ℕ) → StandsFor self.now states.now text
+        ensures value { (text : List ℕ) → StandsFor self.now states.now.known text
             → result ≡ holds self.now text }
     {
-        if states.seen != self.start.len() {
+        let start = self.start;
+        if states.seen != start.len() {
             return false;
         }
         self.machine.accepts(&states.marks)
@@ -188,12 +157,13 @@ impl Matcher {
     /// that was read and each text of such bytes that begins with it. It may hold them, and this be
     /// false, where that takes several states together.
     pub fn takes_all(&self, states: &States) -> bool
-        requires { AreStatesOf self.now states.now }
-        ensures exact { IsTrue result ↔ StatesLeadOnward self.now states.now }
-        ensures texts { result ≡ true → (text : List ℕ) → StandsFor self.now states.now text
+        requires { AreStatesOf self.now states.now.known }
+        ensures exact { IsTrue result ↔ StatesLeadOnward self.now states.now.known }
+        ensures texts { result ≡ true → (text : List ℕ) → StandsFor self.now states.now.known text
             → TakesAll self.now text }
     {
-        if states.seen != self.start.len() {
+        let start = self.start;
+        if states.seen != start.len() {
             return false;
         }
         self.machine.takes_all(&states.marks)
@@ -205,16 +175,17 @@ impl Matcher {
     /// one more such byte, whichever it is. They may, and this be false, where other states leave
     /// the same.
     pub fn stays(&self, states: &States) -> bool
-        requires { AreStatesOf self.now states.now }
-        ensures exact { IsTrue result ↔ StatesStay self.now states.now }
+        requires { AreStatesOf self.now states.now.known }
+        ensures exact { IsTrue result ↔ StatesStay self.now states.now.known }
         ensures stands { result ≡ true → (byte : ℕ) → 0 < byte → byte < 256
-            → (text : List ℕ) → StandsFor self.now states.now text
-            → StandsFor self.now states.now (text ++ byte ∷ []) }
+            → (text : List ℕ) → StandsFor self.now states.now.known text
+            → StandsFor self.now states.now.known (text ++ byte ∷ []) }
     {
-        if states.seen > self.start.len() {
+        let start = self.start;
+        if states.seen > start.len() {
             return true;
         }
-        if states.seen < self.start.len() {
+        if states.seen < start.len() {
             return false;
         }
         self.machine.stays(&states.marks)
@@ -222,11 +193,12 @@ impl Matcher {
 
     /// Whether some text of the language begins with the text that was read.
     pub fn alive(&self, states: &States) -> bool
-        requires { AreStatesOf self.now states.now }
-        ensures { (text : List ℕ) → StandsFor self.now states.now text
+        requires { AreStatesOf self.now states.now.known }
+        ensures { (text : List ℕ) → StandsFor self.now states.now.known text
             → IsTrue result ↔ Opens self.now text }
     {
-        if states.seen > self.start.len() {
+        let start = self.start;
+        if states.seen > start.len() {
             return false;
         }
         self.machine.alive(&states.marks)
@@ -234,23 +206,24 @@ impl Matcher {
 
     /// Makes the one set of states what the other is.
     pub fn copy_states(&self, from: &States, to: &mut States)
-        requires from { AreStatesOf self.now from.now }
-        requires to { AreStatesOf self.now to.old }
-        ensures made { AreStatesOf self.now to.new }
-        ensures stands { (text : List ℕ) → StandsFor self.now from.now text
-            → StandsFor self.now to.new text }
+        requires from { AreStatesOf self.now from.now.known }
+        requires to { HasRoomFor self.now to.old.room }
+        ensures made { AreStatesOf self.now to.new.known }
+        ensures stands { (text : List ℕ) → StandsFor self.now from.now.known text
+            → StandsFor self.now to.new.known text }
+        ensures room { to.new.room ≡ to.old.room }
     {
-        to.seen = from.seen;
-        to.marks.copy_from(&from.marks);
+        to.set(from.seen, from.marks.as_slice());
     }
 
     // Starts anew and reads a text. Where no text of the language begins so, it may stop early and
     // say false.
     fn read(&self, states: &mut States, text: &[u8]) -> bool
-        requires { AreStatesOf self.now states.old }
-        ensures made { AreStatesOf self.now states.new }
-        ensures stands { result ≡ true → StandsFor self.now states.new text.now }
+        requires { HasRoomFor self.now states.old.room }
+        ensures made { AreStatesOf self.now states.new.known }
+        ensures stands { result ≡ true → StandsFor self.now states.new.known text.now }
         ensures dead { result ≡ false → Opens self.now text.now → ⊥ }
+        ensures room { states.new.room ≡ states.old.room }
     {
         self.restart(states);
         for byte in text {
@@ -264,12 +237,12 @@ impl Matcher {
 
     /// Whether the text is in the language. The states are used anew.
     pub fn matches(&self, states: &mut States, text: &[u8]) -> bool
-        requires { AreStatesOf self.now states.old }
-        ensures made { AreStatesOf self.now states.new }
+        requires { HasRoomFor self.now states.old.room }
         ensures language { IsTrue result ↔ In self.now text.now }
         ensures value { result ≡ holds self.now text.now }
+        ensures room { states.new.room ≡ states.old.room }
     {
-        let start = self.start.as_slice();
+        let start = self.start;
         if !begins_with(text, start) {
             return false;
         }
@@ -280,10 +253,10 @@ impl Matcher {
     /// Whether the language holds the path's text or a text below it: one that begins with the path
     /// and a slash, or for `/` one that begins with a slash. The states are used anew.
     pub fn alive_below(&self, states: &mut States, path: &NormPath) -> bool
-        requires { AreStatesOf self.now states.old }
-        ensures made { AreStatesOf self.now states.new }
+        requires { HasRoomFor self.now states.old.room }
         ensures below { IsTrue result ↔ Below self.now path.now }
         ensures test { result ≡ holds_below self.now path.now }
+        ensures room { states.new.room ≡ states.old.room }
     {
         if !self.read(states, path.as_text()) {
             return false;
@@ -316,13 +289,15 @@ mod tests {
     use std::test::Fail;
 
     fn matched(alloc: Global, pattern: &Pattern, text: &[u8]) -> Result<bool, OutOfMemory> {
-        let matcher = Matcher::new(alloc, pattern)?;
+        let tables = PatternTables::new(alloc, pattern)?;
+        let matcher = Matcher::new(pattern, &tables);
         let mut states = matcher.states(alloc)?;
         Ok(matcher.matches(&mut states, text))
     }
 
     fn lies_below(alloc: Global, pattern: &Pattern, path: &NormPath) -> Result<bool, OutOfMemory> {
-        let matcher = Matcher::new(alloc, pattern)?;
+        let tables = PatternTables::new(alloc, pattern)?;
+        let matcher = Matcher::new(pattern, &tables);
         let mut states = matcher.states(alloc)?;
         Ok(matcher.alive_below(&mut states, path))
     }
@@ -349,7 +324,8 @@ mod tests {
         pattern: &Pattern,
         text: &[u8],
     ) -> Result<(bool, bool), OutOfMemory> {
-        let matcher = Matcher::new(alloc, pattern)?;
+        let tables = PatternTables::new(alloc, pattern)?;
+        let matcher = Matcher::new(pattern, &tables);
         let mut states = matcher.states(alloc)?;
         matcher.read(&mut states, text);
         Ok((matcher.takes_all(&states), matcher.stays(&states)))
@@ -453,7 +429,8 @@ mod tests {
         let Ok(pattern) = Pattern::read(alloc, b"/ab?") else {
             panic!(rt; "a pattern")
         };
-        let matcher = Matcher::new(alloc, &pattern)?;
+        let tables = PatternTables::new(alloc, &pattern)?;
+        let matcher = Matcher::new(&pattern, &tables);
         let mut states = matcher.states(alloc)?;
         let mut kept = matcher.states(alloc)?;
         matcher.step(&mut states, b'/');

@@ -23,10 +23,11 @@ pub fn is_one_text(pattern: &Pattern) -> bool
 /// Goes on by a byte, where the pattern is one text: what the states stand for gets it at its end.
 pub fn step_text(pattern: &Pattern, states: &mut States, byte: u8)
     requires one { behind_start pattern.now ≡ Nothing }
-    requires made { AreStatesOf pattern.now states.old }
-    ensures made { AreStatesOf pattern.now states.new }
-    ensures stands { (text : List ℕ) → StandsFor pattern.now states.old text
-        → StandsFor pattern.now states.new (text ++ byte ∷ []) }
+    requires made { AreStatesOf pattern.now states.old.known }
+    ensures made { AreStatesOf pattern.now states.new.known }
+    ensures stands { (text : List ℕ) → StandsFor pattern.now states.old.known text
+        → StandsFor pattern.now states.new.known (text ++ byte ∷ []) }
+    ensures room { states.new.room ≡ states.old.room }
 {
     let seen = states.seen;
     let start = pattern.start();
@@ -47,7 +48,7 @@ pub fn step_text(pattern: &Pattern, states: &mut States, byte: u8)
 /// Whether the text that was read is in the language, where the pattern is one text.
 pub fn accepts_text(pattern: &Pattern, states: &States) -> bool
     requires one { behind_start pattern.now ≡ Nothing }
-    ensures { (text : List ℕ) → StandsFor pattern.now states.now text
+    ensures { (text : List ℕ) → StandsFor pattern.now states.now.known text
         → result ≡ holds pattern.now text }
 {
     let start = pattern.start();
@@ -60,7 +61,7 @@ pub fn accepts_text(pattern: &Pattern, states: &States) -> bool
 /// Whether the pattern, which is one text, begins with the text that was read.
 pub fn is_text_alive(pattern: &Pattern, states: &States) -> bool
     requires one { behind_start pattern.now ≡ Nothing }
-    ensures { (text : List ℕ) → StandsFor pattern.now states.now text
+    ensures { (text : List ℕ) → StandsFor pattern.now states.now.known text
         → IsTrue result ↔ Opens pattern.now text }
 {
     let start = pattern.start();
@@ -82,7 +83,7 @@ mod tests {
         if !is_one_text(pattern) {
             return None;
         }
-        let mut states = States::of_one_text(alloc);
+        let mut states = States::with_room(alloc, 0).ok()?;
         states.restart_text();
         step_text(pattern, &mut states, b'/');
         let first = is_text_alive(pattern, &states);
@@ -109,12 +110,12 @@ mod tests {
     }
 
     #[test]
-    fn states_that_are_kept(rt: HostRuntime) {
-        let mut states = States::of_one_text(rt.alloc());
-        if states.marks().is_empty() {
-            states.set(3, &[]);
-        }
+    fn states_that_are_kept(rt: HostRuntime) -> Result<(), Fail> {
+        let mut states = States::with_room(rt.alloc(), 1)?;
+        states.set(3, &[5]);
         assert_eq!(rt; states.seen(), 3);
+        assert_eq!(rt; states.marks(), [5].as_slice());
+        Ok(())
     }
 
     #[test]
@@ -127,7 +128,6 @@ mod tests {
             let pattern = Pattern::read(rt.alloc(), given.as_bytes())?;
             assert_eq!(rt; is_one_text(&pattern), want, "at {given}");
         }
-        let _states = States::of_one_text(rt.alloc());
         Ok(())
     }
 }

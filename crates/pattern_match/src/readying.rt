@@ -1,8 +1,11 @@
 ghost use Rattle.std.specs.Prelude.{◌≡◌, ◌+◌, ◌<◌, ◌≤◌, ◌==◌, ◌&&◌, ◌||◌, ◌/◌, ◌∷◌, true, ℕ, []};
 ghost use Rattle.std.specs.Prelude.{IfOk, IfSome, length};
-ghost use Rattle.pattern_syntax.specs.Nodes.{nodes_tree};
+ghost use Rattle.pattern_syntax.specs.Nodes.{nodes_tree, rest_tree};
 ghost use Rattle.pattern_syntax.specs.Tree.{Tree};
-ghost use Rattle.pattern_match.specs.Compiled.{IsReadyFor};
+ghost use Rattle.pattern_syntax.specs.Literal.{literal_start_of};
+ghost use Rattle.pattern_match.specs.Starts.{StartParts};
+ghost use Rattle.pattern_match.specs.Compiled.{AreTablesOf, IsReadyFor};
+ghost use Rattle.pattern_match.specs.States.{HasRoomFor};
 ghost use Rattle.pattern_match.specs.Segments.{in_word};
 ghost use Rattle.pattern_match.specs.Whole.{IsWholeSegment};
 
@@ -13,31 +16,47 @@ use crate::layout::lay;
 use crate::segment::Segment;
 use crate::tables::{accept_row, classes_of, follow_table};
 use label_base::OutOfMemory;
-use pattern_syntax::Node;
+use pattern_syntax::{Node, Pattern};
 use std::alloc::Global;
 
-/// The tables of an automaton. One that holds the empty text alone has none.
+/// The tables of the automaton of what stands behind a pattern's literal start. One that holds the
+/// empty text alone has none.
 #[derive(Drop)]
-pub struct Ready {
-    pub is_bare: bool,
+pub struct PatternTables {
+    pub(crate) is_bare: bool,
     // How many states there are, and in how many words they are kept.
-    pub rows: usize,
-    pub width: usize,
+    pub(crate) rows: usize,
+    pub(crate) width: usize,
     // A row for each state: those that may follow it.
-    pub follow: Vec<u64>,
+    pub(crate) follow: Vec<u64>,
     // The states behind which a text may end.
-    pub accept: Vec<u64>,
+    pub(crate) accept: Vec<u64>,
     // The bytes that lead to each state.
-    pub classes: Vec<Class>,
+    pub(crate) classes: Vec<Class>,
 }
 
-impl Ready {
+impl PatternTables {
+    /// The tables of a pattern. There may be too little memory for them.
+    pub fn new(alloc: Global, pattern: &Pattern) -> Result<PatternTables, OutOfMemory>
+        ensures { IfOk result (AreTablesOf pattern.now) }
+    {
+        let tables = made_of_rest(alloc, rest_of(pattern))?;
+        Ok(tables)
+    }
+
+    /// For how many words of marks states must have room.
+    pub fn words(&self) -> usize
+        ensures { (tree : Tree) → AreTablesOf tree self.now → HasRoomFor tree result }
+    {
+        self.width
+    }
+
     // No table.
-    fn bare(alloc: Global) -> Ready
+    fn bare(alloc: Global) -> PatternTables
         ensures bare { result.is_bare ≡ true }
         ensures width { result.width ≡ 0 }
     {
-        Ready {
+        PatternTables {
             is_bare: true,
             rows: 0,
             width: 0,
@@ -70,21 +89,21 @@ fn closed(
     rows: Vec<u64>,
     classes: Vec<Class>,
     whole: &Segment,
-) -> Result<Ready, OutOfMemory>
+) -> Result<PatternTables, OutOfMemory>
     requires { length rows.items ≤ 63 }
     ensures { IfOk result (λ ready. (tree : Tree)
         → IsWholeSegment rows.items classes.items whole.now tree → IsReadyFor tree ready) }
 {
     let places = rows.len();
     if is_bare(places, whole.holds_empty) {
-        return Ok(Ready::bare(alloc));
+        return Ok(PatternTables::bare(alloc));
     }
     let mut follow = rows;
     follow.push(whole.first)?;
     let mut all = classes;
     all.push(Class::Byte(0))?;
     let last = with_bit_if(whole.last, places, whole.holds_empty);
-    Ok(Ready {
+    Ok(PatternTables {
         is_bare: false,
         rows: places + 1,
         width: 1,
@@ -123,7 +142,7 @@ fn laid(
 }
 
 // The tables of the nodes' automaton, where its places are few.
-fn of_few(alloc: Global, nodes: &[Node]) -> Result<Option<Ready>, OutOfMemory>
+fn of_few(alloc: Global, nodes: &[Node]) -> Result<Option<PatternTables>, OutOfMemory>
     ensures { IfOk result (λ found. IfSome found (IsReadyFor (nodes_tree nodes.now))) }
 {
     let mut rows = Vec::with_capacity(alloc, nodes.len() / 2 + 2)?;
@@ -145,16 +164,16 @@ fn words_for(bits: usize) -> Result<usize, OutOfMemory>
 }
 
 // The tables of the nodes' automaton, however many places it has.
-fn of_many(alloc: Global, nodes: &[Node]) -> Result<Ready, OutOfMemory>
+fn of_many(alloc: Global, nodes: &[Node]) -> Result<PatternTables, OutOfMemory>
     ensures { IfOk result (IsReadyFor (nodes_tree nodes.now)) }
 {
     let fragment = compiled(alloc, nodes)?;
     if fragment.is_bare() {
-        return Ok(Ready::bare(alloc));
+        return Ok(PatternTables::bare(alloc));
     }
     let positions = fragment.into_positions(alloc)?;
     let width = words_for(positions.len())?;
-    Ok(Ready {
+    Ok(PatternTables {
         is_bare: false,
         rows: positions.len(),
         width,
@@ -164,12 +183,43 @@ fn of_many(alloc: Global, nodes: &[Node]) -> Result<Ready, OutOfMemory>
     })
 }
 
-/// The tables of the automaton of nodes in postfix order.
-pub fn made_ready(alloc: Global, nodes: &[Node]) -> Result<Ready, OutOfMemory>
+/// The nodes behind a pattern's literal start.
+pub fn rest_of(pattern: &Pattern) -> &[Node]
+    ensures { StartParts pattern.now (literal_start_of pattern.now) (rest_tree result.now) }
+{
+    pattern.has_no_empty_set();
+    pattern.rest()
+}
+
+// The nodes behind a start, as a sequence of their own.
+fn sequence(alloc: Global, rest: &[Node]) -> Result<Vec<Node>, OutOfMemory>
+    ensures { IfOk result (λ nodes. nodes_tree nodes.items ≡ rest_tree rest.now) }
+{
+    let mut nodes = Vec::new(alloc);
+    if rest.is_empty() {
+        return Ok(nodes);
+    }
+    nodes.reserve(rest.len() + 1)?;
+    nodes.push(Node::Nothing)?;
+    nodes.extend_from_slice(rest)?;
+    Ok(nodes)
+}
+
+// The tables of the automaton of nodes in postfix order.
+fn made_ready(alloc: Global, nodes: &[Node]) -> Result<PatternTables, OutOfMemory>
     ensures { IfOk result (IsReadyFor (nodes_tree nodes.now)) }
 {
     match of_few(alloc, nodes)? {
         Some(ready) => Ok(ready),
         None => of_many(alloc, nodes),
     }
+}
+
+// The tables of nodes behind an empty sequence.
+fn made_of_rest(alloc: Global, rest: &[Node]) -> Result<PatternTables, OutOfMemory>
+    ensures { IfOk result (IsReadyFor (rest_tree rest.now)) }
+{
+    let nodes = sequence(alloc, rest)?;
+    let tables = made_ready(alloc, nodes.as_slice())?;
+    Ok(tables)
 }

@@ -1,14 +1,16 @@
-ghost use Rattle.std.specs.Prelude.{◌≡◌, [], length};
+ghost use Rattle.std.specs.Prelude.{◌≡◌, ◌≤◌, [], IfOk, length};
 ghost use Rattle.pattern_syntax.specs.Tree.{Nothing, Tree};
 ghost use Rattle.pattern_match.specs.Starts.{behind_start};
 ghost use Rattle.pattern_match.specs.States.{AreStatesOf, StandsFor, progress};
 
 use crate::marks::Marks;
+use label_base::OutOfMemory;
 use std::alloc::Global;
 use std::marker::Model;
 
 /// What a matcher knows behind a text: how many bytes of the pattern's literal start were read, and
-/// then the marks of its automaton.
+/// then the marks of its automaton. One pattern after the other may be matched in them, where they
+/// have room for its marks.
 #[derive(Drop)]
 pub struct States {
     pub(crate) seen: usize,
@@ -16,53 +18,59 @@ pub struct States {
 }
 
 impl Model for States {
-    ghost use Rattle.pattern_match.specs.States.{Progress};
+    ghost use Rattle.pattern_match.specs.States.{Working, progress};
 
-    ghost Value = { Progress };
+    ghost Value = { Working };
 
-    ghost view = { λ s. record { seen = s.seen; marks = s.marks } };
+    ghost view = { λ s. record { known = progress s.seen s.marks.marks; room = s.marks.room } };
 }
 
 impl States {
-    /// What there is to know where the pattern is one text ([`is_one_text`](crate::is_one_text)).
-    /// It takes no memory.
-    pub fn of_one_text(alloc: Global) -> States
-        ensures { (tree : Tree) → behind_start tree ≡ Nothing → AreStatesOf tree result }
+    /// What is known before the first byte of a text, with room for so many words of marks. For
+    /// none it takes no memory.
+    pub fn with_room(alloc: Global, words: usize) -> Result<States, OutOfMemory>
+        ensures { IfOk result (λ states. states.room ≡ words) }
     {
-        States {
+        Ok(States {
             seen: 0,
-            marks: Marks::none(alloc),
-        }
+            marks: Marks::with_room(alloc, words)?,
+        })
     }
 
     /// How many bytes of the literal start were read.
     pub fn seen(&self) -> usize
-        ensures { result ≡ self.now.seen }
+        ensures { result ≡ self.now.known.seen }
     {
         self.seen
     }
 
     /// The marks of the automaton, as bits of words. For one pattern there are always equally many.
     pub fn marks(&self) -> &[u64]
-        ensures { result.now ≡ self.now.marks }
+        ensures { result.now ≡ self.now.known.marks }
     {
         self.marks.as_slice()
     }
 
-    /// Takes over what was kept of other states of the same pattern.
+    /// Takes over what was kept of other states.
     pub fn set(&mut self, seen: usize, marks: &[u64])
-        requires { length marks.now ≡ length self.old.marks }
-        ensures { self.new ≡ progress seen marks.now }
+        requires { length marks.now ≤ self.old.room }
+        ensures known { self.new.known ≡ progress seen marks.now }
+        ensures room { self.new.room ≡ self.old.room }
     {
         self.seen = seen;
         self.marks.set(marks);
     }
 
-    /// Goes back to before the first byte of a text, where the pattern is one text.
+    /// Goes back to before the first byte of a text, where the pattern is one text
+    /// ([`is_one_text`](crate::is_one_text)).
     pub fn restart_text(&mut self)
-        ensures made { (tree : Tree) → AreStatesOf tree self.old → AreStatesOf tree self.new }
-        ensures stands { (tree : Tree) → behind_start tree ≡ Nothing → StandsFor tree self.new [] }
+        ensures made { (tree : Tree) → behind_start tree ≡ Nothing
+            → AreStatesOf tree self.new.known }
+        ensures stands { (tree : Tree) → behind_start tree ≡ Nothing
+            → StandsFor tree self.new.known [] }
+        ensures room { self.new.room ≡ self.old.room }
     {
         self.seen = 0;
+        self.marks.empty();
     }
 }

@@ -43,12 +43,12 @@ pub fn taking(word: u64, start: usize, classes: &[Class], b: u8) -> u64
 }
 
 /// Makes the bits those of another list whose classes have a byte.
-pub fn keep_taking(to: &mut Vec<u64>, from: &[u64], classes: &[Class], b: u8)
-    requires words { length from.now ≡ length to.old.items }
-    requires room { 64 * length to.old.items < length classes.now + 64 }
-    ensures bits { (k : ℕ) → k < 64 * length to.old.items
-        → bit to.new.items k ≡ (bit from.now k && takes_at classes.now k b) }
-    ensures words { length to.new.items ≡ length to.old.items }
+pub fn keep_taking(to: &mut [u64], from: &[u64], classes: &[Class], b: u8)
+    requires words { length from.now ≡ length to.old }
+    requires room { 64 * length to.old < length classes.now + 64 }
+    ensures bits { (k : ℕ) → k < 64 * length to.old
+        → bit to.new k ≡ (bit from.now k && takes_at classes.now k b) }
+    ensures words { length to.new ≡ length to.old }
 {
     'words: for i in 0..to.len() {
         to[i] = taking(from[i], 64 * i, classes, b);

@@ -19,7 +19,7 @@ use Rattle.spec_match.specs.Alive.{alive, alive_at, pattern_at, wanted_byte}
 use Rattle.spec_match.specs.Listed.{Covers, IsListed}
 use Rattle.spec_match.specs.StatesFor.{patterns_of, spec_in}
 use Rattle.spec_match.specs.Stepping.{GoesOn, IsDropped, IsStepWritten}
-use Rattle.spec_match.specs.declared.rule.Rule.{Rule}
+use Rattle.spec_match.specs.declared.compiled_spec.CompiledSpec.{CompiledSpec}
 use Rattle.spec_reader.specs.SpecValue.{SpecValue}
 
 pub none_more : (ps : List Tree) (text more : List ℕ) (from below : ℕ)
@@ -248,7 +248,7 @@ pub read_more : (IsFor : List ℕ → List Alive → Type 0) (text : List ℕ) (
 read_more IsFor text i list l h = subst (λ w. IsFor w list) (sym (take_more text i 0 l)) h
 
 -- the patterns of rules are those of their specifications
-pub pattern_of_spec : (rules : List Rule) (j : ℕ) (spec : SpecValue)
+pub pattern_of_spec : (rules : List CompiledSpec) (j : ℕ) (spec : SpecValue)
     → slice_get (map spec_in rules) j ≡ Some spec → pattern_at (patterns_of rules) j ≡ spec.pattern
 pattern_of_spec [] j spec e = cc
 pattern_of_spec (r ∷ rules) zero spec e = let same : spec_in r ≡ spec = cc in

@@ -14,21 +14,21 @@ use Rattle.spec_match.specs.Listed.{Covers, IsFloor, IsListed}
 use Rattle.spec_match.specs.LastMatch.{Fits, fits}
 use Rattle.spec_match.specs.Remembering.{IsAnswer}
 use Rattle.spec_match.specs.StatesFor.{patterns_of, spec_in}
-use Rattle.spec_match.specs.declared.rule.Rule.{Rule}
+use Rattle.spec_match.specs.declared.compiled_spec.CompiledSpec.{CompiledSpec}
 use Rattle.spec_match.proofs.AliveLemmas.{bound_at, bound_next, covers_opens, member_at, none_left}
 use Rattle.spec_match.proofs.AliveLemmas.{pattern_of_spec}
 use Rattle.spec_match.proofs.LastLemmas.{found_index, found_member, found_decides, none_index}
 use Rattle.spec_match.proofs.LastLemmas.{none_member, none_decides, none_past}
 use Rattle.spec_reader.specs.SpecValue.{SpecValue}
 
-pub pattern_of_rule : (rules : List Rule) (i : ℕ) (d : Rule) → i < length rules
+pub pattern_of_rule : (rules : List CompiledSpec) (i : ℕ) (d : CompiledSpec) → i < length rules
     → (get_or rules i d).spec.pattern ≡ pattern_at (patterns_of rules) i
 pattern_of_rule [] i d l = absurd (omega (arith, l))
 pattern_of_rule (r ∷ rules) zero d l = refl
 pattern_of_rule (r ∷ rules) (suc i) d l = pattern_of_rule rules i d (omega (arith, l))
 
-pub count_rules : (rules : List Rule) → length (patterns_of rules) ≡ length rules
-count_rules rules = length-map rules (λ (r : Rule). r.spec.pattern)
+pub count_rules : (rules : List CompiledSpec) → length (patterns_of rules) ≡ length rules
+count_rules rules = length-map rules (λ (r : CompiledSpec). r.spec.pattern)
 
 -- what is dead behind a text doesn't fit it
 pub dead_fits : (asked : Asked) (text : List ℕ) (spec : SpecValue) → (Opens spec.pattern text → ⊥)
@@ -44,7 +44,7 @@ dead_behind asked front more spec h =
 
 module _ (asked : Asked) (text : List ℕ) where
   -- none of the specifications from one on fits
-  abbrev pub NoneFits : List Rule → ℕ → Type 0
+  abbrev pub NoneFits : List CompiledSpec → ℕ → Type 0
   NoneFits rules from = filter (fits asked text) (map spec_in (drop from rules)) ≡ []
 
   passed : (b : Bool) (s : SpecValue) (kept : List SpecValue) → b ≡ false → kept ≡ []
@@ -52,7 +52,7 @@ module _ (asked : Asked) (text : List ℕ) where
   passed true s kept e h = cc
   passed false s kept e h = h
 
-  pub none_back : (rules : List Rule) (from to : ℕ) (d : Rule) → from ≤ to
+  pub none_back : (rules : List CompiledSpec) (from to : ℕ) (d : CompiledSpec) → from ≤ to
       → ((j : ℕ) → from ≤ j → j < to → j < length rules
       → fits asked text (spec_in (get_or rules j d)) ≡ false) → NoneFits rules to
       → NoneFits rules from
@@ -70,7 +70,7 @@ module _ (asked : Asked) (text : List ℕ) where
       none_back rules from to d (omega (arith, l))
       (λ j a b c. f (suc j) (omega (arith, a)) (omega (arith, b)) (omega (arith, c))) h
 
-  pub found_answer : (rules : List Rule) (i : ℕ) (d : Rule) → i < length rules
+  pub found_answer : (rules : List CompiledSpec) (i : ℕ) (d : CompiledSpec) → i < length rules
       → fits asked text (spec_in (get_or rules i d)) ≡ true → NoneFits rules (suc i)
       → IsAnswer asked text (map spec_in rules) (Some i)
   found_answer rules i d l t h = record {
@@ -80,7 +80,8 @@ module _ (asked : Asked) (text : List ℕ) where
     decides = found_decides asked text rules i d l t h;
   }
 
-  pub none_answer : (rules : List Rule) → NoneFits rules 0 → IsAnswer asked text (map spec_in rules)
+  pub none_answer : (rules : List CompiledSpec) → NoneFits rules 0
+      → IsAnswer asked text (map spec_in rules)
       None
   none_answer rules h = record {
     within = tt;
@@ -89,19 +90,19 @@ module _ (asked : Asked) (text : List ℕ) where
     decides = none_decides asked text rules h;
   }
 
-  pub past : (rules : List Rule) (n : ℕ) → length rules ≤ n → NoneFits rules n
+  pub past : (rules : List CompiledSpec) (n : ℕ) → length rules ≤ n → NoneFits rules n
   past [] zero l = refl
   past [] (suc n) l = refl
   past (r ∷ rules) zero l = absurd (omega (arith, l))
   past (r ∷ rules) (suc n) l = past rules n (omega (arith, l))
 
 -- the list is right behind a front of the text, from a floor on
-abbrev right : List ℕ → List Rule → List Alive → ℕ → Type 0
+abbrev right : List ℕ → List CompiledSpec → List Alive → ℕ → Type 0
 right front rules list floor =
     AreAliveFrom (patterns_of rules) front floor (length (patterns_of rules)) list
 
 -- so many members of a list that is right behind a front of the text don't fit the text
-abbrev pub IsPassed : Asked → List ℕ → List ℕ → List Rule → List Alive → ℕ → Type 0
+abbrev pub IsPassed : Asked → List ℕ → List ℕ → List CompiledSpec → List Alive → ℕ → Type 0
 IsPassed asked front text rules list k =
     (floor : ℕ) → right front rules list floor
     → NoneFits asked text rules (bound_at (length (patterns_of rules)) list k)
@@ -110,14 +111,14 @@ IsPassed asked front text rules list k =
 module _ (asked : Asked) (front text : List ℕ)
     (dead : (spec : SpecValue) → (Opens spec.pattern front → ⊥) → fits asked text spec ≡ false)
   where
-    dead_from : (rules : List Rule) (j : ℕ) (d : Rule) (from below : ℕ)
+    dead_from : (rules : List CompiledSpec) (j : ℕ) (d : CompiledSpec) (from below : ℕ)
         → NoneAlive (patterns_of rules) front from below → from ≤ j → j < below → j < length rules
         → fits asked text (spec_in (get_or rules j d)) ≡ false
     dead_from rules j d from below h a b c =
         dead (spec_in (get_or rules j d))
         (λ o. h j a b (subst (λ t. Opens t front) (pattern_of_rule rules j d c) o))
 
-    pub none_alive_answer : (rules : List Rule) (d : Rule) (below : ℕ)
+    pub none_alive_answer : (rules : List CompiledSpec) (d : CompiledSpec) (below : ℕ)
         → NoneAlive (patterns_of rules) front 0 below → NoneFits asked text rules below
         → IsAnswer asked text (map spec_in rules) None
     none_alive_answer rules d below h n =
@@ -125,7 +126,8 @@ module _ (asked : Asked) (front text : List ℕ)
         (none_back asked text rules 0 below d (omega arith)
         (λ j a b c. dead_from rules j d 0 below h a b c) n)
 
-    one_fits : (rules : List Rule) (list : List Alive) (floor k : ℕ) (rule : Rule) (v : Bool)
+    one_fits : (rules : List CompiledSpec) (list : List Alive) (floor k : ℕ) (rule : CompiledSpec)
+        (v : Bool)
         → k < length list → rule ≡ get_or rules (alive_at list k).index rule
         → ((alive_at list k).index < length rules) → right front rules list floor
         → (StandsFor rule.spec.pattern (alive_at list k).states front
@@ -135,11 +137,12 @@ module _ (asked : Asked) (front text : List ℕ)
         let i = (alive_at list k).index in
         let m = member_at (patterns_of rules) front floor (length (patterns_of rules)) list k l h in
         let p : rule.spec.pattern ≡ pattern_at (patterns_of rules) i =
-        ap (λ (r : Rule). r.spec.pattern) e ∙ pattern_of_rule rules i rule w in
+        ap (λ (r : CompiledSpec). r.spec.pattern) e ∙ pattern_of_rule rules i rule w in
         f (subst (λ t. StandsFor t (alive_at list k).states front) (sym p) m.stands)
-        ∙ ap (λ (r : Rule). fits asked text (spec_in r)) e
+        ∙ ap (λ (r : CompiledSpec). fits asked text (spec_in r)) e
 
-    pub passed_on : (rules : List Rule) (list : List Alive) (k : ℕ) (rule : Rule) (v : Bool)
+    pub passed_on : (rules : List CompiledSpec) (list : List Alive) (k : ℕ) (rule : CompiledSpec)
+        (v : Bool)
         → k < length list → rule ≡ get_or rules (alive_at list k).index rule
         → (alive_at list k).index
         < length rules
@@ -158,7 +161,8 @@ module _ (asked : Asked) (front text : List ℕ)
         (none_back asked text rules i n rule (omega (arith, m.below))
         (λ j a b c. at i j n rules rule a b c misses m.none) (s floor h))
       where
-        at : (i j n : ℕ) (rules : List Rule) (rule : Rule) → i ≤ j → j < n → j < length rules
+        at : (i j n : ℕ) (rules : List CompiledSpec) (rule : CompiledSpec) → i ≤ j → j < n
+            → j < length rules
             → fits asked text (spec_in (get_or rules i rule)) ≡ false
             → NoneAlive (patterns_of rules) front (i + 1) n
             → fits asked text (spec_in (get_or rules j rule)) ≡ false
@@ -168,7 +172,8 @@ module _ (asked : Asked) (front text : List ℕ)
               (omega (arith, here, a)) misses
         ]
 
-    pub first_found : (rules : List Rule) (list : List Alive) (k : ℕ) (rule : Rule) (v : Bool)
+    pub first_found : (rules : List CompiledSpec) (list : List Alive) (k : ℕ) (rule : CompiledSpec)
+        (v : Bool)
         → k < length list → rule ≡ get_or rules (alive_at list k).index rule
         → (alive_at list k).index
         < length rules
@@ -186,14 +191,14 @@ module _ (asked : Asked) (front text : List ℕ)
         (none_back asked text rules (suc i) n rule (omega (arith, m.below))
         (λ j a b c. dead_from rules j rule (i + 1) n m.none (omega (arith, a)) b c) (s floor h))
 
-    pub none_found : (rules : List Rule) (list : List Alive) (k : ℕ) → length list ≤ k
+    pub none_found : (rules : List CompiledSpec) (list : List Alive) (k : ℕ) → length list ≤ k
         → IsPassed asked front text rules list k → right front rules list 0
         → IsAnswer asked text (map spec_in rules) None
     none_found rules list k l s h = at rules refl
       where
-        at : (rs : List Rule) → rules ≡ rs → IsAnswer asked text (map spec_in rules) None
+        at : (rs : List CompiledSpec) → rules ≡ rs → IsAnswer asked text (map spec_in rules) None
         at [] e = none_answer asked text rules
-            (ap (λ (w : List Rule). filter (fits asked text) (map spec_in w)) e)
+            (ap (λ (w : List CompiledSpec). filter (fits asked text) (map spec_in w)) e)
         at (r ∷ rs) e = none_alive_answer rules r (bound_at (length (patterns_of rules)) list k)
             (none_left (patterns_of rules) front 0 (length (patterns_of rules)) list k l h) (s 0 h)
 
@@ -206,7 +211,7 @@ covers_fits asked text specs i c = (
       (c.holds [] tt),
 )
 
-none_covers : (asked : Asked) (text : List ℕ) (rules : List Rule) (floor bound : ℕ)
+none_covers : (asked : Asked) (text : List ℕ) (rules : List CompiledSpec) (floor bound : ℕ)
     → NoneAlive (patterns_of rules) text floor bound → NoneFits asked text rules bound
     → Covers (map spec_in rules) text floor → ⊥
 none_covers asked text rules floor bound none h c = elim (cases_lt floor bound) [
@@ -216,7 +221,7 @@ none_covers asked text rules floor bound none h c = elim (cases_lt floor bound) 
       (covers_fits asked text (map spec_in rules) floor c)
 ]
 
-pub none_listed : (asked : Asked) (cuts : Bool) (text : List ℕ) (rules : List Rule)
+pub none_listed : (asked : Asked) (cuts : Bool) (text : List ℕ) (rules : List CompiledSpec)
     (list : List Alive) (k : ℕ) → length list ≤ k → IsPassed asked text text rules list k
     → IsListed cuts (patterns_of rules) (map spec_in rules) text list
     → IsAnswer asked text (map spec_in rules) None

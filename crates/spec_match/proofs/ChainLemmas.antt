@@ -28,7 +28,7 @@ use Rattle.spec_match.specs.Chains.{is_in_bucket, link, mixed, own_bucket, start
 use Rattle.spec_match.specs.LastMatch.{fits}
 use Rattle.spec_match.specs.Remembering.{IsAnswer}
 use Rattle.spec_match.specs.StatesFor.{patterns_of, spec_in}
-use Rattle.spec_match.specs.declared.rule.Rule.{Rule}
+use Rattle.spec_match.specs.declared.compiled_spec.CompiledSpec.{CompiledSpec}
 use Rattle.spec_match.proofs.AnswerLemmas.{found_answer, none_answer, none_back, past}
 use Rattle.spec_match.proofs.AnswerLemmas.{pattern_of_rule}
 use Rattle.spec_reader.specs.SpecValue.{SpecValue}
@@ -49,7 +49,7 @@ before_or_last i n l =
 
 -- ---- chains are made
 
-module _ (rules : List Rule) (count : ℕ) where
+module _ (rules : List CompiledSpec) (count : ℕ) where
   head_by : (n : ℕ) (heads : List ℕ) (b q : ℕ) (same : Bool) → (q == b) ≡ same
       → b ≡ own_bucket rules count n → b < length heads
       → slice_index heads q ≡ link (greatest_below n (is_in_bucket rules count q))
@@ -201,7 +201,7 @@ next_ended n p q at e next =
 
 -- ---- the buckets of a text's fronts
 
-module _ (rules : List Rule) (count : ℕ) (text : List ℕ) (q : ℕ → Bool) where
+module _ (rules : List CompiledSpec) (count : ℕ) (text : List ℕ) (q : ℕ → Bool) where
   -- the specification is in the bucket of one of the fronts below a length
   abbrev pub is_seen : ℕ → ℕ → Bool
   is_seen k i =
@@ -269,20 +269,21 @@ module _ (rules : List Rule) (count : ℕ) (text : List ℕ) (q : ℕ → Bool) 
 -- ---- what fits begins with its literal start
 
 module _ (asked : Asked) (text : List ℕ) where
-  pub fits_here : (rules : List Rule) (i : ℕ) (rule : Rule) → i < length rules
+  pub fits_here : (rules : List CompiledSpec) (i : ℕ) (rule : CompiledSpec) → i < length rules
       → rule ≡ get_or rules i rule → fits_at asked text rules i ≡ fits asked text rule.spec
   fits_here rules i rule l e = ap (does_fit asked text) (at_place rules i rule l)
-      ∙ ap (λ (r : Rule). fits asked text r.spec) (sym e)
+      ∙ ap (λ (r : CompiledSpec). fits asked text r.spec) (sym e)
 
-  pub fits_from_here : (rules : List Rule) (at i : ℕ) (rule : Rule) → i < length rules
+  pub fits_from_here : (rules : List CompiledSpec) (at i : ℕ) (rule : CompiledSpec)
+      → i < length rules
       → rule ≡ get_or rules i rule → fits_from at asked text rules i
       ≡ ((length (literal_start_of rule.spec.pattern) == at) && fits asked text rule.spec)
   fits_from_here rules at i rule l e =
-      let pattern = ap (λ (r : Rule). r.spec.pattern) e ∙ pattern_of_rule rules i rule l in
+      let pattern = ap (λ (r : CompiledSpec). r.spec.pattern) e ∙ pattern_of_rule rules i rule l in
       ap₂ (λ a b. a && b) (ap (λ t. length (literal_start_of t) == at) (sym pattern))
       (fits_here rules i rule l e)
 
-  start_seen : (rules : List Rule) (count i : ℕ) (spec : SpecValue)
+  start_seen : (rules : List CompiledSpec) (count i : ℕ) (spec : SpecValue)
       → spec.pattern ≡ pattern_at (patterns_of rules) i → fits asked text spec ≡ true
       → is_seen rules count text (fits_at asked text rules) (suc (length text)) i ≡ true
   start_seen rules count i spec e t =
@@ -303,11 +304,12 @@ module _ (asked : Asked) (text : List ℕ) where
       (eq-eqb (length (literal_start_of (pattern_at (patterns_of rules) i))) (length start)
       (ap (λ t. length (literal_start_of t)) (sym e))))
 
-  pub fits_seen : (rules : List Rule) (count i : ℕ) → i < length rules → fits_at asked text rules i
+  pub fits_seen : (rules : List CompiledSpec) (count i : ℕ) → i < length rules
+      → fits_at asked text rules i
       ≡ true → is_seen rules count text (fits_at asked text rules) (suc (length text)) i ≡ true
   fits_seen rules count i l t = at rules i l t
     where
-      at : (rs : List Rule) (i : ℕ) → i < length rs → fits_at asked text rs i ≡ true
+      at : (rs : List CompiledSpec) (i : ℕ) → i < length rs → fits_at asked text rs i ≡ true
           → is_seen rs count text (fits_at asked text rs) (suc (length text)) i ≡ true
       at [] i l t = absurd (omega (arith, l))
       at (r ∷ rs) i l t =
@@ -315,11 +317,12 @@ module _ (asked : Asked) (text : List ℕ) where
           (pattern_of_rule (r ∷ rs) i r l)
           (sym (ap (does_fit asked text) (at_place (r ∷ rs) i r l)) ∙ t)
 
-  none_at : (rules : List Rule) (d : Rule) (j : ℕ) → j < length rules → fits_at asked text rules j
+  none_at : (rules : List CompiledSpec) (d : CompiledSpec) (j : ℕ) → j < length rules
+      → fits_at asked text rules j
       ≡ false → fits asked text (spec_in (get_or rules j d)) ≡ false
   none_at rules d j l e = sym (ap (does_fit asked text) (at_place rules j d l)) ∙ e
 
-  answered : (rules : List Rule) (d : Rule) (found : Option ℕ)
+  answered : (rules : List CompiledSpec) (d : CompiledSpec) (found : Option ℕ)
       → IsGreatest (length rules) (fits_at asked text rules) found
       → IsAnswer asked text (map spec_in rules) found
   answered rules d None g =
@@ -335,7 +338,8 @@ module _ (asked : Asked) (text : List ℕ) where
       (λ j a b c. none_at rules d j c (g.2 j (omega (arith, a)) c))
       (past asked text rules (length rules) (omega arith)))
 
-  pub answer_by : (rules : List Rule) (found : Option ℕ) → found ≡ greatest_below (length rules)
+  pub answer_by : (rules : List CompiledSpec) (found : Option ℕ)
+      → found ≡ greatest_below (length rules)
       (fits_at asked text rules) → IsAnswer asked text (map spec_in rules) found
   answer_by [] found e = subst (IsAnswer asked text []) (sym e) (none_answer asked text [] refl)
   answer_by (r ∷ rules) found e =

@@ -21,7 +21,7 @@ use Rattle.spec_match.specs.Found.{AreAddedAbove, AreAddedIn, AreFound, CanDecid
 use Rattle.spec_match.specs.Found.{IsAddedFrom, IsAddedOne}
 use Rattle.spec_match.specs.Relevant.{can_decide, relevant_at}
 use Rattle.spec_match.specs.StatesFor.{patterns_of, spec_in}
-use Rattle.spec_match.specs.declared.rule.Rule.{Rule}
+use Rattle.spec_match.specs.declared.compiled_spec.CompiledSpec.{CompiledSpec}
 use Rattle.spec_match.proofs.ChainLemmas.{before_or_last, linked, unlinked}
 use Rattle.spec_match.proofs.LastLemmas.{at_place}
 use Rattle.spec_match.proofs.PickedLemmas.{At, Has, contains_had, has_contained, picked_at}
@@ -118,17 +118,17 @@ module _ (path : Path) (specs : List SpecValue) where
       has_contained found i (h.all i (subst (CanDecideAt path specs) same (r.1, r.3, r.4)))) p s
 
 -- a specification that was tried, by its place
-pub added_rule : (path : Path) (rules : List Rule) (i : ℕ) (rule : Rule) (v : Bool)
+pub added_rule : (path : Path) (rules : List CompiledSpec) (i : ℕ) (rule : CompiledSpec) (v : Bool)
     (old new : List ℕ) → i < length rules → rule ≡ get_or rules i rule
     → v ≡ can_decide path rule.spec → new ≡ cond v (old ++ i ∷ []) old
     → IsAddedOne path rules i old new
 added_rule path rules i rule v old new l e t n =
     added_one path (map spec_in rules) v i rule.spec old new
-    (at_place rules i rule l ∙ ap (λ (r : Rule). Some (spec_in r)) (sym e)) t n
+    (at_place rules i rule l ∙ ap (λ (r : CompiledSpec). Some (spec_in r)) (sym e)) t n
 
 -- ---- those whose literal start a text begins with
 
-abbrev start_of : List Rule → ℕ → List ℕ
+abbrev start_of : List CompiledSpec → ℕ → List ℕ
 start_of rules i = literal_start_of (pattern_at (patterns_of rules) i)
 
 greatest_here : (bound i : ℕ) (p : ℕ → Bool) (next : ℕ) → suc i ≡ next
@@ -137,7 +137,7 @@ greatest_here bound i p next here leads =
     subst (IsGreatest bound p) (linked (greatest_below bound p) i (here ∙ leads))
     (greatest_told bound p)
 
-module _ (path : Path) (rules : List Rule) (count bucket at : ℕ) where
+module _ (path : Path) (rules : List CompiledSpec) (count bucket at : ℕ) where
   -- of those in a bucket the ones from some specification on were tried
   pub record IsGoing (next : ℕ) (old new : List ℕ) : Type 0 where
     pub bound : ℕ
@@ -215,12 +215,12 @@ placed [] i spec e = cc
 placed (s ∷ specs) zero spec e = omega arith
 placed (s ∷ specs) (suc i) spec e = let l = placed specs i spec e in omega (arith, l)
 
-pub decides_within : (path : Path) (rules : List Rule) (i : ℕ)
+pub decides_within : (path : Path) (rules : List CompiledSpec) (i : ℕ)
     → CanDecideAt path (map spec_in rules) i → i < length rules
 decides_within path rules i d = let l = placed (map spec_in rules) i d.0 d.1 in
     omega (arith, l, length-map rules spec_in)
 
-module _ (path : Path) (rules : List Rule) (text : List ℕ) where
+module _ (path : Path) (rules : List CompiledSpec) (text : List ℕ) where
   -- those were tried whose literal start is one of the text's fronts below a length
   abbrev pub AreAddedTo : ℕ → List ℕ → List ℕ → Type 0
   AreAddedTo k =

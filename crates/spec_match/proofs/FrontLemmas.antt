@@ -23,7 +23,7 @@ use Rattle.spec_match.specs.Found.{IsAddedOf, front_text}
 use Rattle.spec_match.specs.Fronts.{AreFronts, all_keys, front_key, front_keys, key_if}
 use Rattle.spec_match.specs.StatesFor.{patterns_of, spec_in}
 use Rattle.spec_match.specs.declared.fronts.TheConstants.{SPAN}
-use Rattle.spec_match.specs.declared.rule.Rule.{Rule}
+use Rattle.spec_match.specs.declared.compiled_spec.CompiledSpec.{CompiledSpec}
 use Rattle.spec_match.proofs.AnswerLemmas.{count_rules, pattern_of_rule}
 use Rattle.spec_match.proofs.ChainLemmas.{before_or_last}
 use Rattle.spec_match.proofs.LastLemmas.{at_place}
@@ -79,7 +79,7 @@ hash_of_key hash i l = omega (arith, l)
 index_of_key : (hash i : ℕ) → i < 2 ^ 32 → front_key hash i % SPAN ≡ i
 index_of_key hash i l = omega (arith, l)
 
-module _ (path : Path) (rules : List Rule) (keys : List ℕ) where
+module _ (path : Path) (rules : List CompiledSpec) (keys : List ℕ) where
   -- those were tried whose keys stand from one place on and before another
   abbrev pub AreAddedFrom : ℕ → ℕ → List ℕ → List ℕ → Type 0
   AreAddedFrom first at =
@@ -206,7 +206,8 @@ key_there patterns keys i front rest fronts l e =
     (subst (λ n. Contains (front_keys n 0 (literal_start_of (pattern_at patterns i))) key) same
     (subst (λ w. Contains (front_keys i 0 w) key) (sym e) (own_key i 0 front rest))))
 
-tree_at : (path : Path) (rules : List Rule) (i : ℕ) (d : CanDecideAt path (map spec_in rules) i)
+tree_at : (path : Path) (rules : List CompiledSpec) (i : ℕ)
+    (d : CanDecideAt path (map spec_in rules) i)
     → d.0.pattern ≡ pattern_at (patterns_of rules) i
 tree_at path [] i d = let l = decides_within path [] i d in absurd (omega (arith, l))
 tree_at path (r ∷ rules) i d =
@@ -217,7 +218,7 @@ tree_at path (r ∷ rules) i d =
     ap (λ (w : SpecValue). w.pattern) s ∙ pattern_of_rule (r ∷ rules) i r l
 
 -- all of them are found
-pub all_found : (path : Path) (rules : List Rule) (keys text : List ℕ) (hash below : ℕ)
+pub all_found : (path : Path) (rules : List CompiledSpec) (keys text : List ℕ) (hash below : ℕ)
     (none mid new : List ℕ) → none ≡ [] → text ≡ front_text path → hash ≡ hashed 0 text
     → below ≡ mixed hash SLASH → AreFronts (patterns_of rules) keys
     → AreAddedAbove path rules text none mid → AreAddedBelow path rules keys below mid new

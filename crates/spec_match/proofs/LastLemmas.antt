@@ -10,7 +10,7 @@ use Rattle.label_base.specs.declared.kind.Asked.{Asked}
 use Rattle.pattern_match.proofs.Holding.{holds_tells}
 use Rattle.spec_match.specs.LastMatch.{fits, Fits, Decides, last_index, last_match}
 use Rattle.spec_match.specs.StatesFor.{spec_in}
-use Rattle.spec_match.specs.declared.rule.Rule.{Rule}
+use Rattle.spec_match.specs.declared.compiled_spec.CompiledSpec.{CompiledSpec}
 use Rattle.spec_reader.specs.SpecValue.{SpecValue}
 
 abbrev number_of : ℕ × SpecValue → ℕ
@@ -39,7 +39,7 @@ rest_none : (v : Bool) (x : SpecValue) (kept : List SpecValue) → cond v (x ∷
 rest_none true x kept h = cc
 rest_none false x kept h = h
 
-pub at_place : (rules : List Rule) (i : ℕ) (d : Rule) → i < length rules
+pub at_place : (rules : List CompiledSpec) (i : ℕ) (d : CompiledSpec) → i < length rules
     → slice_get (map spec_in rules) i ≡ Some (spec_in (get_or rules i d))
 at_place [] i d h = absurd (omega arith)
 at_place (r ∷ rules) zero d h = refl
@@ -55,7 +55,8 @@ module _ (asked : Asked) (text : List ℕ) where
   none_numbered n (s ∷ specs) h = passed_over (fits asked text s) s (filter (fits asked text) specs)
       n (numbered (n + 1) specs) h (none_numbered (n + 1) specs)
 
-  index_from : (n : ℕ) (rules : List Rule) (i : ℕ) (d : Rule) (o : Option ℕ) → i < length rules
+  index_from : (n : ℕ) (rules : List CompiledSpec) (i : ℕ) (d : CompiledSpec) (o : Option ℕ)
+      → i < length rules
       → fits asked text (spec_in (get_or rules i d)) ≡ true
       → filter (fits asked text) (map spec_in (drop (suc i) rules)) ≡ []
       → last_or o (map number_of (numbered n (map spec_in rules))) ≡ Some (n + i)
@@ -71,7 +72,8 @@ module _ (asked : Asked) (text : List ℕ) where
       (n + suc i)
       (λ o'. index_from (n + 1) rules i d o' (omega arith) t e ∙ ap Some (omega arith))
 
-  member_from : (rules : List Rule) (i : ℕ) (d : Rule) (o : Option SpecValue) → i < length rules
+  member_from : (rules : List CompiledSpec) (i : ℕ) (d : CompiledSpec) (o : Option SpecValue)
+      → i < length rules
       → fits asked text (spec_in (get_or rules i d)) ≡ true
       → filter (fits asked text) (map spec_in (drop (suc i) rules)) ≡ []
       → last_or o (filter (fits asked text) (map spec_in rules)) ≡ Some (spec_in (get_or rules i d))
@@ -83,14 +85,14 @@ module _ (asked : Asked) (text : List ℕ) where
       (λ o'. member_from rules i d o' (omega arith) t e)
 
   -- a specification fits, and none behind it does
-  pub found_index : (rules : List Rule) (i : ℕ) (d : Rule) → i < length rules
+  pub found_index : (rules : List CompiledSpec) (i : ℕ) (d : CompiledSpec) → i < length rules
       → fits asked text (spec_in (get_or rules i d)) ≡ true
       → filter (fits asked text) (map spec_in (drop (suc i) rules)) ≡ []
       → Some i ≡ last_index asked text (map spec_in rules)
   unfolding last_index
   found_index rules i d h t e = sym (index_from 0 rules i d None h t e ∙ ap Some (omega arith))
 
-  pub found_member : (rules : List Rule) (i : ℕ) (d : Rule) → i < length rules
+  pub found_member : (rules : List CompiledSpec) (i : ℕ) (d : CompiledSpec) → i < length rules
       → fits asked text (spec_in (get_or rules i d)) ≡ true
       → filter (fits asked text) (map spec_in (drop (suc i) rules)) ≡ []
       → option_and_then (slice_get (map spec_in rules)) (Some i) ≡ last_match asked text
@@ -99,12 +101,12 @@ module _ (asked : Asked) (text : List ℕ) where
   found_member rules i d h t e = at_place rules i d h ∙ sym (member_from rules i d None h t e)
 
   -- no specification fits
-  pub none_index : (rules : List Rule) → filter (fits asked text) (map spec_in rules) ≡ []
+  pub none_index : (rules : List CompiledSpec) → filter (fits asked text) (map spec_in rules) ≡ []
       → None ≡ last_index asked text (map spec_in rules)
   unfolding last_index
   none_index rules h = sym (ap (last_or None) (none_numbered 0 (map spec_in rules) h))
 
-  pub none_member : (rules : List Rule) → filter (fits asked text) (map spec_in rules) ≡ []
+  pub none_member : (rules : List CompiledSpec) → filter (fits asked text) (map spec_in rules) ≡ []
       → option_and_then {T = ℕ} (slice_get (map spec_in rules)) None ≡ last_match asked text
       (map spec_in rules)
   unfolding last_match
@@ -134,7 +136,7 @@ module _ (asked : Asked) (text : List ℕ) where
       none_fits specs (rest_none (fits asked text s) s (filter (fits asked text) specs) h) j spec g
       f
 
-  behind : (rules : List Rule) (i j : ℕ) (spec : SpecValue) → i ≤ j
+  behind : (rules : List CompiledSpec) (i j : ℕ) (spec : SpecValue) → i ≤ j
       → slice_get (map spec_in rules) j ≡ Some spec → (k : ℕ)
       × (slice_get (map spec_in (drop i rules)) k ≡ Some spec)
   behind [] i j spec l h = cc
@@ -142,13 +144,13 @@ module _ (asked : Asked) (text : List ℕ) where
   behind (r ∷ rules) (suc i) zero spec l h = absurd (omega arith)
   behind (r ∷ rules) (suc i) (suc j) spec l h = behind rules i j spec (omega arith) h
 
-  pub none_past : (rules : List Rule) (i j : ℕ) (spec : SpecValue) → i ≤ j
+  pub none_past : (rules : List CompiledSpec) (i j : ℕ) (spec : SpecValue) → i ≤ j
       → filter (fits asked text) (map spec_in (drop i rules)) ≡ [] → slice_get (map spec_in rules) j
       ≡ Some spec → Fits asked text spec → ⊥
   none_past rules i j spec l e g f = let b = behind rules i j spec l g in
       none_fits (map spec_in (drop i rules)) e b.0 spec b.1 f
 
-  pub found_decides : (rules : List Rule) (i : ℕ) (d : Rule) → i < length rules
+  pub found_decides : (rules : List CompiledSpec) (i : ℕ) (d : CompiledSpec) → i < length rules
       → fits asked text (spec_in (get_or rules i d)) ≡ true
       → filter (fits asked text) (map spec_in (drop (suc i) rules)) ≡ []
       → Decides asked text (map spec_in rules) (Some i)
@@ -159,6 +161,6 @@ module _ (asked : Asked) (text : List ℕ) where
     last = λ j later l g f. none_past rules (suc i) j later (omega (arith, l)) e g f;
   }
 
-  pub none_decides : (rules : List Rule) → filter (fits asked text) (map spec_in rules) ≡ []
+  pub none_decides : (rules : List CompiledSpec) → filter (fits asked text) (map spec_in rules) ≡ []
       → Decides asked text (map spec_in rules) None
   none_decides rules h = none_fits (map spec_in rules) h

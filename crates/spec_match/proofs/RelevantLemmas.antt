@@ -14,7 +14,7 @@ use Rattle.pattern_syntax.specs.Tree.{Tree}
 use Rattle.spec_match.specs.Alive.{Alive, AreAlive, NoneAlive, alive_at, pattern_at}
 use Rattle.spec_match.specs.Relevant.{can_decide, is_root_path, relevant_at}
 use Rattle.spec_match.specs.StatesFor.{patterns_of, spec_in}
-use Rattle.spec_match.specs.declared.rule.Rule.{Rule}
+use Rattle.spec_match.specs.declared.compiled_spec.CompiledSpec.{CompiledSpec}
 use Rattle.spec_match.proofs.AliveLemmas.{bound_next, member_at, rest_alive}
 use Rattle.spec_match.proofs.AnswerLemmas.{count_rules, pattern_of_rule}
 use Rattle.spec_reader.specs.SpecValue.{SpecValue}
@@ -37,24 +37,25 @@ module _ (path : Path) where
   first_of true n spec pairs = refl
   first_of false n spec pairs = refl
 
-  drop_here : (rules : List Rule) (i : ℕ) (d : Rule) → i < length rules → map spec_in (drop i rules)
+  drop_here : (rules : List CompiledSpec) (i : ℕ) (d : CompiledSpec) → i < length rules
+      → map spec_in (drop i rules)
       ≡ spec_in (get_or rules i d) ∷ map spec_in (drop (suc i) rules)
   drop_here [] i d l = absurd (omega (arith, l))
   drop_here (r ∷ rules) zero d l = refl
   drop_here (r ∷ rules) (suc i) d l = drop_here rules i d (omega (arith, l))
 
-  past : (rules : List Rule) (i : ℕ) → length rules ≤ i → map spec_in (drop i rules) ≡ []
+  past : (rules : List CompiledSpec) (i : ℕ) → length rules ≤ i → map spec_in (drop i rules) ≡ []
   past [] zero l = refl
   past [] (suc i) l = refl
   past (r ∷ rules) zero l = absurd (omega (arith, l))
   past (r ∷ rules) (suc i) l = past rules i (omega (arith, l))
 
   -- the first so many were tried
-  pub IsTried : List Rule → ℕ → List ℕ → Type 0
+  pub IsTried : List CompiledSpec → ℕ → List ℕ → Type 0
   IsTried rules i found = found ++ relevant_from i (map spec_in (drop i rules)) ≡ relevant_at path
       (map spec_in rules)
 
-  pub none_tried : (rules : List Rule) → IsTried rules 0 []
+  pub none_tried : (rules : List CompiledSpec) → IsTried rules 0 []
   unfolding IsTried relevant_at
   none_tried rules = refl
 
@@ -63,7 +64,8 @@ module _ (path : Path) where
   pushed true n found = refl
   pushed false n found = sym (append-nil found)
 
-  pub tried_on : (rules : List Rule) (i : ℕ) (rule : Rule) (v : Bool) (old new : List ℕ)
+  pub tried_on : (rules : List CompiledSpec) (i : ℕ) (rule : CompiledSpec) (v : Bool)
+      (old new : List ℕ)
       → i < length rules → rule ≡ get_or rules i rule → v ≡ can_decide path rule.spec
       → new ≡ cond v (old ++ i ∷ []) old → IsTried rules i old → IsTried rules (i + 1) new
   unfolding IsTried
@@ -71,7 +73,8 @@ module _ (path : Path) where
       let rest = relevant_from (i + 1) (map spec_in (drop (i + 1) rules)) in
       let next : i + 1 ≡ suc i = omega arith in
       let here : map spec_in (drop i rules) ≡ spec_in rule ∷ map spec_in (drop (i + 1) rules) =
-      drop_here rules i rule l ∙ ap (λ (r : Rule). spec_in r ∷ map spec_in (drop (suc i) rules))
+      drop_here rules i rule l
+      ∙ ap (λ (r : CompiledSpec). spec_in r ∷ map spec_in (drop (suc i) rules))
       (sym e) ∙ ap (λ k. spec_in rule ∷ map spec_in (drop k rules)) (sym next) in
       let first : relevant_from i (map spec_in (drop i rules)) ≡ cond v (i ∷ []) [] ++ rest =
       ap (relevant_from i) here ∙ first_of (can_decide path rule.spec) i (spec_in rule)
@@ -81,7 +84,7 @@ module _ (path : Path) where
       ap (λ w. w ++ rest) (n ∙ pushed v i old) ∙ append_assoc old (cond v (i ∷ []) []) rest
       ∙ ap (λ w. old ++ w) (sym first) ∙ h
 
-  pub all_tried : (rules : List Rule) (i : ℕ) (found : List ℕ) → length rules ≤ i
+  pub all_tried : (rules : List CompiledSpec) (i : ℕ) (found : List ℕ) → length rules ≤ i
       → IsTried rules i found → found ≡ relevant_at path (map spec_in rules)
   unfolding IsTried
   all_tried rules i found l h = sym (append-nil found) ∙ ap (λ w. found ++ relevant_from i w)
@@ -127,7 +130,7 @@ low_next (one ∷ list) (suc k) l = low_next list k (omega (arith, l))
 
 module _ (path : Path) where
   -- none of so many specifications can decide
-  skipped : (rules : List Rule) (gap i : ℕ) (d : Rule) (found : List ℕ)
+  skipped : (rules : List CompiledSpec) (gap i : ℕ) (d : CompiledSpec) (found : List ℕ)
       → ((j : ℕ) → i ≤ j → j < i + gap → can_decide path (spec_in (get_or rules j d)) ≡ false)
       → i + gap ≤ length rules → IsTried path rules i found → IsTried path rules (i + gap) found
   skipped rules zero i d found f l h = let e : i + 0 ≡ i = omega arith in rw e h
@@ -141,7 +144,8 @@ module _ (path : Path) where
       (tried_on path rules i rule false found found (omega (arith, l)) here
       (sym (f i (omega arith) (omega arith))) refl h))
 
-  none_decides : (rules : List Rule) (from below : ℕ) (d : Rule) (found : List ℕ) → from ≤ below
+  none_decides : (rules : List CompiledSpec) (from below : ℕ) (d : CompiledSpec) (found : List ℕ)
+      → from ≤ below
       → below ≤ length rules → NoneAlive (patterns_of rules) (path_text path) from below
       → IsTried path rules from found → IsTried path rules below found
   none_decides rules from below d found l m none h =
@@ -155,7 +159,8 @@ module _ (path : Path) where
 
   -- the member at a place of a list was tried, and those between it and the member behind it can't
   -- decide
-  pub decided_on : (rules : List Rule) (list : List Alive) (k : ℕ) (rule : Rule) (v : Bool)
+  pub decided_on : (rules : List CompiledSpec) (list : List Alive) (k : ℕ) (rule : CompiledSpec)
+      (v : Bool)
       (old new : List ℕ) → k < length list → rule ≡ get_or rules (alive_at list k).index rule
       → (alive_at list k).index < length rules
       → (StandsFor rule.spec.pattern (alive_at list k).states (path_text path)
@@ -166,7 +171,7 @@ module _ (path : Path) where
       let ps = patterns_of rules in
       let i = (alive_at list k).index in
       let m = member_at ps (path_text path) 0 (length ps) list k l h in
-      let p : rule.spec.pattern ≡ pattern_at ps i = ap (λ (r : Rule). r.spec.pattern) e
+      let p : rule.spec.pattern ≡ pattern_at ps i = ap (λ (r : CompiledSpec). r.spec.pattern) e
       ∙ pattern_of_rule rules i rule w in
       let rest = subst (λ b. AreAlive ps (path_text path) b (drop (suc k) list))
       (bound_next (length ps) list k l)
@@ -180,12 +185,12 @@ module _ (path : Path) where
       (f (subst (λ t. StandsFor t (alive_at list k).states (path_text path)) (sym p) m.stands))
       n before)
 
-  pub all_decided : (rules : List Rule) (list : List Alive) (found : List ℕ)
+  pub all_decided : (rules : List CompiledSpec) (list : List Alive) (found : List ℕ)
       → AreAlive (patterns_of rules) (path_text path) (length (patterns_of rules)) list
       → IsTried path rules (low_at list 0) found → found ≡ relevant_at path (map spec_in rules)
   all_decided rules list found h t = at rules refl h t
     where
-      at : (rs : List Rule) → rules ≡ rs → AreAlive (patterns_of rs) (path_text path)
+      at : (rs : List CompiledSpec) → rules ≡ rs → AreAlive (patterns_of rs) (path_text path)
           (length (patterns_of rs)) list → IsTried path rs (low_at list 0) found
           → found ≡ relevant_at path (map spec_in rules)
       at [] e a b = rw e (all_tried path [] (low_at list 0) found (omega arith) b)
@@ -197,7 +202,7 @@ module _ (path : Path) where
           (low_below ps (path_text path) (length ps) list a) (omega (arith, n))
           (none_above ps (path_text path) (length ps) list a) b))
 
-  pub none_decided : (rules : List Rule) (list : List Alive) (found : List ℕ) (left : ℕ)
+  pub none_decided : (rules : List CompiledSpec) (list : List Alive) (found : List ℕ) (left : ℕ)
       → found ≡ [] → left ≡ length list → IsTried path rules (low_at list left) found
   none_decided rules list found left e l =
       let z : low_at list left ≡ 0 = ap low_of (past_all list left (omega (arith, l))) in

@@ -13,7 +13,7 @@ use Rattle.spec_match.specs.Alive.{pattern_at, wanted_byte}
 use Rattle.spec_match.specs.Listed.{Covers, IsListed, Stays}
 use Rattle.spec_match.specs.StatesFor.{patterns_of, spec_in}
 use Rattle.spec_match.specs.Stepping.{GoesOn, IsEnd, IsStaying}
-use Rattle.spec_match.specs.declared.rule.Rule.{Rule}
+use Rattle.spec_match.specs.declared.compiled_spec.CompiledSpec.{CompiledSpec}
 use Rattle.spec_match.proofs.AliveLemmas.{IsStepped, all_stepped, member_at, none_more, stepped_on}
 use Rattle.spec_match.proofs.AliveLemmas.{stepped_to}
 use Rattle.spec_match.proofs.AnswerLemmas.{count_rules, pattern_of_rule}
@@ -89,7 +89,8 @@ listed_stays cuts ps specs list s = λ text rest r h. stays_by (IsListed cuts ps
     }) rest text r h
 
 -- a member of a list, and its rule
-module _ (rules : List Rule) (list : List Alive) (k i : ℕ) (rule : Rule) (within : k < length list)
+module _ (rules : List CompiledSpec) (list : List Alive) (k i : ℕ) (rule : CompiledSpec)
+    (within : k < length list)
     (owns : All (IsOwn (patterns_of rules)) list)
     (index : i ≡ (alive_at list k).index) (is : rule ≡ get_or rules i rule) where
   below : (alive_at list k).index < length rules
@@ -102,7 +103,8 @@ module _ (rules : List Rule) (list : List Alive) (k i : ℕ) (rule : Rule) (with
   there = is ∙ ap (λ n. get_or rules n rule) index
 
   pattern : rule.spec.pattern ≡ pattern_at (patterns_of rules) (alive_at list k).index
-  pattern = ap (λ (r : Rule). r.spec.pattern) there ∙ pattern_of_rule rules (alive_at list k).index
+  pattern = ap (λ (r : CompiledSpec). r.spec.pattern) there
+      ∙ pattern_of_rule rules (alive_at list k).index
       rule below
 
   pub rule_kept : AreStatesOf rule.spec.pattern (alive_at list k).states

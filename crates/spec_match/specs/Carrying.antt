@@ -5,7 +5,7 @@ use Rattle.file_paths.specs.Path.{Path, path_text}
 use Rattle.spec_match.specs.Alive.{Alive, AreAlive, IsOwn}
 use Rattle.spec_match.specs.Relevant.{is_root_path}
 use Rattle.spec_match.specs.StatesFor.{pattern_in, patterns_of}
-use Rattle.spec_match.specs.declared.rule.Rule.{Rule}
+use Rattle.spec_match.specs.declared.compiled_spec.CompiledSpec.{CompiledSpec}
 use Rattle.spec_reader.specs.SpecValue.{SpecValue}
 
 -- those that are alive, and whether the path is `/`, whose text ends with a slash
@@ -15,7 +15,7 @@ pub record Carrying : Type 0 where
 
 -- the list is that of the specifications that are alive behind the text of a path, where that path
 -- is `/` or isn't
-abbrev pub IsAliveAt : List Rule → Bool → List Alive → Path → Type 0
+abbrev pub IsAliveAt : List CompiledSpec → Bool → List Alive → Path → Type 0
 IsAliveAt rules is_root list path =
     (is_root ≡ is_root_path path)
     × AreAlive (patterns_of rules) (path_text path) (length (patterns_of rules)) list

@@ -8,7 +8,7 @@ use Rattle.pattern_syntax.specs.Literal.{literal_start_of}
 use Rattle.spec_match.specs.Alive.{pattern_at}
 use Rattle.spec_match.specs.LastMatch.{fits}
 use Rattle.spec_match.specs.StatesFor.{patterns_of, spec_in}
-use Rattle.spec_match.specs.declared.rule.Rule.{Rule}
+use Rattle.spec_match.specs.declared.compiled_spec.CompiledSpec.{CompiledSpec}
 use Rattle.spec_match.specs.declared.starts.Starts.{Starts}
 use Rattle.spec_match.specs.declared.starts.TheConstants.{BASE, MODULUS}
 use Rattle.spec_reader.specs.SpecValue.{SpecValue}
@@ -31,26 +31,27 @@ abbrev pub bucket_of : ℕ → List ℕ → ℕ
 bucket_of count text = hashed 0 text % count
 
 -- the bucket of a specification is that of its pattern's literal start
-abbrev pub own_bucket : List Rule → ℕ → ℕ → ℕ
+abbrev pub own_bucket : List CompiledSpec → ℕ → ℕ → ℕ
 own_bucket rules count i = bucket_of count (literal_start_of (pattern_at (patterns_of rules) i))
 
-abbrev pub is_in_bucket : List Rule → ℕ → ℕ → ℕ → Bool
+abbrev pub is_in_bucket : List CompiledSpec → ℕ → ℕ → ℕ → Bool
 is_in_bucket rules count bucket i = own_bucket rules count i == bucket
 
 -- of the first n specifications, each bucket leads to its last one, and each of them to the one
 -- before it in its bucket
-pub record AreChained (rules : List Rule) (count n : ℕ) (heads previous : List ℕ) : Type 0 where
-  pub some : 0 < count
-  pub buckets : length heads ≡ count
-  pub all : length previous ≡ n
-  pub last : (b : ℕ) → b < count
-      → slice_index heads b ≡ link (greatest_below n (is_in_bucket rules count b))
-  pub before : (i : ℕ) → i < n
-      → slice_index previous i
-      ≡ link (greatest_below i (is_in_bucket rules count (own_bucket rules count i)))
+pub record AreChained (rules : List CompiledSpec) (count n : ℕ) (heads previous : List ℕ) : Type 0
+  where
+    pub some : 0 < count
+    pub buckets : length heads ≡ count
+    pub all : length previous ≡ n
+    pub last : (b : ℕ) → b < count
+        → slice_index heads b ≡ link (greatest_below n (is_in_bucket rules count b))
+    pub before : (i : ℕ) → i < n
+        → slice_index previous i
+        ≡ link (greatest_below i (is_in_bucket rules count (own_bucket rules count i)))
 
 -- the starts are those of the specifications
-abbrev pub AreStartsOf : List Rule → Starts → Type 0
+abbrev pub AreStartsOf : List CompiledSpec → Starts → Type 0
 AreStartsOf rules starts =
     AreChained rules (length starts.heads.items) (length rules)
     starts.heads.items starts.previous.items
@@ -60,13 +61,13 @@ does_fit asked text None = false
 does_fit asked text (Some spec) = fits asked text spec
 
 -- the literal start of a specification has so many bytes
-abbrev pub starts_at : List Rule → ℕ → ℕ → Bool
+abbrev pub starts_at : List CompiledSpec → ℕ → ℕ → Bool
 starts_at rules at i = length (literal_start_of (pattern_at (patterns_of rules) i)) == at
 
 -- the specification at a place fits
-abbrev pub fits_at : Asked → List ℕ → List Rule → ℕ → Bool
+abbrev pub fits_at : Asked → List ℕ → List CompiledSpec → ℕ → Bool
 fits_at asked text rules i = does_fit asked text (slice_get (map spec_in rules) i)
 
 -- it fits, and its literal start has so many bytes
-abbrev pub fits_from : ℕ → Asked → List ℕ → List Rule → ℕ → Bool
+abbrev pub fits_from : ℕ → Asked → List ℕ → List CompiledSpec → ℕ → Bool
 fits_from at asked text rules i = starts_at rules at i && fits_at asked text rules i

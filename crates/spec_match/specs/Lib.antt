@@ -1,12 +1,13 @@
 pub mod LastMatch
 pub mod Relevant
 pub mod StatesFor
-pub mod PatternTests
+pub mod Memberships
 pub mod Alive
 pub mod Listed
 pub mod Stepping
 pub mod Members
 pub mod Written
+pub mod ListsSeen
 pub mod Remembering
 pub mod Trail
 pub mod Tables

@@ -1,6 +1,6 @@
 -- What look-ups work in.
 use Rattle.std.specs.Prelude.{◌≡◌, ℕ, Bool, false, List, [], map}
-use Rattle.pattern_match.specs.States.{Progress}
+use Rattle.pattern_match.specs.States.{Working}
 use Rattle.pattern_syntax.specs.Tree.{Tree}
 use Rattle.spec_reader.specs.SpecValue.{SpecValue}
 use Rattle.spec_match.specs.Alive.{Alive}
@@ -22,16 +22,16 @@ pub record IsTableReady (patterns : List Tree) (specs : List SpecValue) (all : R
   pub draft : all.draft ≡ []
   pub trail : IsTrail (IsListed all.table.cuts patterns specs) all.table.lists all.trail
 
--- states for each pattern, a table, one whose lists are whole, and the fronts of literal starts, if
+-- states for all patterns, a table, one whose lists are whole, and the fronts of literal starts, if
 -- they were made
-pub record Room : Type 0 where
-  pub states : List Progress
+pub record ScratchParts : Type 0 where
+  pub states : Working
   pub table : Remembered
   pub whole : Remembered
   pub are_made : Bool
   pub fronts : List ℕ
 
-pub record IsRoomReady (patterns : List Tree) (specs : List SpecValue) (room : Room)
+pub record IsRoomReady (patterns : List Tree) (specs : List SpecValue) (room : ScratchParts)
     : Type 0 where
   pub states : AreStatesFor patterns room.states
   pub table : IsTableReady patterns specs room.table
@@ -40,5 +40,5 @@ pub record IsRoomReady (patterns : List Tree) (specs : List SpecValue) (room : R
   pub fronts : AreFrontsIf patterns room.are_made room.fronts
 
 -- the scratch was made for this list
-unfoldable pub IsScratchOf : List SpecValue → Room → Type 0
+unfoldable pub IsScratchOf : List SpecValue → ScratchParts → Type 0
 IsScratchOf specs room = IsRoomReady (map pattern_in specs) specs room

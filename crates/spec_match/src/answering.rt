@@ -1,16 +1,25 @@
 ghost use Rattle.std.specs.Prelude.{◌≡◌, ◌<◌, ℕ, Bool, List, length, map};
-ghost use Rattle.pattern_match.specs.States.{AreStatesOf, StandsFor};
-ghost use Rattle.spec_match.specs.Alive.{alive_at, alive_list};
+ghost use Rattle.pattern_match.specs.States.{AreStatesOf, HasRoomFor, StandsFor};
+ghost use Rattle.spec_match.specs.Alive.{alive_at};
 ghost use Rattle.spec_match.specs.Listed.{IsListed};
 ghost use Rattle.spec_match.specs.LastMatch.{fits};
+ghost use Rattle.spec_match.specs.ListsSeen.{list_seen};
 ghost use Rattle.spec_match.specs.Remembering.{IsAnswer, asked_number};
 ghost use Rattle.spec_match.specs.StatesFor.{AreStatesFor, patterns_of, spec_in};
 ghost use Rattle.spec_match.specs.Stepping.{AreOwnLists};
 
-use crate::lists::Lists;
-use crate::rule::Rule;
+use crate::compiled_spec::CompiledSpec;
+use crate::lists::ListRef;
+use crate::trials::Trials;
 use label_base::Asked;
 use pattern_match::States;
+
+/// What is looked up: the last specification that fits a text, and applies to what is asked.
+#[derive(Clone, Copy)]
+pub struct Query<'a> {
+    pub text: &'a [u8],
+    pub asked: Asked,
+}
 
 /// A number below nine for what is asked.
 pub fn asked_number(asked: Asked) -> usize
@@ -26,48 +35,45 @@ pub fn asked_number(asked: Asked) -> usize
 // Whether the specification at a place of a list applies, and its language holds the text that was
 // read.
 fn does_fit(
-    lists: &Lists,
-    rule: &Rule,
+    list: &ListRef<'_>,
+    rule: &CompiledSpec,
     states: &mut States,
-    list: usize,
     k: usize,
     asked: Asked,
 ) -> bool
-    requires list { list < length lists.now.lists }
-    requires within { k < length (alive_list lists.now.lists list) }
-    requires made { AreStatesOf rule.now.spec.pattern states.old }
-    requires kept { AreStatesOf rule.now.spec.pattern
-        (alive_at (alive_list lists.now.lists list) k).states }
-    ensures made { AreStatesOf rule.now.spec.pattern states.new }
+    requires list { list.now.number < length list.now.lists.now.lists }
+    requires within { k < length (list_seen list.now) }
+    requires room { HasRoomFor rule.now.spec.pattern states.old.room }
+    requires kept { AreStatesOf rule.now.spec.pattern (alive_at (list_seen list.now) k).states }
+    ensures room { states.new.room ≡ states.old.room }
     ensures value { (text : List ℕ)
-        → StandsFor rule.now.spec.pattern (alive_at (alive_list lists.now.lists list) k).states text
+        → StandsFor rule.now.spec.pattern (alive_at (list_seen list.now) k).states text
         → result ≡ fits asked text rule.now.spec }
 {
-    lists.load(list, k, states);
+    list.lists.load(list.number, k, states);
     rule.fits_read(states, asked)
 }
 
 /// The first specification of a list that fits. The list goes from the last one back, so it is the
 /// last match.
 pub fn first_fit(
-    lists: &Lists,
-    rules: &[Rule],
-    states: &mut Vec<States>,
-    list: usize,
+    list: &ListRef<'_>,
+    rules: &[CompiledSpec],
+    states: &mut States,
     asked: Asked,
 ) -> Option<usize>
-    requires states { AreStatesFor (patterns_of rules.now) states.old.items }
-    requires own { AreOwnLists (patterns_of rules.now) lists.now.lists }
-    requires list { list < length lists.now.lists }
-    ensures states { AreStatesFor (patterns_of rules.now) states.new.items }
+    requires states { AreStatesFor (patterns_of rules.now) states.old }
+    requires own { AreOwnLists (patterns_of rules.now) list.now.lists.now.lists }
+    requires list { list.now.number < length list.now.lists.now.lists }
+    ensures states { AreStatesFor (patterns_of rules.now) states.new }
     ensures told { (cuts : Bool) (text : List ℕ)
-        → IsListed cuts (patterns_of rules.now) (map spec_in rules.now) text
-        (alive_list lists.now.lists list)
+        → IsListed cuts (patterns_of rules.now) (map spec_in rules.now) text (list_seen list.now)
         → IsAnswer asked text (map spec_in rules.now) result }
 {
-    'alive: for k in 0..lists.list_len(list) {
-        let i = lists.index(list, k);
-        if does_fit(lists, &rules[i], &mut states[i], list, k, asked) {
+    let lists = list.lists;
+    'alive: for k in 0..lists.list_len(list.number) {
+        let i = lists.index(list.number, k);
+        if does_fit(list, &rules[i], states, k, asked) {
             return Some(i);
         }
     }
@@ -75,14 +81,14 @@ pub fn first_fit(
 }
 
 /// Whether a specification fits. It counts as tried where its states are looked at.
-pub fn is_fit(rule: &Rule, states: &mut States, text: &[u8], asked: Asked, tried: &mut u64) -> bool
-    requires { AreStatesOf rule.now.spec.pattern states.old }
-    ensures made { AreStatesOf rule.now.spec.pattern states.new }
-    ensures value { result ≡ fits asked text.now rule.now.spec }
+pub fn is_fit(rule: &CompiledSpec, trials: &mut Trials, query: &Query<'_>) -> bool
+    requires { HasRoomFor rule.now.spec.pattern trials.old.states.room }
+    ensures room { trials.new.states.room ≡ trials.old.states.room }
+    ensures value { result ≡ fits query.now.asked query.now.text.now rule.now.spec }
 {
-    if !rule.may_hold(text) {
+    if !rule.may_hold(query.text) {
         return false;
     }
-    *tried = tried.saturating_add(1);
-    rule.does_fit(states, text, asked)
+    trials.tried = trials.tried.saturating_add(1);
+    rule.does_fit(&mut trials.states, query.text, query.asked)
 }

@@ -5,7 +5,7 @@ ghost use Rattle.spec_match.specs.Relevant.{relevant_at};
 ghost use Rattle.spec_match.specs.Remembering.{IsAnswer};
 ghost use Rattle.spec_match.specs.Scratches.{IsScratchOf};
 
-use crate::carrying::{enter, go_on, relevant_members, start};
+use crate::carrying::{ChildQuery, enter, go_on, relevant_members, start};
 use crate::members::Members;
 use crate::rule_set::RuleSet;
 use crate::scratch::Scratch;
@@ -82,13 +82,15 @@ impl Carried {
         ensures count { steps.new ≡ steps.old + 1 }
     {
         steps.tick();
-        match scratch.room.look_up_child(
-            rules.rules.as_slice(),
-            &self.alive,
-            self.is_root,
+        let query = ChildQuery {
+            is_root: self.is_root,
             name,
             asked,
-        ) {
+        };
+        match scratch
+            .room
+            .look_up_child(rules.rules.as_slice(), &self.alive, &query)
+        {
             Some(i) => Some(i as u32),
             None => None,
         }

@@ -2,7 +2,7 @@ ghost use Rattle.std.specs.Prelude.{◌≡◌, ◌<◌, ◌^◌, ◌++◌, ◌�
 ghost use Rattle.std.specs.Prelude.{length, map};
 ghost use Rattle.std.specs.List.{All};
 ghost use Rattle.file_paths.specs.Path.{Path, path_text};
-ghost use Rattle.pattern_match.specs.States.{AreStatesOf, StandsFor};
+ghost use Rattle.pattern_match.specs.States.{AreStatesOf, HasRoomFor, StandsFor};
 ghost use Rattle.spec_match.specs.Alive.{AreAlive, IsOwn, Leads, alive_at};
 ghost use Rattle.spec_match.specs.Carrying.{IsAliveAt};
 ghost use Rattle.spec_match.specs.LastMatch.{fits};
@@ -11,15 +11,37 @@ ghost use Rattle.spec_match.specs.Remembering.{IsAnswer};
 ghost use Rattle.spec_match.specs.StatesFor.{AreStatesFor, patterns_of, spec_in};
 ghost use Rattle.spec_match.specs.Stepping.{GoesOn, IsBegun};
 
+use crate::compiled_spec::CompiledSpec;
 use crate::members::Members;
 use crate::relevant::add_if;
-use crate::rule::Rule;
+use crate::trials::Trials;
 use label_base::{Asked, OutOfMemory};
 use pattern_match::States;
 use std::alloc::Global;
 
+/// What is looked up for a child of the path for which a list is, by its name.
+#[derive(Clone, Copy)]
+pub struct ChildQuery<'a> {
+    /// Whether the path is `/`.
+    pub is_root: bool,
+    pub name: &'a [u8],
+    pub asked: Asked,
+}
+
+// A member of a list.
+#[derive(Clone, Copy)]
+struct MemberRef<'a> {
+    list: &'a Members,
+    k: usize,
+}
+
 // Adds a specification in the states before the first byte of a text.
-fn start_one(alloc: Global, rule: &Rule, index: usize, to: &mut Members) -> Result<(), OutOfMemory>
+fn start_one(
+    alloc: Global,
+    rule: &CompiledSpec,
+    index: usize,
+    to: &mut Members,
+) -> Result<(), OutOfMemory>
     ensures { OnOk result (IsBegun rule.now.spec.pattern index to.old to.new) }
 {
     let mut states = rule.states(alloc)?;
@@ -28,7 +50,7 @@ fn start_one(alloc: Global, rule: &Rule, index: usize, to: &mut Members) -> Resu
 }
 
 /// All specifications, before the first byte of a text, from the last one back.
-pub fn start(alloc: Global, rules: &[Rule]) -> Result<Members, OutOfMemory>
+pub fn start(alloc: Global, rules: &[CompiledSpec]) -> Result<Members, OutOfMemory>
     ensures own { IfOk result (λ to. All (IsOwn (patterns_of rules.now)) to) }
     ensures alive { IfOk result (λ to.
         AreAlive (patterns_of rules.now) [] (length (patterns_of rules.now)) to) }
@@ -43,42 +65,44 @@ pub fn start(alloc: Global, rules: &[Rule]) -> Result<Members, OutOfMemory>
 }
 
 // Makes states those of a member of a list.
-fn load(from: &Members, k: usize, rule: &Rule, states: &mut States)
-    requires within { k < length from.now }
-    requires made { AreStatesOf rule.now.spec.pattern states.old }
-    requires kept { AreStatesOf rule.now.spec.pattern (alive_at from.now k).states }
-    ensures made { AreStatesOf rule.now.spec.pattern states.new }
-    ensures value { states.new ≡ (alive_at from.now k).states }
+fn load(member: &MemberRef<'_>, rule: &CompiledSpec, states: &mut States)
+    requires within { member.now.k < length member.now.list.now }
+    requires room { HasRoomFor rule.now.spec.pattern states.old.room }
+    requires kept { AreStatesOf rule.now.spec.pattern
+        (alive_at member.now.list.now member.now.k).states }
+    ensures room { states.new.room ≡ states.old.room }
+    ensures value { states.new.known ≡ (alive_at member.now.list.now member.now.k).states }
 {
-    from.load(k, states);
+    member.list.load(member.k, states);
 }
 
 // Adds a member of a list as it is behind a text more, if it is still alive there.
 fn go_on_one(
     alloc: Global,
-    rule: &Rule,
-    from: &Members,
-    k: usize,
+    rule: &CompiledSpec,
+    member: &MemberRef<'_>,
     text: &[u8],
     to: &mut Members,
 ) -> Result<(), OutOfMemory>
-    requires within { k < length from.now }
-    requires kept { AreStatesOf rule.now.spec.pattern (alive_at from.now k).states }
-    ensures { OnOk result
-        (GoesOn rule.now.spec.pattern text.now (alive_at from.now k) to.old to.new) }
+    requires within { member.now.k < length member.now.list.now }
+    requires kept { AreStatesOf rule.now.spec.pattern
+        (alive_at member.now.list.now member.now.k).states }
+    ensures { OnOk result (GoesOn rule.now.spec.pattern text.now
+        (alive_at member.now.list.now member.now.k) to.old to.new) }
 {
     let mut states = rule.states(alloc)?;
-    load(from, k, rule, &mut states);
+    load(member, rule, &mut states);
     if !rule.read_on(&mut states, text) {
         return Ok(());
     }
-    to.add(from.index(k), &states, rule.wants(states.seen()))
+    let index = member.list.index(member.k);
+    to.add(index, &states, rule.wants(states.seen()))
 }
 
 /// The members of a list that are alive behind a text more.
 pub fn go_on(
     alloc: Global,
-    rules: &[Rule],
+    rules: &[CompiledSpec],
     from: &Members,
     text: &[u8],
 ) -> Result<Members, OutOfMemory>
@@ -89,7 +113,8 @@ pub fn go_on(
     let mut to = Members::empty(alloc);
     'alive: for k in 0..from.len() {
         let i = from.index(k);
-        go_on_one(alloc, &rules[i], from, k, text, &mut to)?;
+        let member = MemberRef { list: from, k };
+        go_on_one(alloc, &rules[i], &member, text, &mut to)?;
     }
     Ok(to)
 }
@@ -97,7 +122,7 @@ pub fn go_on(
 /// The members of a list that are alive behind the text of a child of the path for which they are.
 pub fn enter(
     alloc: Global,
-    rules: &[Rule],
+    rules: &[CompiledSpec],
     from: &Members,
     is_root: bool,
     name: &[u8],
@@ -116,51 +141,42 @@ pub fn enter(
 
 // Whether a specification fits the text of a child of the path for which its states are. It counts
 // as tried where the whole text can be read.
-fn does_fit_child(
-    rule: &Rule,
-    states: &mut States,
-    is_root: bool,
-    name: &[u8],
-    asked: Asked,
-    tried: &mut u64,
-) -> bool
-    requires { AreStatesOf rule.now.spec.pattern states.old }
-    ensures made { AreStatesOf rule.now.spec.pattern states.new }
-    ensures value { (path : Path) → is_root ≡ is_root_path path
-        → StandsFor rule.now.spec.pattern states.old (path_text path)
-        → result ≡ fits asked (path_text (path ++ name.now ∷ [])) rule.now.spec }
+fn does_fit_child(rule: &CompiledSpec, trials: &mut Trials, query: &ChildQuery<'_>) -> bool
+    requires { AreStatesOf rule.now.spec.pattern trials.old.states.known }
+    ensures room { trials.new.states.room ≡ trials.old.states.room }
+    ensures value { (path : Path) → query.now.is_root ≡ is_root_path path
+        → StandsFor rule.now.spec.pattern trials.old.states.known (path_text path)
+        → result ≡ fits query.now.asked (path_text (path ++ query.now.name.now ∷ []))
+        rule.now.spec }
 {
-    if !rule.read_child(states, is_root, name) {
+    if !rule.read_child(&mut trials.states, query.is_root, query.name) {
         return false;
     }
-    *tried = tried.saturating_add(1);
-    rule.fits_read(states, asked)
+    trials.tried = trials.tried.saturating_add(1);
+    rule.fits_read(&mut trials.states, query.asked)
 }
 
 /// The first member of a list that fits the text of a child of the path for which the list is. The
 /// list goes from the last one back, so it is the last match.
 pub fn first_child_fit(
-    rules: &[Rule],
-    states: &mut Vec<States>,
+    rules: &[CompiledSpec],
+    trials: &mut Trials,
     from: &Members,
-    is_root: bool,
-    name: &[u8],
-    asked: Asked,
-    tried: &mut u64,
+    query: &ChildQuery<'_>,
 ) -> Option<usize>
-    requires states { AreStatesFor (patterns_of rules.now) states.old.items }
+    requires states { AreStatesFor (patterns_of rules.now) trials.old.states }
     requires own { All (IsOwn (patterns_of rules.now)) from.now }
-    ensures states { AreStatesFor (patterns_of rules.now) states.new.items }
+    ensures states { AreStatesFor (patterns_of rules.now) trials.new.states }
     ensures within { IfSome result (λ i. i < length rules.now) }
-    ensures told { (path : Path) → IsAliveAt rules.now is_root from.now path
-        → IsAnswer asked (path_text (path ++ name.now ∷ [])) (map spec_in rules.now) result }
+    ensures told { (path : Path) → IsAliveAt rules.now query.now.is_root from.now path
+        → IsAnswer query.now.asked (path_text (path ++ query.now.name.now ∷ []))
+        (map spec_in rules.now) result }
 {
     'alive: for k in 0..from.len() {
         let i = from.index(k);
         let rule = &rules[i];
-        let own = &mut states[i];
-        load(from, k, rule, own);
-        if does_fit_child(rule, own, is_root, name, asked, tried) {
+        load(&MemberRef { list: from, k }, rule, &mut trials.states);
+        if does_fit_child(rule, trials, query) {
             return Some(i);
         }
     }
@@ -170,19 +186,20 @@ pub fn first_child_fit(
 // Whether a member of a list can decide at or below the path for which the list is.
 fn can_member_decide(
     alloc: Global,
-    rule: &Rule,
-    from: &Members,
-    k: usize,
+    rule: &CompiledSpec,
+    member: &MemberRef<'_>,
     is_root: bool,
 ) -> Result<bool, OutOfMemory>
-    requires within { k < length from.now }
-    requires kept { AreStatesOf rule.now.spec.pattern (alive_at from.now k).states }
+    requires within { member.now.k < length member.now.list.now }
+    requires kept { AreStatesOf rule.now.spec.pattern
+        (alive_at member.now.list.now member.now.k).states }
     ensures { IfOk result (λ can. (path : Path) → is_root ≡ is_root_path path
-        → StandsFor rule.now.spec.pattern (alive_at from.now k).states (path_text path)
+        → StandsFor rule.now.spec.pattern (alive_at member.now.list.now member.now.k).states
+        (path_text path)
         → can ≡ can_decide path rule.now.spec) }
 {
     let mut states = rule.states(alloc)?;
-    load(from, k, rule, &mut states);
+    load(member, rule, &mut states);
     Ok(rule.can_decide_behind(&mut states, is_root))
 }
 
@@ -190,7 +207,7 @@ fn can_member_decide(
 /// ascending order.
 pub fn relevant_members(
     alloc: Global,
-    rules: &[Rule],
+    rules: &[CompiledSpec],
     from: &Members,
     is_root: bool,
 ) -> Result<Vec<u32>, OutOfMemory>
@@ -204,7 +221,11 @@ pub fn relevant_members(
     'alive: while left > 0 {
         left -= 1;
         let i = from.index(left);
-        let is_found = can_member_decide(alloc, &rules[i], from, left, is_root)?;
+        let member = MemberRef {
+            list: from,
+            k: left,
+        };
+        let is_found = can_member_decide(alloc, &rules[i], &member, is_root)?;
         add_if(&mut found, i as u32, is_found)?;
     }
     Ok(found)

@@ -7,12 +7,11 @@ ghost use Rattle.spec_match.specs.Fronts.{AreFronts, AreFrontsIf, all_keys};
 ghost use Rattle.spec_match.specs.Fronts.{front_key, front_keys, key_if};
 ghost use Rattle.spec_match.specs.StatesFor.{AreStatesFor, patterns_of};
 
-use crate::relevant::try_rule;
-use crate::rule::Rule;
+use crate::compiled_spec::CompiledSpec;
+use crate::relevant::{Sought, try_rule};
 use crate::starts::mixed;
-use file_paths::PathRef;
+use crate::trials::Trials;
 use label_base::OutOfMemory;
-use pattern_match::States;
 use std::alloc::Global;
 
 // A hash is below it, and so is an index.
@@ -61,7 +60,7 @@ fn add_fronts(keys: &mut Vec<u64>, start: &[u8], i: usize) -> Result<(), OutOfMe
     Ok(())
 }
 
-fn all_keys(alloc: Global, rules: &[Rule]) -> Result<Vec<u64>, OutOfMemory>
+fn all_keys(alloc: Global, rules: &[CompiledSpec]) -> Result<Vec<u64>, OutOfMemory>
     requires { length rules.now < 2 ^ 32 }
     ensures { IfOk result (λ keys. keys.items ≡ all_keys 0 (patterns_of rules.now)) }
 {
@@ -72,7 +71,7 @@ fn all_keys(alloc: Global, rules: &[Rule]) -> Result<Vec<u64>, OutOfMemory>
     Ok(keys)
 }
 
-fn sorted_keys(alloc: Global, rules: &[Rule]) -> Result<Vec<u64>, OutOfMemory>
+fn sorted_keys(alloc: Global, rules: &[CompiledSpec]) -> Result<Vec<u64>, OutOfMemory>
     requires { length rules.now < 2 ^ 32 }
     ensures { IfOk result (λ keys. AreFronts (patterns_of rules.now) keys.items) }
 {
@@ -104,48 +103,45 @@ fn count_to(keys: &[u64], hash: u64) -> usize
 
 // Adds the specification of a key, if it can decide at or below a path.
 fn try_key(
-    rules: &[Rule],
-    states: &mut Vec<States>,
+    sought: &Sought<'_, '_>,
+    trials: &mut Trials,
     key: u64,
-    path: &PathRef<'_>,
     found: &mut Vec<u32>,
-    tried: &mut u64,
 ) -> Result<(), OutOfMemory>
-    requires count { length rules.now < 2 ^ 32 }
-    requires states { AreStatesFor (patterns_of rules.now) states.old.items }
-    ensures states { AreStatesFor (patterns_of rules.now) states.new.items }
-    ensures added { OnOk result (IsAddedOf (path_of path.now) rules.now key
+    requires count { length sought.now.rules.now < 2 ^ 32 }
+    requires states { AreStatesFor (patterns_of sought.now.rules.now) trials.old.states }
+    ensures states { AreStatesFor (patterns_of sought.now.rules.now) trials.new.states }
+    ensures added { OnOk result (IsAddedOf (path_of sought.now.path) sought.now.rules.now key
         found.old.items found.new.items) }
 {
+    let rules = sought.rules;
     let i = (key % SPAN) as usize;
     if i >= rules.len() {
         return Ok(());
     }
-    try_rule(rules, states, i, path, found, tried)
+    try_rule(sought, trials, i, found)
 }
 
 /// Adds the specifications that can decide at or below a path, of those that have a front with a
 /// hash.
 pub fn add_below(
     keys: &[u64],
-    rules: &[Rule],
-    states: &mut Vec<States>,
+    sought: &Sought<'_, '_>,
+    trials: &mut Trials,
     hash: u64,
-    path: &PathRef<'_>,
     found: &mut Vec<u32>,
-    tried: &mut u64,
 ) -> Result<(), OutOfMemory>
-    requires count { length rules.now < 2 ^ 32 }
-    requires fronts { AreFronts (patterns_of rules.now) keys.now }
-    requires states { AreStatesFor (patterns_of rules.now) states.old.items }
-    ensures states { AreStatesFor (patterns_of rules.now) states.new.items }
-    ensures added { OnOk result (AreAddedBelow (path_of path.now) rules.now keys.now hash
-        found.old.items found.new.items) }
+    requires count { length sought.now.rules.now < 2 ^ 32 }
+    requires fronts { AreFronts (patterns_of sought.now.rules.now) keys.now }
+    requires states { AreStatesFor (patterns_of sought.now.rules.now) trials.old.states }
+    ensures states { AreStatesFor (patterns_of sought.now.rules.now) trials.new.states }
+    ensures added { OnOk result (AreAddedBelow (path_of sought.now.path) sought.now.rules.now
+        keys.now hash found.old.items found.new.items) }
 {
     let first = count_before(keys, hash);
     let end = count_to(keys, hash);
     'keys: for at in first..end {
-        try_key(rules, states, keys[at], path, found, tried)?;
+        try_key(sought, trials, keys[at], found)?;
     }
     Ok(())
 }
@@ -162,7 +158,7 @@ impl Fronts {
     }
 
     /// Makes them, if they aren't made yet.
-    pub fn prepare(&mut self, alloc: Global, rules: &[Rule]) -> Result<(), OutOfMemory>
+    pub fn prepare(&mut self, alloc: Global, rules: &[CompiledSpec]) -> Result<(), OutOfMemory>
         requires count { length rules.now < 2 ^ 32 }
         requires own { AreFrontsIf (patterns_of rules.now) self.old.are_made self.old.keys.items }
         ensures own { AreFrontsIf (patterns_of rules.now) self.new.are_made self.new.keys.items }

@@ -6,12 +6,12 @@ mod carried;
 #[cfg(test)]
 mod carried_tests;
 mod carrying;
+mod compiled_spec;
 mod fronts;
 mod lists;
 mod members;
-mod pattern_test;
+mod membership;
 mod relevant;
-mod rule;
 mod rule_set;
 mod scratch;
 mod starts;
@@ -20,6 +20,7 @@ mod table;
 #[cfg(test)]
 mod tests;
 mod trail;
+mod trials;
 #[cfg(test)]
 mod tried_tests;
 mod workspace;

@@ -1,4 +1,5 @@
-ghost use Rattle.std.specs.Prelude.{◌≡◌, ◌<◌, ◌++◌, ◌∷◌, [], true, IfOk, length, if◌then◌else◌};
+ghost use Rattle.std.specs.Prelude.{◌≡◌, ◌<◌, ◌≤◌, ◌++◌, ◌∷◌, [], true, IfOk, length};
+ghost use Rattle.std.specs.Prelude.{if◌then◌else◌};
 ghost use Rattle.spec_match.specs.Alive.{WantsOther, alive, alive_at, alive_list};
 ghost use Rattle.spec_match.specs.Written.{lists_written};
 
@@ -23,6 +24,13 @@ pub struct Lists {
     spans: Vec<Span>,
     // How many members are in lists that are complete.
     done: usize,
+}
+
+/// One of the lists that are complete.
+#[derive(Clone, Copy)]
+pub struct ListRef<'a> {
+    pub lists: &'a Lists,
+    pub number: usize,
 }
 
 impl Model for Lists {
@@ -114,8 +122,9 @@ impl Lists {
         requires list { i < length self.now.lists }
         requires within { k < length (alive_list self.now.lists i) }
         requires width { length (alive_at (alive_list self.now.lists i) k).states.marks
-            ≡ length states.old.marks }
-        ensures { states.new ≡ (alive_at (alive_list self.now.lists i) k).states }
+            ≤ states.old.room }
+        ensures known { states.new.known ≡ (alive_at (alive_list self.now.lists i) k).states }
+        ensures room { states.new.room ≡ states.old.room }
     {
         let _ = self.members.len();
         self.members.load(self.spans[i].start + k, states);
@@ -124,7 +133,8 @@ impl Lists {
     /// Writes a specification to the end of the list that is being written, where there is room.
     pub fn push(&mut self, index: usize, states: &States, wants: Option<u8>) -> bool
         ensures { self.new ≡ (if result
-            then lists_written self.old.lists (self.old.draft ++ alive index states.now wants ∷ [])
+            then lists_written self.old.lists
+            (self.old.draft ++ alive index states.now.known wants ∷ [])
             else self.old) }
     {
         self.members.push(index, states, wants)

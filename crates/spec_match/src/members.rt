@@ -139,8 +139,9 @@ impl Members {
     /// Makes states those of a member.
     pub fn load(&self, k: usize, states: &mut States)
         requires within { k < length self.now }
-        requires width { length (alive_at self.now k).states.marks ≡ length states.old.marks }
-        ensures { states.new ≡ (alive_at self.now k).states }
+        requires width { length (alive_at self.now k).states.marks ≤ states.old.room }
+        ensures known { states.new.known ≡ (alive_at self.now k).states }
+        ensures room { states.new.room ≡ states.old.room }
     {
         states.set(self.seen(k), self.marks(k));
     }
@@ -148,7 +149,7 @@ impl Members {
     /// Adds a specification, where there is room.
     pub fn push(&mut self, index: usize, states: &States, wants: Option<u8>) -> bool
         ensures { self.new
-            ≡ (if result then self.old ++ alive index states.now wants ∷ [] else self.old) }
+            ≡ (if result then self.old ++ alive index states.now.known wants ∷ [] else self.old) }
     {
         let marks = states.marks();
         if self.members.len() == self.members.capacity() {
@@ -178,7 +179,7 @@ impl Members {
         states: &States,
         wants: Option<u8>,
     ) -> Result<(), OutOfMemory>
-        ensures { OnOk result (self.new ≡ self.old ++ alive index states.now wants ∷ []) }
+        ensures { OnOk result (self.new ≡ self.old ++ alive index states.now.known wants ∷ []) }
     {
         self.members.reserve(1)?;
         self.words.reserve(states.marks().len())?;

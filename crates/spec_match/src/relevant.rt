@@ -2,20 +2,22 @@ ghost use Rattle.std.specs.Prelude.{◌≡◌, ◌<◌, ◌^◌, ◌++◌, ◌�
 ghost use Rattle.std.specs.Prelude.{if◌then◌else◌};
 ghost use Rattle.file_paths.specs.Path.{Path, path_text};
 ghost use Rattle.file_paths.specs.PathRef.{path_of};
-ghost use Rattle.pattern_match.specs.States.{AreStatesOf, StandsFor};
-ghost use Rattle.spec_match.specs.Alive.{AreAlive, alive_at, alive_list};
+ghost use Rattle.pattern_match.specs.States.{AreStatesOf, HasRoomFor, StandsFor};
+ghost use Rattle.spec_match.specs.Alive.{AreAlive, alive_at};
 ghost use Rattle.spec_match.specs.Chains.{AreStartsOf};
 ghost use Rattle.spec_match.specs.Found.{AreFound, IsAddedFrom, IsAddedOne, front_text};
 ghost use Rattle.spec_match.specs.Fronts.{AreFronts};
+ghost use Rattle.spec_match.specs.ListsSeen.{list_seen};
 ghost use Rattle.spec_match.specs.Relevant.{can_decide, is_root_path, relevant_at};
 ghost use Rattle.spec_match.specs.StatesFor.{AreStatesFor, patterns_of, spec_in};
 ghost use Rattle.spec_match.specs.Stepping.{AreOwnLists};
 ghost use Rattle.spec_reader.specs.SpecValue.{SpecValue};
 
+use crate::compiled_spec::CompiledSpec;
 use crate::fronts::add_below;
-use crate::lists::Lists;
-use crate::rule::Rule;
+use crate::lists::ListRef;
 use crate::starts::{Starts, mixed};
+use crate::trials::Trials;
 use file_paths::PathRef;
 use label_base::OutOfMemory;
 use pattern_match::States;
@@ -32,50 +34,54 @@ pub fn add_if(found: &mut Vec<u32>, index: u32, is_found: bool) -> Result<(), Ou
     Ok(())
 }
 
-/// Adds a specification, if it can decide at or below a path.
+/// What is sought: which of these specifications can decide at or below a path.
+#[derive(Clone, Copy)]
+pub struct Sought<'r, 'p> {
+    pub rules: &'r [CompiledSpec],
+    pub path: PathRef<'p>,
+}
+
+/// Adds a specification, if it can decide at or below the path.
 pub fn try_rule(
-    rules: &[Rule],
-    states: &mut Vec<States>,
+    sought: &Sought<'_, '_>,
+    trials: &mut Trials,
     i: usize,
-    path: &PathRef<'_>,
     found: &mut Vec<u32>,
-    tried: &mut u64,
 ) -> Result<(), OutOfMemory>
-    requires count { length rules.now < 2 ^ 32 }
-    requires within { i < length rules.now }
-    requires states { AreStatesFor (patterns_of rules.now) states.old.items }
-    ensures states { AreStatesFor (patterns_of rules.now) states.new.items }
-    ensures added { OnOk result (IsAddedOne (path_of path.now) rules.now i
+    requires count { length sought.now.rules.now < 2 ^ 32 }
+    requires within { i < length sought.now.rules.now }
+    requires states { AreStatesFor (patterns_of sought.now.rules.now) trials.old.states }
+    ensures states { AreStatesFor (patterns_of sought.now.rules.now) trials.new.states }
+    ensures added { OnOk result (IsAddedOne (path_of sought.now.path) sought.now.rules.now i
         found.old.items found.new.items) }
 {
-    *tried = tried.saturating_add(1);
+    trials.tried = trials.tried.saturating_add(1);
+    let rules = sought.rules;
     let rule = &rules[i];
-    let own = &mut states[i];
-    let is_found = rule.can_decide(own, path);
+    let is_found = rule.can_decide(&mut trials.states, &sought.path);
     add_if(found, i as u32, is_found)
 }
 
 /// The same, if its literal start has so many bytes.
 pub fn try_from(
-    rules: &[Rule],
-    states: &mut Vec<States>,
+    sought: &Sought<'_, '_>,
+    trials: &mut Trials,
     at: usize,
     i: usize,
-    path: &PathRef<'_>,
     found: &mut Vec<u32>,
-    tried: &mut u64,
 ) -> Result<(), OutOfMemory>
-    requires count { length rules.now < 2 ^ 32 }
-    requires within { i < length rules.now }
-    requires states { AreStatesFor (patterns_of rules.now) states.old.items }
-    ensures states { AreStatesFor (patterns_of rules.now) states.new.items }
-    ensures added { OnOk result (IsAddedFrom (path_of path.now) rules.now at i
+    requires count { length sought.now.rules.now < 2 ^ 32 }
+    requires within { i < length sought.now.rules.now }
+    requires states { AreStatesFor (patterns_of sought.now.rules.now) trials.old.states }
+    ensures states { AreStatesFor (patterns_of sought.now.rules.now) trials.new.states }
+    ensures added { OnOk result (IsAddedFrom (path_of sought.now.path) sought.now.rules.now at i
         found.old.items found.new.items) }
 {
+    let rules = sought.rules;
     if rules[i].start().len() != at {
         return Ok(());
     }
-    try_rule(rules, states, i, path, found, tried)
+    try_rule(sought, trials, i, found)
 }
 
 // What all texts below a path begin with, before a slash.
@@ -102,51 +108,47 @@ fn in_order(mut found: Vec<u32>) -> Vec<u32>
 /// are tried whose texts begin as it does.
 pub fn relevant_by_starts(
     alloc: Global,
-    rules: &[Rule],
+    sought: &Sought<'_, '_>,
     starts: &Starts,
     keys: &[u64],
-    states: &mut Vec<States>,
-    path: &PathRef<'_>,
-    tried: &mut u64,
+    trials: &mut Trials,
 ) -> Result<Vec<u32>, OutOfMemory>
-    requires count { length rules.now < 2 ^ 32 }
-    requires starts { AreStartsOf rules.now starts.now }
-    requires fronts { AreFronts (patterns_of rules.now) keys.now }
-    requires states { AreStatesFor (patterns_of rules.now) states.old.items }
-    ensures states { AreStatesFor (patterns_of rules.now) states.new.items }
+    requires count { length sought.now.rules.now < 2 ^ 32 }
+    requires starts { AreStartsOf sought.now.rules.now starts.now }
+    requires fronts { AreFronts (patterns_of sought.now.rules.now) keys.now }
+    requires states { AreStatesFor (patterns_of sought.now.rules.now) trials.old.states }
+    ensures states { AreStatesFor (patterns_of sought.now.rules.now) trials.new.states }
     ensures value { IfOk result (λ found. found.items
-        ≡ relevant_at (path_of path.now) (map spec_in rules.now)) }
+        ≡ relevant_at (path_of sought.now.path) (map spec_in sought.now.rules.now)) }
 {
-    let text = front_text(path);
+    let text = front_text(&sought.path);
     let mut found = Vec::new(alloc);
-    let hash = starts.add_above(rules, states, text, path, &mut found, tried)?;
+    let hash = starts.add_above(sought, trials, text, &mut found)?;
     let below = mixed(hash, b'/');
-    add_below(keys, rules, states, below, path, &mut found, tried)?;
+    add_below(keys, sought, trials, below, &mut found)?;
     Ok(in_order(found))
 }
 
 // Whether the specification at a place of a list can decide at or below the path whose text was
 // read.
 fn can_decide(
-    lists: &Lists,
-    rule: &Rule,
+    list: &ListRef<'_>,
+    rule: &CompiledSpec,
     states: &mut States,
-    list: usize,
     k: usize,
     is_root: bool,
 ) -> bool
-    requires list { list < length lists.now.lists }
-    requires within { k < length (alive_list lists.now.lists list) }
-    requires made { AreStatesOf rule.now.spec.pattern states.old }
-    requires kept { AreStatesOf rule.now.spec.pattern
-        (alive_at (alive_list lists.now.lists list) k).states }
-    ensures made { AreStatesOf rule.now.spec.pattern states.new }
+    requires list { list.now.number < length list.now.lists.now.lists }
+    requires within { k < length (list_seen list.now) }
+    requires room { HasRoomFor rule.now.spec.pattern states.old.room }
+    requires kept { AreStatesOf rule.now.spec.pattern (alive_at (list_seen list.now) k).states }
+    ensures room { states.new.room ≡ states.old.room }
     ensures value { (path : Path) → is_root ≡ is_root_path path
-        → StandsFor rule.now.spec.pattern (alive_at (alive_list lists.now.lists list) k).states
+        → StandsFor rule.now.spec.pattern (alive_at (list_seen list.now) k).states
         (path_text path)
         → result ≡ can_decide path rule.now.spec }
 {
-    lists.load(list, k, states);
+    list.lists.load(list.number, k, states);
     rule.can_decide_behind(states, is_root)
 }
 
@@ -154,30 +156,29 @@ fn can_decide(
 /// the list of those that are alive behind its text. The list goes from the last one back.
 pub fn listed_relevant(
     alloc: Global,
-    lists: &Lists,
-    rules: &[Rule],
-    states: &mut Vec<States>,
-    list: usize,
+    list: &ListRef<'_>,
+    rules: &[CompiledSpec],
+    states: &mut States,
     is_root: bool,
 ) -> Result<Vec<u32>, OutOfMemory>
     requires count { length rules.now < 2 ^ 32 }
-    requires states { AreStatesFor (patterns_of rules.now) states.old.items }
-    requires own { AreOwnLists (patterns_of rules.now) lists.now.lists }
-    requires list { list < length lists.now.lists }
-    ensures states { AreStatesFor (patterns_of rules.now) states.new.items }
+    requires states { AreStatesFor (patterns_of rules.now) states.old }
+    requires own { AreOwnLists (patterns_of rules.now) list.now.lists.now.lists }
+    requires list { list.now.number < length list.now.lists.now.lists }
+    ensures states { AreStatesFor (patterns_of rules.now) states.new }
     ensures value { IfOk result (λ found. (path : Path) → is_root ≡ is_root_path path
         → AreAlive (patterns_of rules.now) (path_text path) (length (patterns_of rules.now))
-        (alive_list lists.now.lists list)
+        (list_seen list.now)
         → found.items ≡ relevant_at path (map spec_in rules.now)) }
 {
     let mut found = Vec::new(alloc);
-    let mut left = lists.list_len(list);
+    let lists = list.lists;
+    let mut left = lists.list_len(list.number);
     'alive: while left > 0 {
         left -= 1;
-        let i = lists.index(list, left);
+        let i = lists.index(list.number, left);
         let rule = &rules[i];
-        let own = &mut states[i];
-        let is_found = can_decide(lists, rule, own, list, left, is_root);
+        let is_found = can_decide(list, rule, states, left, is_root);
         add_if(&mut found, i as u32, is_found)?;
     }
     Ok(found)

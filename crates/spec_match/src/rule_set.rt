@@ -1,19 +1,23 @@
-ghost use Rattle.std.specs.Prelude.{◌≡◌, ◌+◌, ◌<◌, ◌^◌, [], false, IfOk, IfSome, Some, length, map};
+ghost use Rattle.std.specs.Prelude.{◌≡◌, ◌+◌, ◌<◌, ◌≤◌, ◌^◌, [], false, IfOk, IfSome, Some};
+ghost use Rattle.std.specs.Prelude.{length, map};
 ghost use Rattle.std.specs.Prelude.{option_and_then, slice_get};
 ghost use Rattle.file_paths.specs.Path.{path_text};
 ghost use Rattle.file_paths.specs.PathRef.{path_of};
 ghost use Rattle.spec_match.specs.LastMatch.{Decides, last_index, last_match};
 ghost use Rattle.spec_match.specs.Relevant.{relevant_at};
 ghost use Rattle.spec_match.specs.Remembering.{kept};
-ghost use Rattle.spec_match.specs.StatesFor.{AreStatesFor, patterns_of, spec_in};
+ghost use Rattle.spec_match.specs.StatesFor.{AreStatesFor, HasRoomForEach, patterns_of, spec_in};
 ghost use Rattle.spec_match.specs.Scratches.{IsScratchOf};
 ghost use Rattle.spec_match.specs.Tables.{kept_in};
 
+use crate::answering::Query;
+use crate::compiled_spec::CompiledSpec;
 use crate::fronts::Fronts;
-use crate::rule::Rule;
+use crate::relevant::Sought;
 use crate::scratch::Scratch;
 use crate::starts::Starts;
 use crate::table::Table;
+use crate::trials::Trials;
 use crate::workspace::Workspace;
 use file_paths::PathRef;
 use label_base::{Asked, OutOfMemory, Row, Steps};
@@ -40,7 +44,7 @@ const MOST_WHOLE_WORDS: usize = 262_144;
 
 /// A list of specifications in which the last match is looked for, seen as that list.
 pub struct RuleSet {
-    pub(crate) rules: Vec<Rule>,
+    pub(crate) rules: Vec<CompiledSpec>,
     // Where those are found whose literal start a text begins with.
     starts: Starts,
 }
@@ -76,24 +80,39 @@ impl Model for RuleSet {
     } };
 }
 
-fn rules_of(alloc: Global, specs: Vec<Spec>) -> Result<Vec<Rule>, OutOfMemory>
+fn rules_of(alloc: Global, specs: Vec<Spec>) -> Result<Vec<CompiledSpec>, OutOfMemory>
     ensures { IfOk result (λ rules. map spec_in rules.items ≡ specs.items) }
 {
     let mut rules = Vec::with_capacity(alloc, specs.len())?;
     'specs: for spec in specs {
-        rules.push(Rule::new(alloc, spec)?)?;
+        rules.push(CompiledSpec::new(alloc, spec)?)?;
     }
     Ok(rules)
 }
 
-fn states_of(alloc: Global, rules: &[Rule]) -> Result<Vec<States>, OutOfMemory>
-    ensures { IfOk result (λ states. AreStatesFor (patterns_of rules.now) states.items) }
+fn wider(one: usize, other: usize) -> usize
+    ensures one { one ≤ result }
+    ensures other { other ≤ result }
 {
-    let mut states = Vec::with_capacity(alloc, rules.len())?;
+    if one < other { other } else { one }
+}
+
+// For how many words of marks there must be room.
+fn widest(rules: &[CompiledSpec]) -> usize
+    ensures { HasRoomForEach rules.now (length rules.now) result }
+{
+    let mut most = 0;
     'rules: for rule in rules {
-        states.push(rule.states(alloc)?)?;
+        most = wider(most, rule.words());
     }
-    Ok(states)
+    most
+}
+
+fn trials_of(alloc: Global, rules: &[CompiledSpec]) -> Result<Trials, OutOfMemory>
+    ensures { IfOk result (λ trials. AreStatesFor (patterns_of rules.now) trials.states) }
+{
+    let states = States::with_room(alloc, widest(rules))?;
+    Ok(Trials { states, tried: 0 })
 }
 
 // A table with whole lists, with room for so many lists, specifications and words, as far as it may
@@ -165,9 +184,13 @@ impl RuleSet {
         ensures count { steps.new ≡ steps.old + 1 }
     {
         steps.tick();
+        let query = Query {
+            text: path.as_text(),
+            asked,
+        };
         match scratch
             .room
-            .look_up(self.rules.as_slice(), &self.starts, path.as_text(), asked)
+            .look_up(self.rules.as_slice(), &self.starts, &query)
         {
             Some(i) => Some(i as u32),
             None => None,
@@ -188,9 +211,11 @@ impl RuleSet {
         ensures value { IfOk result (λ found.
             found.items ≡ relevant_at (path_of path.now) self.now) }
     {
-        scratch
-            .room
-            .relevant(alloc, self.rules.as_slice(), &self.starts, path)
+        let sought = Sought {
+            rules: self.rules.as_slice(),
+            path: *path,
+        };
+        scratch.room.relevant(alloc, &sought, &self.starts)
     }
 }
 
@@ -214,11 +239,10 @@ impl Scratch {
         ensures { IfOk result (λ scratch. IsScratchOf rules.now scratch) }
     {
         let room = Workspace {
-            states: states_of(alloc, rules.rules.as_slice())?,
+            trials: trials_of(alloc, rules.rules.as_slice())?,
             table: Table::new(alloc, true, lists, members, words)?,
             whole: whole_table(alloc, lists, members, words)?,
             fronts: Fronts::new(alloc),
-            tried: 0,
         };
         Ok(Scratch {
             room: Box::new(alloc, room)?,

@@ -10,10 +10,10 @@ pub struct Scratch {
 }
 
 impl Model for Scratch {
-    ghost use Rattle.spec_match.specs.Scratches.{Room};
+    ghost use Rattle.spec_match.specs.Scratches.{ScratchParts};
     ghost use Rattle.spec_match.specs.Workspaces.{room_in};
 
-    ghost Value = { Room };
+    ghost Value = { ScratchParts };
 
     ghost view = { λ s. room_in s.room.value };
 }
@@ -23,6 +23,6 @@ impl Scratch {
     /// number of 64 bits goes.
     pub fn tried(&self) -> u64 {
         let by_tables = self.room.table.tried.saturating_add(self.room.whole.tried);
-        self.room.tried.saturating_add(by_tables)
+        self.room.trials.tried.saturating_add(by_tables)
     }
 }

@@ -2,19 +2,18 @@ ghost use Rattle.std.specs.Prelude.{◌≡◌, ◌<◌, ◌%◌, ◌^◌, ◌&&�
 ghost use Rattle.file_paths.specs.PathRef.{path_of};
 ghost use Rattle.label_base.specs.Bounded.{greatest_below};
 ghost use Rattle.spec_match.specs.Chains.{AreStartsOf, fits_from, hashed, is_in_bucket, mixed};
-ghost use Rattle.pattern_match.specs.States.{AreStatesOf};
+ghost use Rattle.pattern_match.specs.States.{HasRoomFor};
 ghost use Rattle.pattern_syntax.specs.Literal.{literal_start_of};
 ghost use Rattle.spec_match.specs.Found.{AreAddedAbove, AreAddedIn};
 ghost use Rattle.spec_match.specs.LastMatch.{fits};
 ghost use Rattle.spec_match.specs.Remembering.{IsAnswer};
 ghost use Rattle.spec_match.specs.StatesFor.{AreStatesFor, patterns_of, spec_in};
 
-use crate::answering::is_fit;
-use crate::relevant::try_from;
-use crate::rule::Rule;
-use file_paths::PathRef;
-use label_base::{Asked, OutOfMemory, greater};
-use pattern_match::States;
+use crate::answering::{Query, is_fit};
+use crate::compiled_spec::CompiledSpec;
+use crate::relevant::{Sought, try_from};
+use crate::trials::Trials;
+use label_base::{OutOfMemory, greater};
 use std::alloc::Global;
 
 // A text's hash is that of a number whose digits are the bytes, in this base, up to a prime below
@@ -22,6 +21,13 @@ use std::alloc::Global;
 const BASE: u64 = 257;
 
 const MODULUS: u64 = 4_294_967_291;
+
+/// Which specifications are gone through: those in a bucket whose literal start has so many bytes.
+#[derive(Clone, Copy)]
+struct Chain {
+    bucket: usize,
+    at: usize,
+}
 
 /// Specifications by the bytes that every text of their pattern begins with, so that a text that
 /// begins otherwise needn't be compared to them: for each bucket of hashes its specifications, from
@@ -55,28 +61,21 @@ fn hash_of(text: &[u8]) -> u64
 }
 
 // Whether a specification fits a text, and its pattern's literal start has so many bytes.
-fn does_fit_from(
-    rule: &Rule,
-    states: &mut States,
-    at: usize,
-    text: &[u8],
-    asked: Asked,
-    tried: &mut u64,
-) -> bool
-    requires { AreStatesOf rule.now.spec.pattern states.old }
-    ensures made { AreStatesOf rule.now.spec.pattern states.new }
+fn does_fit_from(rule: &CompiledSpec, trials: &mut Trials, at: usize, query: &Query<'_>) -> bool
+    requires { HasRoomFor rule.now.spec.pattern trials.old.states.room }
+    ensures room { trials.new.states.room ≡ trials.old.states.room }
     ensures value { result ≡ ((length (literal_start_of rule.now.spec.pattern) == at)
-        && fits asked text.now rule.now.spec) }
+        && fits query.now.asked query.now.text.now rule.now.spec) }
 {
     if rule.start().len() != at {
         return false;
     }
-    is_fit(rule, states, text, asked, tried)
+    is_fit(rule, trials, query)
 }
 
 impl Starts {
     /// The starts of the patterns of a list.
-    pub fn new(alloc: Global, rules: &[Rule]) -> Result<Starts, OutOfMemory>
+    pub fn new(alloc: Global, rules: &[CompiledSpec]) -> Result<Starts, OutOfMemory>
         requires { length rules.now < 2 ^ 32 }
         ensures { IfOk result (λ starts. AreStartsOf rules.now starts) }
     {
@@ -94,31 +93,27 @@ impl Starts {
         Ok(Starts { heads, previous })
     }
 
-    // The last specification in a bucket that fits, of those whose literal start has so many bytes.
+    // The last specification of a chain that fits.
     fn last_in(
         &self,
-        rules: &[Rule],
-        states: &mut Vec<States>,
-        bucket: usize,
-        at: usize,
-        text: &[u8],
-        asked: Asked,
-        tried: &mut u64,
+        rules: &[CompiledSpec],
+        trials: &mut Trials,
+        chain: Chain,
+        query: &Query<'_>,
     ) -> Option<usize>
         requires starts { AreStartsOf rules.now self.now }
-        requires bucket { bucket < length self.now.heads.items }
-        requires states { AreStatesFor (patterns_of rules.now) states.old.items }
-        ensures states { AreStatesFor (patterns_of rules.now) states.new.items }
+        requires bucket { chain.bucket < length self.now.heads.items }
+        requires states { AreStatesFor (patterns_of rules.now) trials.old.states }
+        ensures states { AreStatesFor (patterns_of rules.now) trials.new.states }
         ensures found { result ≡ greatest_below (length rules.now)
-            (λ i. is_in_bucket rules.now (length self.now.heads.items) bucket i
-            && fits_from at asked text.now rules.now i) }
+            (λ i. is_in_bucket rules.now (length self.now.heads.items) chain.bucket i
+            && fits_from chain.at query.now.asked query.now.text.now rules.now i) }
     {
-        let mut next = self.heads[bucket] as usize;
+        let mut next = self.heads[chain.bucket] as usize;
         'chain: while next > 0 {
             let i = next - 1;
             let rule = &rules[i];
-            let own = &mut states[i];
-            if does_fit_from(rule, own, at, text, asked, tried) {
+            if does_fit_from(rule, trials, chain.at, query) {
                 return Some(i);
             }
             next = self.previous[i] as usize;
@@ -130,53 +125,49 @@ impl Starts {
     /// text begins.
     pub fn last_fit(
         &self,
-        rules: &[Rule],
-        states: &mut Vec<States>,
-        text: &[u8],
-        asked: Asked,
-        tried: &mut u64,
+        rules: &[CompiledSpec],
+        trials: &mut Trials,
+        query: &Query<'_>,
     ) -> Option<usize>
         requires starts { AreStartsOf rules.now self.now }
-        requires states { AreStatesFor (patterns_of rules.now) states.old.items }
-        ensures states { AreStatesFor (patterns_of rules.now) states.new.items }
-        ensures told { IsAnswer asked text.now (map spec_in rules.now) result }
+        requires states { AreStatesFor (patterns_of rules.now) trials.old.states }
+        ensures states { AreStatesFor (patterns_of rules.now) trials.new.states }
+        ensures told { IsAnswer query.now.asked query.now.text.now (map spec_in rules.now) result }
     {
+        let text = query.text;
         let count = self.heads.len() as u64;
         let mut hash = 0u64;
-        let mut found = self.last_in(rules, states, 0, 0, text, asked, tried);
+        let mut found = self.last_in(rules, trials, Chain { bucket: 0, at: 0 }, query);
         'bytes: for k in 0..text.len() {
             hash = mixed(hash, text[k]);
             let bucket = (hash % count) as usize;
-            let other = self.last_in(rules, states, bucket, k + 1, text, asked, tried);
+            let other = self.last_in(rules, trials, Chain { bucket, at: k + 1 }, query);
             found = greater(found, other);
         }
         found
     }
 
-    // Adds those in a bucket that can decide at or below a path, and whose literal start has so
-    // many bytes.
+    // Adds those of a chain that can decide at or below a path.
     fn add_in(
         &self,
-        rules: &[Rule],
-        states: &mut Vec<States>,
-        bucket: usize,
-        at: usize,
-        path: &PathRef<'_>,
+        sought: &Sought<'_, '_>,
+        trials: &mut Trials,
+        chain: Chain,
         found: &mut Vec<u32>,
-        tried: &mut u64,
     ) -> Result<(), OutOfMemory>
-        requires count { length rules.now < 2 ^ 32 }
-        requires starts { AreStartsOf rules.now self.now }
-        requires bucket { bucket < length self.now.heads.items }
-        requires states { AreStatesFor (patterns_of rules.now) states.old.items }
-        ensures states { AreStatesFor (patterns_of rules.now) states.new.items }
-        ensures added { OnOk result (AreAddedIn (path_of path.now) rules.now
-            (length self.now.heads.items) bucket at found.old.items found.new.items) }
+        requires count { length sought.now.rules.now < 2 ^ 32 }
+        requires starts { AreStartsOf sought.now.rules.now self.now }
+        requires bucket { chain.bucket < length self.now.heads.items }
+        requires states { AreStatesFor (patterns_of sought.now.rules.now) trials.old.states }
+        ensures states { AreStatesFor (patterns_of sought.now.rules.now) trials.new.states }
+        ensures added { OnOk result (AreAddedIn (path_of sought.now.path) sought.now.rules.now
+            (length self.now.heads.items) chain.bucket chain.at
+            found.old.items found.new.items) }
     {
-        let mut next = self.heads[bucket] as usize;
+        let mut next = self.heads[chain.bucket] as usize;
         'chain: while next > 0 {
             let i = next - 1;
-            try_from(rules, states, at, i, path, found, tried)?;
+            try_from(sought, trials, chain.at, i, found)?;
             next = self.previous[i] as usize;
         }
         Ok(())
@@ -186,29 +177,27 @@ impl Starts {
     /// start a text begins. Answers the text's hash.
     pub fn add_above(
         &self,
-        rules: &[Rule],
-        states: &mut Vec<States>,
+        sought: &Sought<'_, '_>,
+        trials: &mut Trials,
         text: &[u8],
-        path: &PathRef<'_>,
         found: &mut Vec<u32>,
-        tried: &mut u64,
     ) -> Result<u64, OutOfMemory>
-        requires count { length rules.now < 2 ^ 32 }
-        requires starts { AreStartsOf rules.now self.now }
-        requires states { AreStatesFor (patterns_of rules.now) states.old.items }
-        ensures states { AreStatesFor (patterns_of rules.now) states.new.items }
-        ensures added { OnOk result (AreAddedAbove (path_of path.now) rules.now text.now
-            found.old.items found.new.items) }
+        requires count { length sought.now.rules.now < 2 ^ 32 }
+        requires starts { AreStartsOf sought.now.rules.now self.now }
+        requires states { AreStatesFor (patterns_of sought.now.rules.now) trials.old.states }
+        ensures states { AreStatesFor (patterns_of sought.now.rules.now) trials.new.states }
+        ensures added { OnOk result (AreAddedAbove (path_of sought.now.path) sought.now.rules.now
+            text.now found.old.items found.new.items) }
         ensures hash { IfOk result (λ hash. hash ≡ hashed 0 text.now) }
         ensures bound { IfOk result (λ hash. hash < 2 ^ 32) }
     {
         let count = self.heads.len() as u64;
         let mut hash = 0u64;
-        self.add_in(rules, states, 0, 0, path, found, tried)?;
+        self.add_in(sought, trials, Chain { bucket: 0, at: 0 }, found)?;
         'bytes: for k in 0..text.len() {
             hash = mixed(hash, text[k]);
             let bucket = (hash % count) as usize;
-            self.add_in(rules, states, bucket, k + 1, path, found, tried)?;
+            self.add_in(sought, trials, Chain { bucket, at: k + 1 }, found)?;
         }
         Ok(hash)
     }

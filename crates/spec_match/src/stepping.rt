@@ -1,84 +1,92 @@
 ghost use Rattle.std.specs.Prelude.{◌≡◌, ◌∷◌, ◌<◌, Bool, [], true, IfSome, length, map};
 ghost use Rattle.std.specs.List.{All};
-ghost use Rattle.pattern_match.specs.States.{AreStatesOf};
+ghost use Rattle.pattern_match.specs.States.{AreStatesOf, HasRoomFor};
 ghost use Rattle.spec_match.specs.Alive.{AreAlive, IsOwn, LeadsBy, alive, alive_at, alive_list};
 ghost use Rattle.spec_match.specs.Alive.{wanted_byte};
 ghost use Rattle.spec_match.specs.Listed.{IsListed, Stays};
+ghost use Rattle.spec_match.specs.ListsSeen.{list_seen};
 ghost use Rattle.spec_match.specs.StatesFor.{AreStatesFor, patterns_of, spec_in};
 ghost use Rattle.spec_match.specs.Stepping.{AreOwnLists, GoesOn, IsEnd, IsStaying};
 
-use crate::lists::Lists;
-use crate::rule::Rule;
+use crate::compiled_spec::CompiledSpec;
+use crate::lists::{ListRef, Lists};
 use pattern_match::States;
+
+/// A step from a list that is complete, by a byte other than 0.
+#[derive(Clone, Copy)]
+pub struct ByteStep {
+    pub from: usize,
+    pub byte: u8,
+    /// Whether the list to which it leads ends with the first specification that covers whatever
+    /// follows.
+    pub cuts: bool,
+}
 
 // Steps one specification of a list, and writes it to the next list if it stays alive. Answers
 // whether that list ends with it, or `None` where there is no room.
 fn step_one(
     lists: &mut Lists,
-    rule: &Rule,
+    rule: &CompiledSpec,
     states: &mut States,
-    from: usize,
     k: usize,
-    byte: u8,
-    cuts: bool,
+    step: ByteStep,
 ) -> Option<bool>
-    requires list { from < length lists.old.lists }
-    requires within { k < length (alive_list lists.old.lists from) }
-    requires made { AreStatesOf rule.now.spec.pattern states.old }
+    requires list { step.from < length lists.old.lists }
+    requires within { k < length (alive_list lists.old.lists step.from) }
+    requires room { HasRoomFor rule.now.spec.pattern states.old.room }
     requires kept { AreStatesOf rule.now.spec.pattern
-        (alive_at (alive_list lists.old.lists from) k).states }
-    requires wants { (alive_at (alive_list lists.old.lists from) k).wants
-        ≡ wanted_byte rule.now.spec.pattern (alive_at (alive_list lists.old.lists from) k).states }
-    ensures made { AreStatesOf rule.now.spec.pattern states.new }
+        (alive_at (alive_list lists.old.lists step.from) k).states }
+    requires wants { (alive_at (alive_list lists.old.lists step.from) k).wants
+        ≡ wanted_byte rule.now.spec.pattern
+        (alive_at (alive_list lists.old.lists step.from) k).states }
+    ensures room { states.new.room ≡ states.old.room }
     ensures lists { lists.new.lists ≡ lists.old.lists }
-    ensures goes { IfSome result (λ _. GoesOn rule.now.spec.pattern (byte ∷ [])
-        (alive_at (alive_list lists.old.lists from) k) lists.old.draft lists.new.draft) }
-    ensures ends { IfSome result (λ ends. ends ≡ true → IsEnd cuts rule.now.spec (byte ∷ [])
-        (alive_at (alive_list lists.old.lists from) k)) }
+    ensures goes { IfSome result (λ _. GoesOn rule.now.spec.pattern (step.byte ∷ [])
+        (alive_at (alive_list lists.old.lists step.from) k) lists.old.draft lists.new.draft) }
+    ensures ends { IfSome result (λ ends. ends ≡ true
+        → IsEnd step.cuts rule.now.spec (step.byte ∷ [])
+        (alive_at (alive_list lists.old.lists step.from) k)) }
 {
-    if lists.wants_other(from, k, byte) {
+    if lists.wants_other(step.from, k, step.byte) {
         return Some(false);
     }
-    let index = lists.index(from, k);
-    lists.load(from, k, states);
-    rule.step(states, byte);
+    let index = lists.index(step.from, k);
+    lists.load(step.from, k, states);
+    rule.step(states, step.byte);
     if !rule.alive(states) {
         return Some(false);
     }
     if !lists.push(index, states, rule.wants(states.seen())) {
         return None;
     }
-    if !cuts {
+    if !step.cuts {
         return Some(false);
     }
     Some(rule.covers(states))
 }
 
-/// Writes the list to which a byte leads from one that is complete; where it `cuts`, up to the
-/// first specification that covers whatever follows. False where there is no room for it.
+/// Writes the list to which a step leads. False where there is no room for it.
 pub fn step_all(
     lists: &mut Lists,
-    rules: &[Rule],
-    states: &mut Vec<States>,
-    from: usize,
-    byte: u8,
-    cuts: bool,
+    rules: &[CompiledSpec],
+    states: &mut States,
+    step: ByteStep,
 ) -> bool
-    requires states { AreStatesFor (patterns_of rules.now) states.old.items }
+    requires states { AreStatesFor (patterns_of rules.now) states.old }
     requires own { AreOwnLists (patterns_of rules.now) lists.old.lists }
     requires draft { lists.old.draft ≡ [] }
-    requires from { from < length lists.old.lists }
-    requires some { 0 < byte }
-    ensures states { AreStatesFor (patterns_of rules.now) states.new.items }
+    requires from { step.from < length lists.old.lists }
+    requires some { 0 < step.byte }
+    ensures states { AreStatesFor (patterns_of rules.now) states.new }
     ensures lists { lists.new.lists ≡ lists.old.lists }
     ensures own { result ≡ true → All (IsOwn (patterns_of rules.now)) lists.new.draft }
     ensures leads { result ≡ true
-        → LeadsBy (IsListed cuts (patterns_of rules.now) (map spec_in rules.now)) (byte ∷ [])
-        (alive_list lists.old.lists from) lists.new.draft }
+        → LeadsBy (IsListed step.cuts (patterns_of rules.now) (map spec_in rules.now))
+        (step.byte ∷ []) (alive_list lists.old.lists step.from) lists.new.draft }
 {
-    'alive: for k in 0..lists.list_len(from) {
-        let i = lists.index(from, k);
-        let Some(ends) = step_one(lists, &rules[i], &mut states[i], from, k, byte, cuts) else {
+    'alive: for k in 0..lists.list_len(step.from) {
+        let i = lists.index(step.from, k);
+        let Some(ends) = step_one(lists, &rules[i], states, k, step) else {
             return false;
         };
         if ends {
@@ -90,33 +98,33 @@ pub fn step_all(
 
 // Whether whatever follows leaves the specification at a place of a list as it is. It may say false
 // where it does.
-fn member_stays(lists: &Lists, rule: &Rule, states: &mut States, list: usize, k: usize) -> bool
-    requires list { list < length lists.now.lists }
-    requires within { k < length (alive_list lists.now.lists list) }
-    requires made { AreStatesOf rule.now.spec.pattern states.old }
-    requires kept { AreStatesOf rule.now.spec.pattern
-        (alive_at (alive_list lists.now.lists list) k).states }
-    ensures made { AreStatesOf rule.now.spec.pattern states.new }
+fn member_stays(list: &ListRef<'_>, rule: &CompiledSpec, states: &mut States, k: usize) -> bool
+    requires list { list.now.number < length list.now.lists.now.lists }
+    requires within { k < length (list_seen list.now) }
+    requires room { HasRoomFor rule.now.spec.pattern states.old.room }
+    requires kept { AreStatesOf rule.now.spec.pattern (alive_at (list_seen list.now) k).states }
+    ensures room { states.new.room ≡ states.old.room }
     ensures stays { result ≡ true
-        → IsStaying rule.now.spec.pattern (alive_at (alive_list lists.now.lists list) k) }
+        → IsStaying rule.now.spec.pattern (alive_at (list_seen list.now) k) }
 {
-    lists.load(list, k, states);
+    list.lists.load(list.number, k, states);
     rule.stays(states)
 }
 
 /// Whether a list is as well for each longer text without a byte 0. It may say false where it is.
-pub fn list_stays(lists: &Lists, rules: &[Rule], states: &mut Vec<States>, list: usize) -> bool
-    requires states { AreStatesFor (patterns_of rules.now) states.old.items }
-    requires own { AreOwnLists (patterns_of rules.now) lists.now.lists }
-    requires list { list < length lists.now.lists }
-    ensures states { AreStatesFor (patterns_of rules.now) states.new.items }
+pub fn list_stays(list: &ListRef<'_>, rules: &[CompiledSpec], states: &mut States) -> bool
+    requires states { AreStatesFor (patterns_of rules.now) states.old }
+    requires own { AreOwnLists (patterns_of rules.now) list.now.lists.now.lists }
+    requires list { list.now.number < length list.now.lists.now.lists }
+    ensures states { AreStatesFor (patterns_of rules.now) states.new }
     ensures stays { result ≡ true → (cuts : Bool)
         → Stays (IsListed cuts (patterns_of rules.now) (map spec_in rules.now))
-        (alive_list lists.now.lists list) }
+        (list_seen list.now) }
 {
-    'alive: for k in 0..lists.list_len(list) {
-        let i = lists.index(list, k);
-        if !member_stays(lists, &rules[i], &mut states[i], list, k) {
+    let lists = list.lists;
+    'alive: for k in 0..lists.list_len(list.number) {
+        let i = lists.index(list.number, k);
+        if !member_stays(list, &rules[i], states, k) {
             return false;
         }
     }
@@ -125,10 +133,10 @@ pub fn list_stays(lists: &Lists, rules: &[Rule], states: &mut Vec<States>, list:
 
 /// Writes the list of all specifications, before the first byte of a text. False where there is no
 /// room for it.
-pub fn start_all(lists: &mut Lists, rules: &[Rule], states: &mut Vec<States>) -> bool
-    requires states { AreStatesFor (patterns_of rules.now) states.old.items }
+pub fn start_all(lists: &mut Lists, rules: &[CompiledSpec], states: &mut States) -> bool
+    requires states { AreStatesFor (patterns_of rules.now) states.old }
     requires draft { lists.old.draft ≡ [] }
-    ensures states { AreStatesFor (patterns_of rules.now) states.new.items }
+    ensures states { AreStatesFor (patterns_of rules.now) states.new }
     ensures lists { lists.new.lists ≡ lists.old.lists }
     ensures own { result ≡ true → All (IsOwn (patterns_of rules.now)) lists.new.draft }
     ensures alive { result ≡ true
@@ -138,9 +146,8 @@ pub fn start_all(lists: &mut Lists, rules: &[Rule], states: &mut Vec<States>) ->
     'rules: while left > 0 {
         left -= 1;
         let rule = &rules[left];
-        rule.restart(&mut states[left]);
-        let own = &states[left];
-        if !lists.push(left, own, rule.wants(own.seen())) {
+        rule.restart(states);
+        if !lists.push(left, states, rule.wants(states.seen())) {
             return false;
         }
     }

@@ -11,10 +11,10 @@ ghost use Rattle.spec_match.specs.StatesFor.{AreStatesFor, patterns_of, spec_in}
 ghost use Rattle.spec_match.specs.Tables.{IsOnWayFor, IsTableFor, IsTrailFor, kept_in, list_for};
 ghost use Rattle.spec_match.specs.Trail.{trace_in};
 
-use crate::answering::{asked_number, first_fit};
-use crate::lists::Lists;
-use crate::rule::Rule;
-use crate::stepping::{list_stays, start_all, step_all};
+use crate::answering::{Query, asked_number, first_fit};
+use crate::compiled_spec::CompiledSpec;
+use crate::lists::{ListRef, Lists};
+use crate::stepping::{ByteStep, list_stays, start_all, step_all};
 use crate::trail::{Reached, Trail, follow, has_no_zero, list_behind, note};
 use label_base::{Asked, OutOfMemory};
 use pattern_match::States;
@@ -125,11 +125,12 @@ fn note_guess(slots: &mut Vec<u32>, slot: usize, number: usize) {
     }
 }
 
-// Forgets where lists may be found.
+// Forgets where lists may be found. Before it was called there is no slot, so the memory that is
+// reserved for them isn't touched.
 fn forget(slots: &mut Vec<u32>) {
-    'slots: for i in 0..slots.len() {
-        slots[i] = 0;
-    }
+    slots.clear();
+    let room = slots.capacity();
+    add_copies(slots, room, 0u32);
 }
 
 // The answer with a code.
@@ -158,8 +159,8 @@ fn coded(found: Option<usize>) -> u32
 }
 
 impl Table {
-    /// Room for so many lists, so many specifications in all of them, and so many words of marks.
-    /// Where it `cuts`, lists end at the first specification that covers whatever follows.
+    /// ScratchParts for so many lists, so many specifications in all of them, and so many words of
+    /// marks. Where it `cuts`, lists end at the first specification that covers whatever follows.
     pub fn new(
         alloc: Global,
         cuts: bool,
@@ -185,7 +186,7 @@ impl Table {
             next: Vec::with_capacity(alloc, steps)?,
             answers: Vec::with_capacity(alloc, answers)?,
             stays: Vec::with_capacity(alloc, lists)?,
-            slots: vec![in alloc; 0u32; slots]?,
+            slots: Vec::with_capacity(alloc, slots)?,
             trail: Trail::new(alloc, LONGEST_TRAIL)?,
             // Last of what may fail, since it has most to drop.
             lists: Lists::new(alloc, lists, members, words)?,
@@ -234,27 +235,31 @@ impl Table {
     }
 
     // Notes whether whatever follows leaves a list as it is.
-    fn note_stays(&mut self, rules: &[Rule], states: &mut Vec<States>, number: usize)
-        requires states { AreStatesFor (patterns_of rules.now) states.old.items }
+    fn note_stays(&mut self, rules: &[CompiledSpec], states: &mut States, number: usize)
+        requires states { AreStatesFor (patterns_of rules.now) states.old }
         requires table { IsTableFor rules.now self.old }
         requires number { number < length self.old.lists.lists }
-        ensures states { AreStatesFor (patterns_of rules.now) states.new.items }
+        ensures states { AreStatesFor (patterns_of rules.now) states.new }
         ensures table { IsTableFor rules.now self.new }
         ensures cuts { self.new.cuts ≡ self.old.cuts }
         ensures lists { self.new.lists ≡ self.old.lists }
         ensures trail { trace_in self.new.trail ≡ trace_in self.old.trail }
     {
-        let stays = list_stays(&self.lists, rules, states, number);
+        let list = ListRef {
+            lists: &self.lists,
+            number,
+        };
+        let stays = list_stays(&list, rules, states);
         self.stays[number] = stays;
     }
 
     // The number of the list that was written, where it is there or there is room for it.
-    fn number_of(&mut self, rules: &[Rule], states: &mut Vec<States>) -> Option<usize>
-        requires states { AreStatesFor (patterns_of rules.now) states.old.items }
+    fn number_of(&mut self, rules: &[CompiledSpec], states: &mut States) -> Option<usize>
+        requires states { AreStatesFor (patterns_of rules.now) states.old }
         requires table { IsTableFor rules.now self.old }
         requires own { All (IsOwn (patterns_of rules.now)) self.old.lists.draft }
         requires begun { 0 < length self.old.lists.lists }
-        ensures states { AreStatesFor (patterns_of rules.now) states.new.items }
+        ensures states { AreStatesFor (patterns_of rules.now) states.new }
         ensures table { IsTableFor rules.now self.new }
         ensures cuts { self.new.cuts ≡ self.old.cuts }
         ensures draft { self.new.lists.draft ≡ [] }
@@ -292,17 +297,17 @@ impl Table {
     // The list that a byte other than 0 leads to, where there is room for it.
     fn learn(
         &mut self,
-        rules: &[Rule],
-        states: &mut Vec<States>,
+        rules: &[CompiledSpec],
+        states: &mut States,
         from: usize,
         byte: u8,
     ) -> Option<usize>
-        requires states { AreStatesFor (patterns_of rules.now) states.old.items }
+        requires states { AreStatesFor (patterns_of rules.now) states.old }
         requires table { IsTableFor rules.now self.old }
         requires draft { self.old.lists.draft ≡ [] }
         requires begun { 0 < length self.old.lists.lists }
         requires from { from < length self.old.lists.lists }
-        ensures states { AreStatesFor (patterns_of rules.now) states.new.items }
+        ensures states { AreStatesFor (patterns_of rules.now) states.new }
         ensures table { IsTableFor rules.now self.new }
         ensures cuts { self.new.cuts ≡ self.old.cuts }
         ensures draft { self.new.lists.draft ≡ [] }
@@ -321,7 +326,12 @@ impl Table {
         }
         let members = self.lists.list_len(from) as u64;
         self.tried = self.tried.saturating_add(members);
-        if !step_all(&mut self.lists, rules, states, from, byte, self.cuts) {
+        let step = ByteStep {
+            from,
+            byte,
+            cuts: self.cuts,
+        };
+        if !step_all(&mut self.lists, rules, states, step) {
             self.lists.drop_draft();
             self.fill();
             return None;
@@ -342,7 +352,7 @@ impl Table {
     }
 
     // Begins a text behind what it has in common with the one that was read last.
-    fn begin(&mut self, rules: &[Rule], text: &[u8]) -> Reached
+    fn begin(&mut self, rules: &[CompiledSpec], text: &[u8]) -> Reached
         requires table { IsTableFor rules.now self.old }
         requires begun { 0 < length self.old.lists.lists }
         requires trail { IsTrailFor rules.now self.old }
@@ -359,7 +369,7 @@ impl Table {
     }
 
     // Reads a text on while it is known where to.
-    fn follow(&mut self, rules: &[Rule], text: &[u8], from: Reached) -> Reached
+    fn follow(&mut self, rules: &[CompiledSpec], text: &[u8], from: Reached) -> Reached
         requires table { IsTableFor rules.now self.old }
         requires begun { 0 < length self.old.lists.lists }
         requires way { IsOnWayFor rules.now self.old text.now from }
@@ -385,18 +395,18 @@ impl Table {
     // Reads one byte of a text, where there is room for the list to which it leads.
     fn read_byte(
         &mut self,
-        rules: &[Rule],
-        states: &mut Vec<States>,
+        rules: &[CompiledSpec],
+        states: &mut States,
         text: &[u8],
         from: Reached,
     ) -> Option<Reached>
-        requires states { AreStatesFor (patterns_of rules.now) states.old.items }
+        requires states { AreStatesFor (patterns_of rules.now) states.old }
         requires table { IsTableFor rules.now self.old }
         requires draft { self.old.lists.draft ≡ [] }
         requires begun { 0 < length self.old.lists.lists }
         requires inside { from.at < length text.now }
         requires way { IsOnWayFor rules.now self.old text.now from }
-        ensures states { AreStatesFor (patterns_of rules.now) states.new.items }
+        ensures states { AreStatesFor (patterns_of rules.now) states.new }
         ensures table { IsTableFor rules.now self.new }
         ensures cuts { self.new.cuts ≡ self.old.cuts }
         ensures draft { self.new.lists.draft ≡ [] }
@@ -416,16 +426,16 @@ impl Table {
     // What is answered at a list.
     fn answer(
         &mut self,
-        rules: &[Rule],
-        states: &mut Vec<States>,
+        rules: &[CompiledSpec],
+        states: &mut States,
         list: usize,
         asked: Asked,
     ) -> Option<usize>
-        requires states { AreStatesFor (patterns_of rules.now) states.old.items }
+        requires states { AreStatesFor (patterns_of rules.now) states.old }
         requires table { IsTableFor rules.now self.old }
         requires draft { self.old.lists.draft ≡ [] }
         requires list { list < length self.old.lists.lists }
-        ensures states { AreStatesFor (patterns_of rules.now) states.new.items }
+        ensures states { AreStatesFor (patterns_of rules.now) states.new }
         ensures table { IsTableFor rules.now self.new }
         ensures cuts { self.new.cuts ≡ self.old.cuts }
         ensures draft { self.new.lists.draft ≡ [] }
@@ -442,7 +452,11 @@ impl Table {
         }
         let members = self.lists.list_len(list) as u64;
         self.tried = self.tried.saturating_add(members);
-        let found = first_fit(&self.lists, rules, states, list, asked);
+        let alive = ListRef {
+            lists: &self.lists,
+            number: list,
+        };
+        let found = first_fit(&alive, rules, states, asked);
         self.answers[place] = coded(found);
         found
     }
@@ -464,11 +478,11 @@ impl Table {
     }
 
     // Adds the list of all specifications, where there is room.
-    fn add_first(&mut self, rules: &[Rule], states: &mut Vec<States>) -> bool
-        requires states { AreStatesFor (patterns_of rules.now) states.old.items }
+    fn add_first(&mut self, rules: &[CompiledSpec], states: &mut States) -> bool
+        requires states { AreStatesFor (patterns_of rules.now) states.old }
         requires kept { kept_in self.old ≡ kept self.old.cuts [] [] [] [] }
         requires draft { self.old.lists.draft ≡ [] }
-        ensures states { AreStatesFor (patterns_of rules.now) states.new.items }
+        ensures states { AreStatesFor (patterns_of rules.now) states.new }
         ensures table { IsTableFor rules.now self.new }
         ensures cuts { self.new.cuts ≡ self.old.cuts }
         ensures draft { self.new.lists.draft ≡ [] }
@@ -482,12 +496,12 @@ impl Table {
     }
 
     // Begins anew where it is full and was asked often enough.
-    fn prepare(&mut self, rules: &[Rule], states: &mut Vec<States>)
-        requires states { AreStatesFor (patterns_of rules.now) states.old.items }
+    fn prepare(&mut self, rules: &[CompiledSpec], states: &mut States)
+        requires states { AreStatesFor (patterns_of rules.now) states.old }
         requires table { IsTableFor rules.now self.old }
         requires draft { self.old.lists.draft ≡ [] }
         requires trail { IsTrailFor rules.now self.old }
-        ensures states { AreStatesFor (patterns_of rules.now) states.new.items }
+        ensures states { AreStatesFor (patterns_of rules.now) states.new }
         ensures table { IsTableFor rules.now self.new }
         ensures cuts { self.new.cuts ≡ self.old.cuts }
         ensures draft { self.new.lists.draft ≡ [] }
@@ -508,12 +522,17 @@ impl Table {
     }
 
     /// The number of the list behind a text, or `None` where there is no room to find it out.
-    pub fn reach(&mut self, rules: &[Rule], states: &mut Vec<States>, text: &[u8]) -> Option<usize>
-        requires states { AreStatesFor (patterns_of rules.now) states.old.items }
+    pub fn reach(
+        &mut self,
+        rules: &[CompiledSpec],
+        states: &mut States,
+        text: &[u8],
+    ) -> Option<usize>
+        requires states { AreStatesFor (patterns_of rules.now) states.old }
         requires table { IsTableFor rules.now self.old }
         requires draft { self.old.lists.draft ≡ [] }
         requires trail { IsTrailFor rules.now self.old }
-        ensures states { AreStatesFor (patterns_of rules.now) states.new.items }
+        ensures states { AreStatesFor (patterns_of rules.now) states.new }
         ensures table { IsTableFor rules.now self.new }
         ensures cuts { self.new.cuts ≡ self.old.cuts }
         ensures draft { self.new.lists.draft ≡ [] }
@@ -550,24 +569,23 @@ impl Table {
     /// The last match of a text, or `None` where there is no room to find it out.
     pub fn look_up(
         &mut self,
-        rules: &[Rule],
-        states: &mut Vec<States>,
-        text: &[u8],
-        asked: Asked,
+        rules: &[CompiledSpec],
+        states: &mut States,
+        query: &Query<'_>,
     ) -> Option<Option<usize>>
-        requires states { AreStatesFor (patterns_of rules.now) states.old.items }
+        requires states { AreStatesFor (patterns_of rules.now) states.old }
         requires table { IsTableFor rules.now self.old }
         requires draft { self.old.lists.draft ≡ [] }
         requires trail { IsTrailFor rules.now self.old }
-        ensures states { AreStatesFor (patterns_of rules.now) states.new.items }
+        ensures states { AreStatesFor (patterns_of rules.now) states.new }
         ensures table { IsTableFor rules.now self.new }
         ensures draft { self.new.lists.draft ≡ [] }
         ensures trail { IsTrailFor rules.now self.new }
         ensures told { IfSome result (λ found.
-            IsAnswer asked text.now (map spec_in rules.now) found) }
+            IsAnswer query.now.asked query.now.text.now (map spec_in rules.now) found) }
     {
-        match self.reach(rules, states, text) {
-            Some(list) => Some(self.answer(rules, states, list, asked)),
+        match self.reach(rules, states, query.text) {
+            Some(list) => Some(self.answer(rules, states, list, query.asked)),
             None => None,
         }
     }

@@ -4,6 +4,6 @@ use Rattle.pattern_match.proofs.bits.clear.Goals as goal
 
 pub returns-clause-bits : goal.returns-clause-bits
 returns-clause-bits c =
-    λ k l. no_bit c.loop-i.words.items k
-    (c.loop-i.invariant.1 (k / 64) (let h : k / 64 < length c.args.words.now.items = omega arith in
+    λ k l. no_bit c.loop-i.words k
+    (c.loop-i.invariant.1 (k / 64) (let h : k / 64 < length c.args.words.now = omega arith in
     omega arith))

@@ -10,10 +10,10 @@ pub words-preserved : goal.words-preserved
 words-preserved c = (
   omega arith,
   λ k l. words_more c.args.marks.now c.words.i
-      (λ p. bit c.args.table.now (64 * (p * length c.args.to.now.items) + k))
-      (bit c.add_marked.new.to.items k) (bit c.words.to.items k) (c.words.invariant.1 k l)
-      (subst (λ n. bit c.add_marked.new.to.items k
-      ≡ (bit c.words.to.items k || any_bit
+      (λ p. bit c.args.table.now (64 * (p * length c.args.to.now) + k))
+      (bit c.add_marked.new.to k) (bit c.words.to k) (c.words.invariant.1 k l)
+      (subst (λ n. bit c.add_marked.new.to k
+      ≡ (bit c.words.to k || any_bit
       (λ j. (bit_at (get_or c.args.marks.now c.words.i 0) j == 1) && bit c.args.table.now
       (64 * ((64 * c.words.i + j) * n) + k)))) c.words.invariant.0
       (c.add_marked.ensures.bits k (omega arith))),
@@ -23,5 +23,5 @@ pub returns-clause-bits : goal.returns-clause-bits
 returns-clause-bits c =
     λ k l. all_words
     (λ p. bit c.args.marks.now p && bit c.args.table.now
-    (64 * (p * length c.args.to.now.items) + k)) (bit c.words.to.items k) c.words.i
-    (length c.args.to.now.items) (omega arith) (c.words.invariant.1 k l)
+    (64 * (p * length c.args.to.now) + k)) (bit c.words.to k) c.words.i
+    (length c.args.to.now) (omega arith) (c.words.invariant.1 k l)

@@ -2,20 +2,22 @@ use Rattle.std.proofs.Common.{sym, ap, refl, length, true, []}
 use Rattle.pattern_syntax.specs.Literal.{literal_start_of}
 use Rattle.pattern_syntax.specs.Tree.{Nothing}
 use Rattle.pattern_match.proofs.OneText.{none_left}
-use Rattle.pattern_match.proofs.Standing.{is_dead, is_alive}
+use Rattle.pattern_match.proofs.Standing.{known_is, is_dead, is_alive}
 use Rattle.pattern_match.proofs.one_text.is_text_alive.Goals as goal
 
 pub returns-then-states-start : goal.returns-then-states-start
 returns-then-states-start c =
     is_dead c.args.pattern.now (literal_start_of c.args.pattern.now) Nothing refl
-    (sym c.requires.one) (record { seen = c.states.inside.seen; marks = c.states.inside.marks })
-    c.args.states.now (length c.start-start.result.now) c.states.view_is
+    (sym c.requires.one)
+    (record { seen = c.states.inside.seen; marks = c.states.inside.marks.marks })
+    c.args.states.now.known (length c.start-start.result.now) (known_is c.states.view_is)
     (ap length c.start-start.ensures) c.if-states-start.true
 
 pub returns : goal.returns
 returns c =
     is_alive c.args.pattern.now (literal_start_of c.args.pattern.now) Nothing refl
-    (sym c.requires.one) (record { seen = c.states.inside.seen; marks = c.states.inside.marks })
-    c.args.states.now (length c.start-start.result.now) true c.states.view_is
+    (sym c.requires.one)
+    (record { seen = c.states.inside.seen; marks = c.states.inside.marks.marks })
+    c.args.states.now.known (length c.start-start.result.now) true (known_is c.states.view_is)
     (ap length c.start-start.ensures) c.if-states-start.false (λ _ _. refl)
     (λ _. ([], none_left _))

@@ -1,8 +1,9 @@
 use Rattle.std.proofs.Common.{◌<◌, ◌∙◌, ap, add-one, arith, get_or, length, map, subst, sym, Some}
-use Rattle.spec_match.specs.Alive.{alive_list, no_alive}
+use Rattle.spec_match.specs.Alive.{no_alive}
+use Rattle.spec_match.specs.ListsSeen.{list_seen}
 use Rattle.spec_match.specs.Remembering.{IsAnswer}
-use Rattle.spec_match.specs.StatesFor.{spec_in}
-use Rattle.spec_match.proofs.ScratchLemmas.{states_own, states_set}
+use Rattle.spec_match.specs.StatesFor.{patterns_of, spec_in}
+use Rattle.spec_match.proofs.ScratchLemmas.{room_own, states_kept}
 use Rattle.spec_match.proofs.SteppingLemmas.{in_rules, rule_kept}
 use Rattle.spec_match.proofs.AnswerLemmas.{IsPassed, count_rules, dead_fits, first_found}
 use Rattle.spec_match.proofs.AnswerLemmas.{none_listed, passed_on}
@@ -10,34 +11,34 @@ use Rattle.spec_match.proofs.answering.first_fit.Goals as goal
 
 pub does_fit-requires : goal.does_fit-requires
 does_fit-requires c =
-    let list = alive_list c.args.lists.now.lists c.args.list in
+    let list = list_seen c.args.list.now in
     let i = c.index-i.result in
     let rule = c.index-rules-i.result in
     let within : c.alive.k < length list =
     omega (arith, c.alive-test.true, c.list_len-k-end.ensures) in
-    let owns = c.requires.own c.args.list c.requires.list in record {
+    let owns = c.requires.own c.args.list.now.number c.requires.list in record {
       list = c.requires.list;
       within = within;
-      made = states_own c.args.rules.now c.alive.states.items i rule c.index_mut.result.now
+      room = room_own c.args.rules.now c.alive.states i rule
           (in_rules c.args.rules.now list c.alive.k i rule within owns c.index-i.ensures
-          c.index-rules-i.is) c.index-rules-i.is c.index_mut.ensures.value c.alive.invariant.states;
+          c.index-rules-i.is) c.index-rules-i.is c.alive.invariant.states;
       kept = rule_kept c.args.rules.now list c.alive.k i rule within owns c.index-i.ensures
           c.index-rules-i.is;
     }
 
 pub returns-then-does_fit-clause-states : goal.returns-then-does_fit-clause-states
 returns-then-does_fit-clause-states c =
-    let own = c.requires.own c.args.list c.requires.list c.alive.k no_alive (omega arith) in
-    states_set c.args.rules.now c.alive.states.items c.index-i.result c.index-rules-i.result
-    c.does_fit.new.states
-    (omega (arith, own.within, count_rules c.args.rules.now, c.index-i.ensures))
-    c.index-rules-i.is c.does_fit.ensures.made c.alive.invariant.states
+    let own = c.requires.own c.args.list.now.number c.requires.list c.alive.k no_alive
+    (omega arith) in
+    states_kept (patterns_of c.args.rules.now) c.alive.states c.does_fit.new.states
+    c.does_fit.ensures.room c.alive.invariant.states
 
 pub returns-then-does_fit-clause-told : goal.returns-then-does_fit-clause-told
 returns-then-does_fit-clause-told c = λ cuts text h.
-    let list = alive_list c.args.lists.now.lists c.args.list in
+    let list = list_seen c.args.list.now in
     let rule = c.index-rules-i.result in
-    let own = c.requires.own c.args.list c.requires.list c.alive.k no_alive (omega arith) in
+    let own = c.requires.own c.args.list.now.number c.requires.list c.alive.k no_alive
+    (omega arith) in
     subst (λ i. IsAnswer c.args.asked text (map spec_in c.args.rules.now) (Some i))
     (sym c.index-i.ensures)
     (first_found c.args.asked text text (dead_fits c.args.asked text) c.args.rules.now list
@@ -49,14 +50,13 @@ returns-then-does_fit-clause-told c = λ cuts text h.
 
 pub alive-preserved : goal.alive-preserved
 alive-preserved c =
-    let list = alive_list c.args.lists.now.lists c.args.list in
+    let list = list_seen c.args.list.now in
     let rule = c.index-rules-i.result in
-    let own = c.requires.own c.args.list c.requires.list c.alive.k no_alive (omega arith) in
+    let own = c.requires.own c.args.list.now.number c.requires.list c.alive.k no_alive
+    (omega arith) in
     record {
-      states = states_set c.args.rules.now c.alive.states.items c.index-i.result rule
-          c.does_fit.new.states
-          (omega (arith, own.within, count_rules c.args.rules.now, c.index-i.ensures))
-          c.index-rules-i.is c.does_fit.ensures.made c.alive.invariant.states;
+      states = states_kept (patterns_of c.args.rules.now) c.alive.states c.does_fit.new.states
+          c.does_fit.ensures.room c.alive.invariant.states;
       passed = λ text.
           subst (IsPassed c.args.asked text text c.args.rules.now list) (sym (add-one c.alive.k))
           (passed_on c.args.asked text text (dead_fits c.args.asked text) c.args.rules.now list
@@ -69,5 +69,5 @@ alive-preserved c =
 pub returns-clause-told : goal.returns-clause-told
 returns-clause-told c = λ cuts text h.
     none_listed c.args.asked cuts text c.args.rules.now
-    (alive_list c.args.lists.now.lists c.args.list) c.alive.k (omega arith)
+    (list_seen c.args.list.now) c.alive.k (omega arith)
     (c.alive.invariant.passed text) h

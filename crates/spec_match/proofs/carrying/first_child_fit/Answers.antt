@@ -4,11 +4,11 @@ use Rattle.file_paths.specs.Path.{path_text}
 use Rattle.pattern_match.specs.States.{StandsFor}
 use Rattle.spec_match.specs.Alive.{no_alive}
 use Rattle.spec_match.specs.Remembering.{IsAnswer}
-use Rattle.spec_match.specs.StatesFor.{spec_in}
+use Rattle.spec_match.specs.StatesFor.{patterns_of, spec_in}
 use Rattle.spec_match.proofs.AnswerLemmas.{IsPassed, count_rules, first_found, none_found}
 use Rattle.spec_match.proofs.AnswerLemmas.{passed_on}
 use Rattle.spec_match.proofs.CarryLemmas.{dead_child}
-use Rattle.spec_match.proofs.ScratchLemmas.{states_own, states_set}
+use Rattle.spec_match.proofs.ScratchLemmas.{room_own, states_kept}
 use Rattle.spec_match.proofs.SteppingLemmas.{in_rules, rule_kept}
 use Rattle.spec_match.proofs.carrying.first_child_fit.Goals as goal
 
@@ -19,10 +19,9 @@ load-requires c =
     let within : c.alive.k < length c.args.from.now =
     omega (arith, c.alive-test.true, c.len-k-end.ensures) in record {
       within = within;
-      made = states_own c.args.rules.now c.alive.states.items i rule c.index_mut-own.result.now
+      room = room_own c.args.rules.now c.alive.trials.states i rule
           (in_rules c.args.rules.now c.args.from.now c.alive.k i rule within c.requires.own
-          c.index-i.ensures c.index-rules-i.is) c.index-rules-i.is c.index_mut-own.ensures.value
-          c.alive.invariant.states;
+          c.index-i.ensures c.index-rules-i.is) c.index-rules-i.is c.alive.invariant.states;
       kept = rule_kept c.args.rules.now c.args.from.now c.alive.k i rule within c.requires.own
           c.index-i.ensures c.index-rules-i.is;
     }
@@ -30,10 +29,9 @@ load-requires c =
 pub returns-then-does_fit_child-clause-states : goal.returns-then-does_fit_child-clause-states
 returns-then-does_fit_child-clause-states c =
     let own = c.requires.own c.alive.k no_alive (omega (arith, c.len-k-end.ensures)) in
-    states_set c.args.rules.now c.alive.states.items c.index-i.result c.index-rules-i.result
-    c.does_fit_child.new.states
-    (omega (arith, own.within, count_rules c.args.rules.now, c.index-i.ensures))
-    c.index-rules-i.is c.does_fit_child.ensures.made c.alive.invariant.states
+    states_kept (patterns_of c.args.rules.now) c.alive.trials.states
+    c.does_fit_child.new.trials.states
+    (c.does_fit_child.ensures.room ∙ c.load.ensures.room) c.alive.invariant.states
 
 pub returns-then-does_fit_child-clause-told : goal.returns-then-does_fit_child-clause-told
 returns-then-does_fit_child-clause-told c = λ path at.
@@ -41,11 +39,13 @@ returns-then-does_fit_child-clause-told c = λ path at.
     let list = c.args.from.now in
     let k = c.alive.k in
     let rule = c.index-rules-i.result in
-    let text = path_text (path ++ c.args.name.now ∷ []) in
+    let text = path_text (path ++ c.args.query.now.name.now ∷ []) in
     let within : k < length list = omega (arith, c.len-k-end.ensures) in
     let own = c.requires.own k no_alive within in
-    subst (λ i. IsAnswer c.args.asked text (map spec_in rules) (Some i)) (sym c.index-i.ensures)
-    (first_found c.args.asked (path_text path) text (dead_child c.args.asked path c.args.name.now)
+    subst (λ i. IsAnswer c.args.query.now.asked text (map spec_in rules) (Some i))
+    (sym c.index-i.ensures)
+    (first_found c.args.query.now.asked (path_text path) text
+    (dead_child c.args.query.now.asked path c.args.query.now.name.now)
     rules list k rule c.does_fit_child.result within
     (c.index-rules-i.is ∙ ap (λ n. get_or rules n rule) c.index-i.ensures)
     (omega (arith, own.within, count_rules rules))
@@ -61,15 +61,16 @@ alive-preserved c =
     let rule = c.index-rules-i.result in
     let within : k < length list = omega (arith, c.len-k-end.ensures) in
     let own = c.requires.own k no_alive within in record {
-      states = states_set rules c.alive.states.items c.index-i.result rule
-          c.does_fit_child.new.states
-          (omega (arith, own.within, count_rules rules, c.index-i.ensures)) c.index-rules-i.is
-          c.does_fit_child.ensures.made c.alive.invariant.states;
+      states = states_kept (patterns_of rules) c.alive.trials.states
+          c.does_fit_child.new.trials.states
+          (c.does_fit_child.ensures.room ∙ c.load.ensures.room) c.alive.invariant.states;
       passed = λ path r.
-          subst (IsPassed c.args.asked (path_text path) (path_text (path ++ c.args.name.now ∷ []))
+          subst (IsPassed c.args.query.now.asked (path_text path)
+          (path_text (path ++ c.args.query.now.name.now ∷ []))
           rules list) (sym (add-one k))
-          (passed_on c.args.asked (path_text path) (path_text (path ++ c.args.name.now ∷ []))
-          (dead_child c.args.asked path c.args.name.now) rules list k rule
+          (passed_on c.args.query.now.asked (path_text path)
+          (path_text (path ++ c.args.query.now.name.now ∷ []))
+          (dead_child c.args.query.now.asked path c.args.query.now.name.now) rules list k rule
           c.does_fit_child.result within
           (c.index-rules-i.is ∙ ap (λ n. get_or rules n rule) c.index-i.ensures)
           (omega (arith, own.within, count_rules rules))
@@ -81,6 +82,8 @@ alive-preserved c =
 
 pub returns-clause-told : goal.returns-clause-told
 returns-clause-told c = λ path at.
-    none_found c.args.asked (path_text path) (path_text (path ++ c.args.name.now ∷ []))
-    (dead_child c.args.asked path c.args.name.now) c.args.rules.now c.args.from.now c.alive.k
+    none_found c.args.query.now.asked (path_text path)
+    (path_text (path ++ c.args.query.now.name.now ∷ []))
+    (dead_child c.args.query.now.asked path c.args.query.now.name.now) c.args.rules.now
+    c.args.from.now c.alive.k
     (omega (arith, c.len-k-end.ensures)) (c.alive.invariant.passed path at.0) at.1

@@ -8,7 +8,8 @@ use Rattle.spec_match.proofs.carrying.first_child_fit.Given as goal
 
 abbrev pub invariant-alive : goal.invariant-alive
 invariant-alive l = record {
-  states : AreStatesFor (patterns_of l.rules) l.states.items;
-  passed : (path : Path) → l.is_root ≡ is_root_path path
-      → IsPassed l.asked (path_text path) (path_text (path ++ l.name ∷ [])) l.rules l.from l.k;
+  states : AreStatesFor (patterns_of l.rules) l.trials.states;
+  passed : (path : Path) → l.query.is_root ≡ is_root_path path
+      → IsPassed l.query.asked (path_text path) (path_text (path ++ l.query.name.now ∷ [])) l.rules
+      l.from l.k;
 }

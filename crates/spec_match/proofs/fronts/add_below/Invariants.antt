@@ -5,6 +5,7 @@ use Rattle.spec_match.proofs.fronts.add_below.Given as goal
 
 abbrev pub invariant-keys : goal.invariant-keys
 invariant-keys l = record {
-  states : AreStatesFor (patterns_of l.rules) l.states.items;
-  added : AreAddedFrom (path_of l.path) l.rules l.keys l.first l.at l.fn.found.items l.found.items;
+  states : AreStatesFor (patterns_of l.sought.rules.now) l.trials.states;
+  added : AreAddedFrom (path_of l.sought.path) l.sought.rules.now l.keys l.first l.at
+      l.fn.found.items l.found.items;
 }

@@ -3,7 +3,7 @@ use Rattle.pattern_syntax.specs.Literal.{literal_start_of}
 use Rattle.spec_match.specs.Alive.{pattern_at}
 use Rattle.spec_match.specs.Fronts.{all_keys}
 use Rattle.spec_match.specs.StatesFor.{patterns_of}
-use Rattle.spec_match.specs.declared.rule.Rule.{Rule}
+use Rattle.spec_match.specs.declared.compiled_spec.CompiledSpec.{CompiledSpec}
 use Rattle.spec_match.proofs.AnswerLemmas.{count_rules, pattern_of_rule}
 use Rattle.spec_match.proofs.FrontLemmas.{keys_end, keys_on}
 use Rattle.spec_match.proofs.fronts.all_keys.Goals as goal
@@ -14,7 +14,7 @@ rules-preserved c =
     let i = c.rules.i in
     let rule = c.index-rules-i.result in
     let pattern : rule.spec.pattern ≡ pattern_at (patterns_of rules) i =
-    ap (λ (r : Rule). r.spec.pattern) c.index-rules-i.is
+    ap (λ (r : CompiledSpec). r.spec.pattern) c.index-rules-i.is
     ∙ pattern_of_rule rules i rule (omega arith) in
     keys_on (patterns_of rules) i c.start.result.now c.rules.keys.items c.add_fronts.new.keys.items
     (all_keys 0 (patterns_of rules)) (omega (arith, count_rules rules))

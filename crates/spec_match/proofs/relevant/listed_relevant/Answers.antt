@@ -1,9 +1,11 @@
 use Rattle.std.proofs.Common.{◌≡◌, ◌<◌, ◌-◌, ◌∙◌, ◌++◌, ◌∷◌, [], ap, arith, cond, get_or, length}
 use Rattle.std.proofs.Common.{subst, suc, sym}
-use Rattle.spec_match.specs.Alive.{alive_at, alive_list, no_alive}
+use Rattle.spec_match.specs.Alive.{alive_at, no_alive}
+use Rattle.spec_match.specs.ListsSeen.{list_seen}
 use Rattle.spec_match.proofs.AnswerLemmas.{count_rules}
 use Rattle.spec_match.proofs.RelevantLemmas.{IsTried, all_decided, decided_on, low_at, none_decided}
-use Rattle.spec_match.proofs.ScratchLemmas.{states_set}
+use Rattle.spec_match.specs.StatesFor.{patterns_of}
+use Rattle.spec_match.proofs.ScratchLemmas.{states_kept}
 use Rattle.spec_match.proofs.relevant.listed_relevant.Goals as goal
 
 pub alive-init : goal.alive-init
@@ -11,25 +13,23 @@ alive-init c = record {
   states = c.requires.states;
   within = omega (arith, c.list_len-left.ensures);
   tried = λ path r h. none_decided path c.args.rules.now
-      (alive_list c.args.lists.now.lists c.args.list) c.new-found.result.items
+      (list_seen c.args.list.now) c.new-found.result.items
       c.list_len-left.result c.new-found.ensures.items c.list_len-left.ensures;
 }
 
 pub alive-preserved : goal.alive-preserved
 alive-preserved c =
     let rules = c.args.rules.now in
-    let list = alive_list c.args.lists.now.lists c.args.list in
+    let list = list_seen c.args.list.now in
     let k = c.alive.left - 1 in
     let next : suc k ≡ c.alive.left = omega arith in
     let within : k < length list = omega (arith, c.alive.invariant.within) in
-    let own = c.requires.own c.args.list c.requires.list k no_alive within in
+    let own = c.requires.own c.args.list.now.number c.requires.list k no_alive within in
     let rule = c.index-rules-i.result in
     let below : (alive_at list k).index < length rules =
     omega (arith, own.within, count_rules rules) in record {
-      states = states_set rules c.alive.states.items c.index-i.result rule
-          c.can_decide-is_found.new.states
-          (omega (arith, own.within, count_rules rules, c.index-i.ensures)) c.index-rules-i.is
-          c.can_decide-is_found.ensures.made c.alive.invariant.states;
+      states = states_kept (patterns_of rules) c.alive.states c.can_decide-is_found.new.states
+          c.can_decide-is_found.ensures.room c.alive.invariant.states;
       within = omega (arith, c.alive.invariant.within);
       tried = λ path r h.
           decided_on path rules list k rule c.can_decide-is_found.result c.alive.found.items
@@ -47,18 +47,16 @@ pub returns-in_err-add_if-clause-states : goal.returns-in_err-add_if-clause-stat
 returns-in_err-add_if-clause-states c =
     let rules = c.args.rules.now in
     let k = c.alive.left - 1 in
-    let own = c.requires.own c.args.list c.requires.list k no_alive
+    let own = c.requires.own c.args.list.now.number c.requires.list k no_alive
     (omega (arith, c.alive.invariant.within)) in
-    states_set rules c.alive.states.items c.index-i.result c.index-rules-i.result
-    c.can_decide-is_found.new.states
-    (omega (arith, own.within, count_rules rules, c.index-i.ensures)) c.index-rules-i.is
-    c.can_decide-is_found.ensures.made c.alive.invariant.states
+    states_kept (patterns_of rules) c.alive.states c.can_decide-is_found.new.states
+    c.can_decide-is_found.ensures.room c.alive.invariant.states
 
 pub returns-clause-value : goal.returns-clause-value
 returns-clause-value c = λ path r h.
     let zero_left : c.alive.left ≡ 0 = omega arith in
-    all_decided path c.args.rules.now (alive_list c.args.lists.now.lists c.args.list)
+    all_decided path c.args.rules.now (list_seen c.args.list.now)
     c.alive.found.items h
     (subst (λ n. IsTried path c.args.rules.now
-    (low_at (alive_list c.args.lists.now.lists c.args.list) n) c.alive.found.items) zero_left
+    (low_at (list_seen c.args.list.now) n) c.alive.found.items) zero_left
     (c.alive.invariant.tried path r h))

@@ -5,7 +5,7 @@ use Rattle.spec_match.proofs.stepping.start_all.Given as goal
 
 abbrev pub invariant-rules : goal.invariant-rules
 invariant-rules l = record {
-  states : AreStatesFor (patterns_of l.rules) l.states.items;
+  states : AreStatesFor (patterns_of l.rules) l.states;
   lists : l.lists.lists ≡ l.fn.lists.lists;
   within : l.left ≤ length l.rules;
   started : IsStarted (patterns_of l.rules) l.lists.draft l.left;

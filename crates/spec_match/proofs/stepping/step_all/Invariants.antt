@@ -6,8 +6,9 @@ use Rattle.spec_match.proofs.stepping.step_all.Given as goal
 
 abbrev pub invariant-alive : goal.invariant-alive
 invariant-alive l = record {
-  states : AreStatesFor (patterns_of l.rules) l.states.items;
+  states : AreStatesFor (patterns_of l.rules) l.states;
   lists : l.lists.lists ≡ l.fn.lists.lists;
-  stepped : IsStepped (patterns_of l.rules) (l.byte ∷ []) (alive_list l.fn.lists.lists l.from)
+  stepped : IsStepped (patterns_of l.rules) (l.step.byte ∷ [])
+      (alive_list l.fn.lists.lists l.step.from)
       l.lists.draft l.k;
 }

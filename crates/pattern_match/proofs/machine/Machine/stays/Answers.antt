@@ -10,29 +10,31 @@ use Rattle.pattern_match.proofs.machine.Machine.stays.Goals as goal
 pub are_steady-requires : goal.are_steady-requires
 are_steady-requires c =
     let r = ready_by c.self.inside c.args.self.now c.self.view_is c.self.invariant in
-    let e : c.self.inside.ready.is_bare ≡ false = c.if-self.false in
-    let m = machine c.args.self.now c.self.inside.ready.is_bare c.self.inside.ready.rows
-    c.self.inside.ready.width c.self.inside.ready.follow.items c.self.inside.ready.accept.items
-    c.self.inside.ready.classes.items r e in
+    let e : c.self.inside.tables.now.is_bare ≡ false = c.if-tables.false in
+    let m = machine c.args.self.now c.self.inside.tables.now.is_bare c.self.inside.tables.now.rows
+    c.self.inside.tables.now.width c.self.inside.tables.now.follow.items
+    c.self.inside.tables.now.accept.items
+    c.self.inside.tables.now.classes.items r e in
     let b : is_bare c.args.self.now ≡ false = sym r.bare_is ∙ e in
-    let a = some_marks c.args.self.now c.args.marks.now b c.requires in
-    rows_at c.args.self.now c.self.inside.ready.rows c.self.inside.ready.width
-    c.self.inside.ready.follow.items c.self.inside.ready.accept.items
-    c.self.inside.ready.classes.items m c.args.marks.now c.as_slice.result.now
+    let a = some_marks c.args.self.now c.args.marks.now.marks b c.requires in
+    rows_at c.args.self.now c.self.inside.tables.now.rows c.self.inside.tables.now.width
+    c.self.inside.tables.now.follow.items c.self.inside.tables.now.accept.items
+    c.self.inside.tables.now.classes.items m c.args.marks.now.marks c.as_slice.result.now
     c.as_slice-2.result.now c.as_slice.ensures c.as_slice-2.ensures.value a
 
 pub returns-clause-exact : goal.returns-clause-exact
 returns-clause-exact c =
     let r = ready_by c.self.inside c.args.self.now c.self.view_is c.self.invariant in
-    let e : c.self.inside.ready.is_bare ≡ false = c.if-self.false in
-    let m = machine c.args.self.now c.self.inside.ready.is_bare c.self.inside.ready.rows
-    c.self.inside.ready.width c.self.inside.ready.follow.items c.self.inside.ready.accept.items
-    c.self.inside.ready.classes.items r e in
+    let e : c.self.inside.tables.now.is_bare ≡ false = c.if-tables.false in
+    let m = machine c.args.self.now c.self.inside.tables.now.is_bare c.self.inside.tables.now.rows
+    c.self.inside.tables.now.width c.self.inside.tables.now.follow.items
+    c.self.inside.tables.now.accept.items
+    c.self.inside.tables.now.classes.items r e in
     let b : is_bare c.args.self.now ≡ false = sym r.bare_is ∙ e in
-    let a = some_marks c.args.self.now c.args.marks.now b c.requires in
-    let l = steady_at c.args.self.now c.self.inside.ready.rows c.self.inside.ready.width
-    c.self.inside.ready.follow.items c.self.inside.ready.accept.items
-    c.self.inside.ready.classes.items m c.args.marks.now c.as_slice.result.now
+    let a = some_marks c.args.self.now c.args.marks.now.marks b c.requires in
+    let l = steady_at c.args.self.now c.self.inside.tables.now.rows c.self.inside.tables.now.width
+    c.self.inside.tables.now.follow.items c.self.inside.tables.now.accept.items
+    c.self.inside.tables.now.classes.items m c.args.marks.now.marks c.as_slice.result.now
     c.as_slice-2.result.now c.as_slice-3.result.now c.as_slice.ensures
     c.as_slice-2.ensures.value c.as_slice-3.ensures.value b a in
     Decides-like c.are_steady.result l.0 l.1 c.are_steady.ensures
@@ -40,17 +42,18 @@ returns-clause-exact c =
 pub returns-clause-bytes : goal.returns-clause-bytes
 returns-clause-bytes c =
     let r = ready_by c.self.inside c.args.self.now c.self.view_is c.self.invariant in
-    let e : c.self.inside.ready.is_bare ≡ false = c.if-self.false in
-    let m = machine c.args.self.now c.self.inside.ready.is_bare c.self.inside.ready.rows
-    c.self.inside.ready.width c.self.inside.ready.follow.items c.self.inside.ready.accept.items
-    c.self.inside.ready.classes.items r e in
+    let e : c.self.inside.tables.now.is_bare ≡ false = c.if-tables.false in
+    let m = machine c.args.self.now c.self.inside.tables.now.is_bare c.self.inside.tables.now.rows
+    c.self.inside.tables.now.width c.self.inside.tables.now.follow.items
+    c.self.inside.tables.now.accept.items
+    c.self.inside.tables.now.classes.items r e in
     let b : is_bare c.args.self.now ≡ false = sym r.bare_is ∙ e in
-    let a = some_marks c.args.self.now c.args.marks.now b c.requires in
-    let l = steady_at c.args.self.now c.self.inside.ready.rows c.self.inside.ready.width
-    c.self.inside.ready.follow.items c.self.inside.ready.accept.items
-    c.self.inside.ready.classes.items m c.args.marks.now c.as_slice.result.now
+    let a = some_marks c.args.self.now c.args.marks.now.marks b c.requires in
+    let l = steady_at c.args.self.now c.self.inside.tables.now.rows c.self.inside.tables.now.width
+    c.self.inside.tables.now.follow.items c.self.inside.tables.now.accept.items
+    c.self.inside.tables.now.classes.items m c.args.marks.now.marks c.as_slice.result.now
     c.as_slice-2.result.now c.as_slice-3.result.now c.as_slice.ensures
     c.as_slice-2.ensures.value c.as_slice-3.ensures.value b a in
-    λ h byte p u. step_behind c.args.self.now c.args.marks.now c.args.marks.now byte b
-    (steady_step (all_places (automaton c.args.self.now)) c.args.marks.now byte p u
+    λ h byte p u. step_behind c.args.self.now c.args.marks.now.marks c.args.marks.now.marks byte b
+    (steady_step (all_places (automaton c.args.self.now)) c.args.marks.now.marks byte p u
     (l.0 (c.are_steady.ensures.0 h)).each)

@@ -8,35 +8,37 @@ use Rattle.pattern_match.proofs.machine.Machine.takes_all.Goals as goal
 pub has_loop-requires-clause-accept : goal.has_loop-requires-clause-accept
 has_loop-requires-clause-accept c =
     let r = ready_by c.self.inside c.args.self.now c.self.view_is c.self.invariant in
-    let e : c.self.inside.ready.is_bare ≡ false = c.if-self.false in
-    let m = machine c.args.self.now c.self.inside.ready.is_bare c.self.inside.ready.rows
-    c.self.inside.ready.width c.self.inside.ready.follow.items c.self.inside.ready.accept.items
-    c.self.inside.ready.classes.items r e in
+    let e : c.self.inside.tables.now.is_bare ≡ false = c.if-tables.false in
+    let m = machine c.args.self.now c.self.inside.tables.now.is_bare c.self.inside.tables.now.rows
+    c.self.inside.tables.now.width c.self.inside.tables.now.follow.items
+    c.self.inside.tables.now.accept.items
+    c.self.inside.tables.now.classes.items r e in
     let b : is_bare c.args.self.now ≡ false = sym r.bare_is ∙ e in
-    let a = some_marks c.args.self.now c.args.marks.now b c.requires in
-    accept_at c.args.self.now c.self.inside.ready.rows c.self.inside.ready.width
-    c.self.inside.ready.follow.items c.self.inside.ready.accept.items
-    c.self.inside.ready.classes.items m c.args.marks.now c.as_slice.result.now
+    let a = some_marks c.args.self.now c.args.marks.now.marks b c.requires in
+    accept_at c.args.self.now c.self.inside.tables.now.rows c.self.inside.tables.now.width
+    c.self.inside.tables.now.follow.items c.self.inside.tables.now.accept.items
+    c.self.inside.tables.now.classes.items m c.args.marks.now.marks c.as_slice.result.now
     c.as_slice-2.result.now c.as_slice.ensures c.as_slice-2.ensures.value a
 
 pub has_loop-requires-clause-rows : goal.has_loop-requires-clause-rows
 has_loop-requires-clause-rows c =
     let r = ready_by c.self.inside c.args.self.now c.self.view_is c.self.invariant in
-    let e : c.self.inside.ready.is_bare ≡ false = c.if-self.false in
-    let m = machine c.args.self.now c.self.inside.ready.is_bare c.self.inside.ready.rows
-    c.self.inside.ready.width c.self.inside.ready.follow.items c.self.inside.ready.accept.items
-    c.self.inside.ready.classes.items r e in
-    ended_rows_at c.args.self.now c.self.inside.ready.rows c.self.inside.ready.width
-    c.self.inside.ready.follow.items c.self.inside.ready.accept.items
-    c.self.inside.ready.classes.items m c.as_slice-2.result.now c.as_slice-3.result.now
+    let e : c.self.inside.tables.now.is_bare ≡ false = c.if-tables.false in
+    let m = machine c.args.self.now c.self.inside.tables.now.is_bare c.self.inside.tables.now.rows
+    c.self.inside.tables.now.width c.self.inside.tables.now.follow.items
+    c.self.inside.tables.now.accept.items
+    c.self.inside.tables.now.classes.items r e in
+    ended_rows_at c.args.self.now c.self.inside.tables.now.rows c.self.inside.tables.now.width
+    c.self.inside.tables.now.follow.items c.self.inside.tables.now.accept.items
+    c.self.inside.tables.now.classes.items m c.as_slice-2.result.now c.as_slice-3.result.now
     c.as_slice-2.ensures.value c.as_slice-3.ensures.value
 
-pub returns-then-self-clause-exact : goal.returns-then-self-clause-exact
-returns-then-self-clause-exact c =
+pub returns-then-tables-clause-exact : goal.returns-then-tables-clause-exact
+returns-then-tables-clause-exact c =
     let r = ready_by c.self.inside c.args.self.now c.self.view_is c.self.invariant in (
       λ e. cc,
       λ h. absurd
-          (bare_unmarked c.args.self.now c.args.marks.now (sym r.bare_is ∙ c.if-self.true)
+          (bare_unmarked c.args.self.now c.args.marks.now.marks (sym r.bare_is ∙ c.if-tables.true)
           c.requires
           h.place h.marked),
     )
@@ -44,13 +46,14 @@ returns-then-self-clause-exact c =
 pub returns-clause-exact : goal.returns-clause-exact
 returns-clause-exact c =
     let r = ready_by c.self.inside c.args.self.now c.self.view_is c.self.invariant in
-    let e : c.self.inside.ready.is_bare ≡ false = c.if-self.false in
-    let m = machine c.args.self.now c.self.inside.ready.is_bare c.self.inside.ready.rows
-    c.self.inside.ready.width c.self.inside.ready.follow.items c.self.inside.ready.accept.items
-    c.self.inside.ready.classes.items r e in
-    let l = loops_at c.args.self.now c.self.inside.ready.rows c.self.inside.ready.width
-    c.self.inside.ready.follow.items c.self.inside.ready.accept.items
-    c.self.inside.ready.classes.items m c.args.marks.now c.as_slice.result.now
+    let e : c.self.inside.tables.now.is_bare ≡ false = c.if-tables.false in
+    let m = machine c.args.self.now c.self.inside.tables.now.is_bare c.self.inside.tables.now.rows
+    c.self.inside.tables.now.width c.self.inside.tables.now.follow.items
+    c.self.inside.tables.now.accept.items
+    c.self.inside.tables.now.classes.items r e in
+    let l = loops_at c.args.self.now c.self.inside.tables.now.rows c.self.inside.tables.now.width
+    c.self.inside.tables.now.follow.items c.self.inside.tables.now.accept.items
+    c.self.inside.tables.now.classes.items m c.args.marks.now.marks c.as_slice.result.now
     c.as_slice-2.result.now c.as_slice-3.result.now c.as_slice-4.result.now c.as_slice.ensures
     c.as_slice-2.ensures.value c.as_slice-3.ensures.value c.as_slice-4.ensures.value in
     Decides-like c.has_loop.result l.0 l.1 c.has_loop.ensures
@@ -58,14 +61,15 @@ returns-clause-exact c =
 pub returns-clause-texts : goal.returns-clause-texts
 returns-clause-texts c =
     let r = ready_by c.self.inside c.args.self.now c.self.view_is c.self.invariant in
-    let e : c.self.inside.ready.is_bare ≡ false = c.if-self.false in
-    let m = machine c.args.self.now c.self.inside.ready.is_bare c.self.inside.ready.rows
-    c.self.inside.ready.width c.self.inside.ready.follow.items c.self.inside.ready.accept.items
-    c.self.inside.ready.classes.items r e in
+    let e : c.self.inside.tables.now.is_bare ≡ false = c.if-tables.false in
+    let m = machine c.args.self.now c.self.inside.tables.now.is_bare c.self.inside.tables.now.rows
+    c.self.inside.tables.now.width c.self.inside.tables.now.follow.items
+    c.self.inside.tables.now.accept.items
+    c.self.inside.tables.now.classes.items r e in
     let b : is_bare c.args.self.now ≡ false = sym r.bare_is ∙ e in
-    let l = loops_at c.args.self.now c.self.inside.ready.rows c.self.inside.ready.width
-    c.self.inside.ready.follow.items c.self.inside.ready.accept.items
-    c.self.inside.ready.classes.items m c.args.marks.now c.as_slice.result.now
+    let l = loops_at c.args.self.now c.self.inside.tables.now.rows c.self.inside.tables.now.width
+    c.self.inside.tables.now.follow.items c.self.inside.tables.now.accept.items
+    c.self.inside.tables.now.classes.items m c.args.marks.now.marks c.as_slice.result.now
     c.as_slice-2.result.now c.as_slice-3.result.now c.as_slice-4.result.now c.as_slice.ensures
     c.as_slice-2.ensures.value c.as_slice-3.ensures.value c.as_slice-4.ensures.value in
-    λ h. all_behind c.args.self.now c.args.marks.now b (l.0 (c.has_loop.ensures.0 h))
+    λ h. all_behind c.args.self.now c.args.marks.now.marks b (l.0 (c.has_loop.ensures.0 h))

@@ -15,25 +15,25 @@ returns-then-not-read-clause-test c = below_test c.args.self.now c.args.path.now
 
 pub returns-then-names-eq0-clause-test : goal.returns-then-names-eq0-clause-test
 returns-then-names-eq0-clause-test c = below_test c.args.self.now c.args.path.now c.alive.result
-    (root_below c.args.self.now c.args.path.now c.as_text.result.now c.read.new.states
+    (root_below c.args.self.now c.args.path.now c.as_text.result.now c.read.new.states.known
     c.alive.result c.as_text.ensures.value (sym c.names.ensures ∙ c.if-names-eq0.true)
     (c.if-not-read.ensures.stands refl) c.alive.ensures)
 
 pub returns-then-accepts-clause-test : goal.returns-then-accepts-clause-test
 returns-then-accepts-clause-test c = below_test c.args.self.now c.args.path.now true
-    (accepted_below c.args.self.now c.args.path.now c.as_text.result.now c.read.new.states
+    (accepted_below c.args.self.now c.args.path.now c.as_text.result.now c.read.new.states.known
     c.as_text.ensures.value (λ e. c.if-names-eq0.false (c.names.ensures ∙ e))
     (c.if-not-read.ensures.stands refl) c.if-accepts.ensures.language)
 
 pub returns-clause-below : goal.returns-clause-below
 returns-clause-below c = below_by c.args.self.now c.args.path.now c.as_text.result.now
-    c.read.new.states c.step.new.states false c.alive-2.result c.as_text.ensures.value
+    c.read.new.states.known c.step.new.states.known false c.alive-2.result c.as_text.ensures.value
     (λ e. c.if-names-eq0.false (c.names.ensures ∙ e)) (c.if-not-read.ensures.stands refl)
     c.if-accepts.ensures.language refl c.step.ensures.stands c.alive-2.ensures
 
 pub returns-clause-test : goal.returns-clause-test
 returns-clause-test c = below_test c.args.self.now c.args.path.now c.alive-2.result
-    (below_by c.args.self.now c.args.path.now c.as_text.result.now c.read.new.states
-    c.step.new.states false c.alive-2.result c.as_text.ensures.value
+    (below_by c.args.self.now c.args.path.now c.as_text.result.now c.read.new.states.known
+    c.step.new.states.known false c.alive-2.result c.as_text.ensures.value
     (λ e. c.if-names-eq0.false (c.names.ensures ∙ e)) (c.if-not-read.ensures.stands refl)
     c.if-accepts.ensures.language refl c.step.ensures.stands c.alive-2.ensures)

@@ -6,7 +6,7 @@ use Rattle.spec_match.proofs.lists.Lists.push.Goals as goal
 
 pub returns : goal.returns
 returns c =
-    let x = alive c.args.index c.args.states.now c.args.wants in
+    let x = alive c.args.index c.args.states.now.known c.args.wants in
     let new = c.push.new.self in
     subst (λ (w : Written). lists_written (map (list_at new) c.self.inside.spans.items)
     (drop c.self.inside.done new) ≡ cond c.push.result

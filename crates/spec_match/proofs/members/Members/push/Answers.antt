@@ -18,7 +18,7 @@ pub returns : goal.returns
 returns c =
     rw (c.in-Ok.ensures.items, c.in-Ok-push.ensures.items)
     (members_more c.self.inside.words.items c.marks-marks.result.now c.self.inside.members.items
-    c.in-Some.member c.args.index c.args.states.now.seen c.args.wants c.self.invariant
+    c.in-Some.member c.args.index c.args.states.now.known.seen c.args.wants c.self.invariant
     c.in-Some.ensures.index (c.in-Some.ensures.seen ∙ c.seen.ensures)
     (omega (arith, c.in-Some.ensures.start)) (omega (arith, c.in-Some.ensures.width))
     c.in-Some.ensures.wants

@@ -5,7 +5,7 @@ use Rattle.spec_match.specs.StatesFor.{patterns_of, spec_in}
 use Rattle.spec_match.specs.Tables.{kept_in, list_for}
 use Rattle.spec_match.specs.Trail.{trace_in}
 use Rattle.spec_match.specs.Workspaces.{remembered_in, room_in}
-use Rattle.spec_match.specs.declared.rule.Rule.{Rule}
+use Rattle.spec_match.specs.declared.compiled_spec.CompiledSpec.{CompiledSpec}
 use Rattle.spec_match.specs.declared.table.Table.{Table}
 use Rattle.spec_match.specs.declared.workspace.Workspace.{Workspace}
 use Rattle.spec_match.proofs.ScratchLemmas.{scratch_of}
@@ -13,7 +13,8 @@ use Rattle.spec_match.proofs.TableLemmas.{nothing_kept}
 use Rattle.spec_match.proofs.TrailLemmas.{no_trail}
 use Rattle.spec_match.proofs.scratch.Scratch.with_room.Goals as goal
 
-new_ready : (rules : List Rule) (table : Table) (cuts : Bool) → kept_in table ≡ kept cuts [] [] []
+new_ready : (rules : List CompiledSpec) (table : Table) (cuts : Bool)
+    → kept_in table ≡ kept cuts [] [] []
     [] → table.lists.draft ≡ [] → table.trail.known ≡ 0
     → IsTableReady (patterns_of rules) (map spec_in rules) (remembered_in table)
 new_ready rules table cuts none draft trail = record {
@@ -30,14 +31,13 @@ returns c =
     let whole = c.in_ok-whole_table.field-0 in
     let work : Workspace =
     record {
-      states = c.in_ok-states_of.field-0;
+      trials = c.in_ok-trials_of.field-0;
       table = table;
       whole = whole;
       fronts = c.new-2.result;
-      tried = 0;
     } in
     let own = scratch_of rules c.args.rules.now c.rules.view_is work (record {
-      states = rw c.as_slice.ensures.value at c.in_ok-states_of.ensures;
+      states = rw c.as_slice.ensures.value at c.in_ok-trials_of.ensures;
       table = new_ready rules table true c.in_ok-new.ensures.kept c.in_ok-new.ensures.draft
           c.in_ok-new.ensures.trail;
       whole = new_ready rules whole false c.in_ok-whole_table.ensures.kept

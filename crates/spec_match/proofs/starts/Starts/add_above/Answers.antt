@@ -11,15 +11,16 @@ bytes-init c = record {
   states = c.add_in.ensures.states;
   hash = refl;
   bound = omega arith;
-  added = added_to_first (path_of c.args.path.now) c.args.rules.now c.args.text.now
+  added = added_to_first (path_of c.args.sought.now.path) c.args.sought.now.rules.now
+      c.args.text.now
       (length c.args.self.now.heads.items) c.args.found.now.items c.add_in.new.found.items
       c.in_ok-add_in.ensures.added;
 }
 
 pub bytes-preserved : goal.bytes-preserved
 bytes-preserved c =
-    let path = path_of c.args.path.now in
-    let rules = c.args.rules.now in
+    let path = path_of c.args.sought.now.path in
+    let rules = c.args.sought.now.rules.now in
     let text = c.args.text.now in
     let count = length c.args.self.now.heads.items in
     let k = c.bytes.k in
@@ -42,7 +43,8 @@ bytes-preserved c =
 
 pub returns-clause-added : goal.returns-clause-added
 returns-clause-added c =
-    added_to_all (path_of c.args.path.now) c.args.rules.now c.args.text.now (suc c.bytes.k)
+    added_to_all (path_of c.args.sought.now.path) c.args.sought.now.rules.now c.args.text.now
+    (suc c.bytes.k)
     c.args.found.now.items c.bytes.found.items (omega arith) c.bytes.invariant.added
 
 pub returns-clause-hash : goal.returns-clause-hash

@@ -6,9 +6,10 @@ use Rattle.spec_match.proofs.starts.Starts.add_in.Given as goal
 
 abbrev pub invariant-chain : goal.invariant-chain
 invariant-chain l = record {
-  states : AreStatesFor (patterns_of l.rules) l.states.items;
-  within : l.next ≤ length l.rules;
-  going : IsGoing (path_of l.path) l.rules (length l.self.heads.items) l.bucket l.at l.next
+  states : AreStatesFor (patterns_of l.sought.rules.now) l.trials.states;
+  within : l.next ≤ length l.sought.rules.now;
+  going : IsGoing (path_of l.sought.path) l.sought.rules.now (length l.self.heads.items)
+      l.chain.bucket l.chain.at l.next
       l.fn.found.items l.found.items;
 }
 

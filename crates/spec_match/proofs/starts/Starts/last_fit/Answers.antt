@@ -9,9 +9,9 @@ use Rattle.spec_match.proofs.starts.Starts.last_fit.Goals as goal
 pub bytes-preserved : goal.bytes-preserved
 bytes-preserved c =
     let rules = c.args.rules.now in
-    let text = c.args.text.now in
+    let text = c.args.query.now.text.now in
     let count = length c.args.self.now.heads.items in
-    let q = fits_at c.args.asked text rules in
+    let q = fits_at c.args.query.now.asked text rules in
     let k = c.bytes.k in
     let size : c.len-count.result ≡ count = omega (arith, c.len-count.ensures) in
     let hash = c.mixed-hash.ensures.value ∙ ap (λ h. mixed h (get_or text k 0))
@@ -37,9 +37,10 @@ bytes-preserved c =
 pub returns-clause-told : goal.returns-clause-told
 returns-clause-told c =
     let rules = c.args.rules.now in
-    let text = c.args.text.now in
+    let text = c.args.query.now.text.now in
     let count = length c.args.self.now.heads.items in
     let end : suc c.bytes.k ≡ suc (length text) = omega arith in
-    answer_by c.args.asked text rules c.bytes.found
-    (seen_all rules count text (fits_at c.args.asked text rules) (suc c.bytes.k) c.bytes.found end
-    (fits_seen c.args.asked text rules count) c.bytes.invariant.seen)
+    answer_by c.args.query.now.asked text rules c.bytes.found
+    (seen_all rules count text (fits_at c.args.query.now.asked text rules) (suc c.bytes.k)
+    c.bytes.found end
+    (fits_seen c.args.query.now.asked text rules count) c.bytes.invariant.seen)

@@ -6,10 +6,10 @@ use Rattle.spec_match.proofs.starts.Starts.last_in.Given as goal
 
 abbrev pub invariant-chain : goal.invariant-chain
 invariant-chain l = record {
-  states : AreStatesFor (patterns_of l.rules) l.states.items;
+  states : AreStatesFor (patterns_of l.rules) l.trials.states;
   within : l.next ≤ length l.rules;
-  next : IsNext (length l.rules) (is_in_bucket l.rules (length l.self.heads.items) l.bucket)
-      (fits_from l.at l.asked l.text l.rules) l.next;
+  next : IsNext (length l.rules) (is_in_bucket l.rules (length l.self.heads.items) l.chain.bucket)
+      (fits_from l.chain.at l.query.asked l.query.text.now l.rules) l.next;
 }
 
 abbrev pub decreases-chain : goal.decreases-chain

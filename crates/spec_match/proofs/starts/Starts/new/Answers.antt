@@ -5,7 +5,7 @@ use Rattle.pattern_syntax.specs.Literal.{literal_start_of}
 use Rattle.spec_match.specs.Alive.{pattern_at}
 use Rattle.spec_match.specs.Chains.{AreChained, hashed, own_bucket}
 use Rattle.spec_match.specs.StatesFor.{patterns_of}
-use Rattle.spec_match.specs.declared.rule.Rule.{Rule}
+use Rattle.spec_match.specs.declared.compiled_spec.CompiledSpec.{CompiledSpec}
 use Rattle.spec_match.proofs.AnswerLemmas.{pattern_of_rule}
 use Rattle.spec_match.proofs.ChainLemmas.{chained_on}
 use Rattle.spec_match.proofs.starts.Starts.new.Goals as goal
@@ -19,7 +19,7 @@ rules-preserved c =
     let rule = c.index-rules-i.result in
     let bucket = c.hash_of-hash.result % count in
     let pattern : rule.spec.pattern ≡ pattern_at (patterns_of rules) i =
-    ap (λ (r : Rule). r.spec.pattern) c.index-rules-i.is
+    ap (λ (r : CompiledSpec). r.spec.pattern) c.index-rules-i.is
     ∙ pattern_of_rule rules i rule (omega arith) in
     let own : bucket ≡ own_bucket rules count i =
     ap (λ h. h % count)

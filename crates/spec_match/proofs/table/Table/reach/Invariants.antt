@@ -8,7 +8,7 @@ use Rattle.spec_match.proofs.table.Table.reach.Given as goal
 -- the list is right behind what was read
 abbrev pub invariant-text : goal.invariant-text
 invariant-text l = record {
-  states : AreStatesFor (patterns_of l.rules) l.states.items;
+  states : AreStatesFor (patterns_of l.rules) l.states;
   table : IsTableOf (patterns_of l.rules) (map spec_in l.rules) (kept_in l.self);
   cuts : l.self.cuts ≡ l.fn.self.cuts;
   draft : l.self.lists.draft ≡ [];

@@ -4,14 +4,14 @@ ghost use Rattle.label_base.specs.Kind.{applies, same_kind};
 ghost use Rattle.pattern_syntax.specs.Language.{Opens, holds};
 ghost use Rattle.pattern_syntax.specs.Literal.{literal_start_of};
 ghost use Rattle.pattern_match.specs.Onwards.{TakesAll};
-ghost use Rattle.pattern_match.specs.States.{AreStatesOf, StandsFor};
+ghost use Rattle.pattern_match.specs.States.{AreStatesOf, HasRoomFor, StandsFor};
 ghost use Rattle.spec_match.specs.LastMatch.{fits};
 ghost use Rattle.file_paths.specs.Path.{Path, path_text};
 ghost use Rattle.file_paths.specs.PathRef.{path_of};
-ghost use Rattle.spec_match.specs.PatternTests.{IsTestOf, is_fact};
+ghost use Rattle.spec_match.specs.Memberships.{IsTestOf, is_fact};
 ghost use Rattle.spec_match.specs.Relevant.{can_decide, is_root_path};
 
-use crate::pattern_test::PatternTest;
+use crate::membership::Membership;
 use file_paths::PathRef;
 use label_base::{Asked, EntryKind, OutOfMemory};
 use pattern_match::{States, may_hold};
@@ -20,9 +20,9 @@ use std::alloc::Global;
 
 /// A specification and the test of its pattern.
 #[derive(Drop)]
-pub struct Rule {
+pub struct CompiledSpec {
     pub spec: Spec,
-    test: PatternTest,
+    test: Membership,
     ghost own: { IsTestOf spec.pattern test } by { is_fact spec.pattern test },
 }
 
@@ -42,20 +42,28 @@ fn does_apply(kind: Option<EntryKind>, asked: Asked) -> bool
     }
 }
 
-impl Rule {
+impl CompiledSpec {
     /// Makes a specification ready.
-    pub fn new(alloc: Global, spec: Spec) -> Result<Rule, OutOfMemory>
+    pub fn new(alloc: Global, spec: Spec) -> Result<CompiledSpec, OutOfMemory>
         ensures { IfOk result (λ rule. rule.spec ≡ spec) }
     {
-        let test = PatternTest::new(alloc, &spec.pattern)?;
-        Ok(Rule { spec, test })
+        let test = Membership::new(alloc, &spec.pattern)?;
+        Ok(CompiledSpec { spec, test })
     }
 
-    /// The states in which the pattern is matched.
-    pub fn states(&self, alloc: Global) -> Result<States, OutOfMemory>
-        ensures { IfOk result (λ states. AreStatesOf self.now.spec.pattern states) }
+    /// For how many words of marks states must have room.
+    pub fn words(&self) -> usize
+        ensures { HasRoomFor self.now.spec.pattern result }
     {
-        self.test.states(alloc, &self.spec.pattern)
+        self.test.words(&self.spec.pattern)
+    }
+
+    /// States in which the pattern may be matched.
+    pub fn states(&self, alloc: Global) -> Result<States, OutOfMemory>
+        ensures { IfOk result (λ states. HasRoomFor self.now.spec.pattern states.room) }
+    {
+        let states = States::with_room(alloc, self.words())?;
+        Ok(states)
     }
 
     /// The bytes that every text of the pattern begins with.
@@ -75,8 +83,8 @@ impl Rule {
 
     /// Whether the specification applies and its language holds the text.
     pub fn does_fit(&self, states: &mut States, text: &[u8], asked: Asked) -> bool
-        requires { AreStatesOf self.now.spec.pattern states.old }
-        ensures made { AreStatesOf self.now.spec.pattern states.new }
+        requires { HasRoomFor self.now.spec.pattern states.old.room }
+        ensures room { states.new.room ≡ states.old.room }
         ensures value { result ≡ fits asked text.now self.now.spec }
     {
         if !does_apply(self.spec.kind, asked) {
@@ -85,21 +93,23 @@ impl Rule {
         self.test.passes(&self.spec.pattern, states, text)
     }
 
-    /// Goes back to the states before the first byte of a text.
+    /// Goes back to the states before the first byte of a text, whichever pattern's they were.
     pub fn restart(&self, states: &mut States)
-        requires { AreStatesOf self.now.spec.pattern states.old }
-        ensures own { AreStatesOf self.now.spec.pattern states.new }
-        ensures stands { StandsFor self.now.spec.pattern states.new [] }
+        requires { HasRoomFor self.now.spec.pattern states.old.room }
+        ensures room { states.new.room ≡ states.old.room }
+        ensures own { AreStatesOf self.now.spec.pattern states.new.known }
+        ensures stands { StandsFor self.now.spec.pattern states.new.known [] }
     {
         self.test.restart(&self.spec.pattern, states);
     }
 
     /// Goes on by a byte: what the states stand for gets it at its end.
     pub fn step(&self, states: &mut States, byte: u8)
-        requires { AreStatesOf self.now.spec.pattern states.old }
-        ensures own { AreStatesOf self.now.spec.pattern states.new }
-        ensures stands { (text : List ℕ) → StandsFor self.now.spec.pattern states.old text
-            → StandsFor self.now.spec.pattern states.new (text ++ byte ∷ []) }
+        requires { AreStatesOf self.now.spec.pattern states.old.known }
+        ensures own { AreStatesOf self.now.spec.pattern states.new.known }
+        ensures room { states.new.room ≡ states.old.room }
+        ensures stands { (text : List ℕ) → StandsFor self.now.spec.pattern states.old.known text
+            → StandsFor self.now.spec.pattern states.new.known (text ++ byte ∷ []) }
     {
         self.test.step(&self.spec.pattern, states, byte);
     }
@@ -113,8 +123,8 @@ impl Rule {
 
     /// Whether some text of the language begins with the text that was read.
     pub fn alive(&self, states: &States) -> bool
-        requires { AreStatesOf self.now.spec.pattern states.now }
-        ensures { (text : List ℕ) → StandsFor self.now.spec.pattern states.now text
+        requires { AreStatesOf self.now.spec.pattern states.now.known }
+        ensures { (text : List ℕ) → StandsFor self.now.spec.pattern states.now.known text
             → IsTrue result ↔ Opens self.now.spec.pattern text }
     {
         self.test.alive(&self.spec.pattern, states)
@@ -123,10 +133,10 @@ impl Rule {
     /// Whether the specification fits the text that was read and each text that begins with it,
     /// whatever kind is asked for. It may say false where that is so.
     pub fn covers(&self, states: &States) -> bool
-        requires { AreStatesOf self.now.spec.pattern states.now }
+        requires { AreStatesOf self.now.spec.pattern states.now.known }
         ensures any { result ≡ true → self.now.spec.kind ≡ None }
         ensures holds { result ≡ true → (text : List ℕ)
-            → StandsFor self.now.spec.pattern states.now text
+            → StandsFor self.now.spec.pattern states.now.known text
             → TakesAll self.now.spec.pattern text }
     {
         if self.spec.kind.is_some() {
@@ -138,18 +148,18 @@ impl Rule {
     /// Whether the states stand as well for the text with one more byte, whichever it is, other
     /// than 0. It may say false where they do.
     pub fn stays(&self, states: &States) -> bool
-        requires { AreStatesOf self.now.spec.pattern states.now }
+        requires { AreStatesOf self.now.spec.pattern states.now.known }
         ensures { result ≡ true → (byte : ℕ) → 0 < byte → byte < 256
-            → (text : List ℕ) → StandsFor self.now.spec.pattern states.now text
-            → StandsFor self.now.spec.pattern states.now (text ++ byte ∷ []) }
+            → (text : List ℕ) → StandsFor self.now.spec.pattern states.now.known text
+            → StandsFor self.now.spec.pattern states.now.known (text ++ byte ∷ []) }
     {
         self.test.stays(&self.spec.pattern, states)
     }
 
     /// Whether the specification applies and its language holds the text that was read.
     pub fn fits_read(&self, states: &States, asked: Asked) -> bool
-        requires { AreStatesOf self.now.spec.pattern states.now }
-        ensures { (text : List ℕ) → StandsFor self.now.spec.pattern states.now text
+        requires { AreStatesOf self.now.spec.pattern states.now.known }
+        ensures { (text : List ℕ) → StandsFor self.now.spec.pattern states.now.known text
             → result ≡ fits asked text self.now.spec }
     {
         if !does_apply(self.spec.kind, asked) {
@@ -160,8 +170,8 @@ impl Rule {
 
     /// Whether the language holds the text that was read.
     pub fn accepts(&self, states: &States) -> bool
-        requires { AreStatesOf self.now.spec.pattern states.now }
-        ensures { (text : List ℕ) → StandsFor self.now.spec.pattern states.now text
+        requires { AreStatesOf self.now.spec.pattern states.now.known }
+        ensures { (text : List ℕ) → StandsFor self.now.spec.pattern states.now.known text
             → result ≡ holds self.now.spec.pattern text }
     {
         self.test.accepts(&self.spec.pattern, states)
@@ -170,13 +180,14 @@ impl Rule {
     /// Reads on. Where no text of the language begins with all that is read, it may stop early and
     /// say false.
     pub fn read_on(&self, states: &mut States, text: &[u8]) -> bool
-        requires { AreStatesOf self.now.spec.pattern states.old }
-        ensures made { AreStatesOf self.now.spec.pattern states.new }
+        requires { AreStatesOf self.now.spec.pattern states.old.known }
+        ensures made { AreStatesOf self.now.spec.pattern states.new.known }
+        ensures room { states.new.room ≡ states.old.room }
         ensures stands { result ≡ true → (front : List ℕ)
-            → StandsFor self.now.spec.pattern states.old front
-            → StandsFor self.now.spec.pattern states.new (front ++ text.now) }
+            → StandsFor self.now.spec.pattern states.old.known front
+            → StandsFor self.now.spec.pattern states.new.known (front ++ text.now) }
         ensures dead { result ≡ false → (front : List ℕ)
-            → StandsFor self.now.spec.pattern states.old front
+            → StandsFor self.now.spec.pattern states.old.known front
             → Opens self.now.spec.pattern (front ++ text.now) → ⊥ }
     {
         'text: for byte in text {
@@ -191,13 +202,14 @@ impl Rule {
     /// Reads on from a path's text to that of a child of the path. Where no text of the language
     /// begins with it, it may stop early and say false.
     pub fn read_child(&self, states: &mut States, is_root: bool, name: &[u8]) -> bool
-        requires { AreStatesOf self.now.spec.pattern states.old }
-        ensures made { AreStatesOf self.now.spec.pattern states.new }
+        requires { AreStatesOf self.now.spec.pattern states.old.known }
+        ensures made { AreStatesOf self.now.spec.pattern states.new.known }
+        ensures room { states.new.room ≡ states.old.room }
         ensures stands { result ≡ true → (path : Path) → is_root ≡ is_root_path path
-            → StandsFor self.now.spec.pattern states.old (path_text path)
-            → StandsFor self.now.spec.pattern states.new (path_text (path ++ name.now ∷ [])) }
+            → StandsFor self.now.spec.pattern states.old.known (path_text path)
+            → StandsFor self.now.spec.pattern states.new.known (path_text (path ++ name.now ∷ [])) }
         ensures dead { result ≡ false → (path : Path) → is_root ≡ is_root_path path
-            → StandsFor self.now.spec.pattern states.old (path_text path)
+            → StandsFor self.now.spec.pattern states.old.known (path_text path)
             → Opens self.now.spec.pattern (path_text (path ++ name.now ∷ [])) → ⊥ }
     {
         if is_root {
@@ -210,10 +222,10 @@ impl Rule {
     /// Whether the language holds the path or something below it, where the states stand for the
     /// path's text.
     pub fn can_decide_behind(&self, states: &mut States, is_root: bool) -> bool
-        requires { AreStatesOf self.now.spec.pattern states.old }
-        ensures made { AreStatesOf self.now.spec.pattern states.new }
+        requires { AreStatesOf self.now.spec.pattern states.old.known }
+        ensures room { states.new.room ≡ states.old.room }
         ensures value { (path : Path) → is_root ≡ is_root_path path
-            → StandsFor self.now.spec.pattern states.old (path_text path)
+            → StandsFor self.now.spec.pattern states.old.known (path_text path)
             → result ≡ can_decide path self.now.spec }
     {
         if is_root {
@@ -228,8 +240,8 @@ impl Rule {
 
     /// Whether the language holds the path or something below it.
     pub fn can_decide(&self, states: &mut States, path: &PathRef<'_>) -> bool
-        requires { AreStatesOf self.now.spec.pattern states.old }
-        ensures made { AreStatesOf self.now.spec.pattern states.new }
+        requires { HasRoomFor self.now.spec.pattern states.old.room }
+        ensures room { states.new.room ≡ states.old.room }
         ensures value { result ≡ can_decide (path_of path.now) self.now.spec }
     {
         self.restart(states);

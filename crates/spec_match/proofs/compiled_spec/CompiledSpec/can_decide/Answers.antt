@@ -2,7 +2,7 @@ use Rattle.std.proofs.Common.{refl, subst, sym, []}
 use Rattle.pattern_syntax.specs.Language.{Opens}
 use Rattle.file_paths.specs.PathRef.{path_of}
 use Rattle.spec_match.proofs.RelevantLemmas.{dead_decides}
-use Rattle.spec_match.proofs.rule.Rule.can_decide.Goals as goal
+use Rattle.spec_match.proofs.compiled_spec.CompiledSpec.can_decide.Goals as goal
 
 pub returns-then-not-read_on-clause-value : goal.returns-then-not-read_on-clause-value
 returns-then-not-read_on-clause-value c =

@@ -1,0 +1,9 @@
+use Rattle.spec_match.specs.Alive.{alive_at}
+use Rattle.spec_match.proofs.ScratchLemmas.{marks_fit}
+use Rattle.spec_match.proofs.carrying.load.Goals as goal
+
+pub load-requires-clause-width : goal.load-requires-clause-width
+load-requires-clause-width c =
+    marks_fit c.args.rule.now.spec.pattern
+    (alive_at c.args.member.now.list.now c.args.member.now.k).states
+    c.args.states.now.room c.requires.kept c.requires.room
