@@ -1,3 +1,4 @@
+pub mod ContextText
 pub mod LabelSpelling
 pub mod NameSets
 pub mod Spelling

@@ -16,7 +16,7 @@ use Rattle.context_syntax.specs.Context.{context_of, with_user, with_role, with_
 no_colon : (b : ℕ) → is_word_byte b ≡ true → is_colon b ≡ false
 no_colon b h = grind (arith, nat_tests)
 
-front_word : (word rest : List ℕ) → list_all is_word_byte word ≡ true
+pub front_word : (word rest : List ℕ) → list_all is_word_byte word ≡ true
     → front is_colon (word ++ COLON ∷ rest) ≡ word
 front_word [] rest h = refl
 front_word (b ∷ bs) rest h =
@@ -24,7 +24,7 @@ front_word (b ∷ bs) rest h =
     rw here (ap (λ ys. b ∷ ys)
     (front_word bs rest (second_so (is_word_byte b) (list_all is_word_byte bs) h)))
 
-behind_word : (word rest : List ℕ) → list_all is_word_byte word ≡ true
+pub behind_word : (word rest : List ℕ) → list_all is_word_byte word ≡ true
     → behind is_colon (word ++ COLON ∷ rest) ≡ Some rest
 behind_word [] rest h = refl
 behind_word (b ∷ bs) rest h =
@@ -46,15 +46,15 @@ behind_last (b ∷ bs) h =
     let here = no_colon b (first_so (is_word_byte b) (list_all is_word_byte bs) h) in
     rw here (behind_last bs (second_so (is_word_byte b) (list_all is_word_byte bs) h))
 
-word_bytes : (word : List ℕ) → is_word word ≡ true → list_all is_word_byte word ≡ true
+pub word_bytes : (word : List ℕ) → is_word word ≡ true → list_all is_word_byte word ≡ true
 word_bytes word h = second_so (not (length word == 0)) (list_all is_word_byte word) h
 
-front_kind : (kind : List ℕ) (range : Option (List ℕ)) → list_all is_word_byte kind ≡ true
+pub front_kind : (kind : List ℕ) (range : Option (List ℕ)) → list_all is_word_byte kind ≡ true
     → front is_colon (kind ++ range_text range) ≡ kind
 front_kind kind None h = front_last kind h
 front_kind kind (Some r) h = front_word kind r h
 
-behind_kind : (kind : List ℕ) (range : Option (List ℕ)) → list_all is_word_byte kind ≡ true
+pub behind_kind : (kind : List ℕ) (range : Option (List ℕ)) → list_all is_word_byte kind ≡ true
     → behind is_colon (kind ++ range_text range) ≡ range
 behind_kind kind None h = behind_last kind h
 behind_kind kind (Some r) h = behind_word kind r h
@@ -91,7 +91,7 @@ user_read c h =
     ) (role_read c h)
 
 -- the parts from left to right
-spread : (user role kind range : List ℕ) → user ++ COLON ∷ role ++ COLON ∷ kind ++ range ≡ user
+pub spread : (user role kind range : List ℕ) → user ++ COLON ∷ role ++ COLON ∷ kind ++ range ≡ user
     ++ COLON ∷ (role ++ COLON ∷ (kind ++ range))
 spread user role kind range = simp append_assoc
 
@@ -127,7 +127,7 @@ colon_is : (x : ℕ) → is_colon x ≡ true → x ≡ COLON
 colon_is x h = grind (arith, nat_tests)
 
 -- the words of the last part, joined again
-range_joined : (rest : List ℕ) (range : Option (List ℕ)) → behind is_colon rest ≡ range
+pub range_joined : (rest : List ℕ) (range : Option (List ℕ)) → behind is_colon rest ≡ range
     → rest ≡ front is_colon rest ++ range_text range
 range_joined rest None h = whole is_colon rest h ∙ sym (append-nil (front is_colon rest))
 range_joined rest (Some r) h = joined is_colon rest COLON colon_is r h

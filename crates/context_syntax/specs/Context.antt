@@ -1,7 +1,7 @@
 -- The grammar of security contexts, user:role:type or user:role:type:range, and below it how it is
 -- computed.
 use Rattle.std.specs.Prelude.{◌≡◌, ℕ, Bool, true, false, ◌&&◌, ◌||◌, ◌==◌, codes, List, [], ◌∷◌}
-use Rattle.std.specs.Prelude.{◌++◌, length, Option, Some, None, if◌then◌else◌, not}
+use Rattle.std.specs.Prelude.{◌+◌, ◌++◌, length, Option, Some, None, if◌then◌else◌, not}
 use Rattle.std.specs.Char.{is_ascii_alphanumeric, is_ascii_graphic}
 use Rattle.std.specs.List.{list_all, list_any}
 use Rattle.label_base.specs.Cut.{front, behind}
@@ -75,6 +75,36 @@ with_user user (Some rest) = with_role user (front is_colon rest) (behind is_col
 -- the context that the bytes spell
 abbrev pub context_of : List ℕ → Option ContextValue
 context_of bytes = with_user (front is_colon bytes) (behind is_colon bytes)
+
+-- ---- as one text
+
+-- what stands behind the first colon, or nothing
+abbrev pub text_or_none : Option (List ℕ) → List ℕ
+text_or_none None = []
+text_or_none (Some text) = text
+
+abbrev pub behind_colon : List ℕ → List ℕ
+behind_colon text = text_or_none (behind is_colon text)
+
+-- the parts of a text, parted at its first three colons
+abbrev pub context_spelled : List ℕ → ContextValue
+context_spelled text =
+    record {
+      user = front is_colon text;
+      role = front is_colon (behind_colon text);
+      kind = front is_colon (behind_colon (behind_colon text));
+      range = behind is_colon (behind_colon (behind_colon text));
+    }
+
+-- what is spelled before the type
+abbrev pub before_kind : ContextValue → List ℕ
+before_kind c = c.user ++ COLON ∷ c.role ++ COLON ∷ []
+
+-- the text spells a context, whose type stands between these places
+pub record IsContextText (text : List ℕ) (first end : ℕ) : Type 0 where
+  pub spelled : SpellsContext text (context_spelled text)
+  pub at : first ≡ length (before_kind (context_spelled text))
+  pub to : end ≡ first + length (context_spelled text).kind
 
 -- ---- equality
 

@@ -6,11 +6,11 @@ ghost use Rattle.label_base.specs.Answers.{Finds};
 ghost use Rattle.context_syntax.specs.Context.{ContextValue, IsContext, SpellsContext, context_of};
 ghost use Rattle.context_syntax.specs.Context.{context_text, is_range, is_range_byte, is_word};
 ghost use Rattle.context_syntax.specs.Context.{is_word_byte, same_but_user, same_context};
-ghost use Rattle.context_syntax.specs.Context.{same_option, with_kind_of};
+ghost use Rattle.context_syntax.specs.Context.{IsContextText, before_kind, behind_colon};
+ghost use Rattle.context_syntax.specs.Context.{context_spelled, range_text, with_kind_of};
 ghost use Rattle.context_syntax.specs.declared.context.ContextFault.TheVariants as faults;
 ghost use Rattle.context_syntax.specs.Equal.{contexts_equiv};
 
-use crate::context_ref::ContextRef;
 use label_base::{Bytes, OutOfMemory, cut_at};
 use std::alloc::Global;
 use std::marker::Model;
@@ -20,49 +20,36 @@ pub(crate) const COLON: u8 = b':';
 
 /// A security context, as restorecon(8) and file_contexts(5) write it: `user:role:type`, or
 /// `user:role:type:range`. Each part is in the grammar of its place, so there is one spelling for
-/// each value.
+/// each value. Contracts see its parts.
 #[derive(Debug)]
 pub struct Context {
-    /// One or more of the ASCII letters and digits, `_`, `.` and `-`.
-    pub user: Bytes,
-    /// In the grammar of the user.
-    pub role: Bytes,
-    /// The type, in the grammar of the user.
-    pub kind: Bytes,
-    /// The level or range, if there is one: one or more printing bytes other than blanks, `"` and
-    /// `\`.
-    pub range: Option<Bytes>,
+    // The spelling.
+    text: Vec<u8>,
+    // Where the type begins in it.
+    kind_at: usize,
+    // Where the type ends.
+    kind_end: usize,
 }
 
 // By hand: one call for an owner, where a derived drop is a step for each field.
 impl Drop for Context {
     fn drop(self) {
         let Context {
-            user: _,
-            role: _,
-            kind: _,
-            range: _,
+            text: _,
+            kind_at: _,
+            kind_end: _,
         } = self;
     }
 }
 
 impl Model for Context {
-    ghost use Rattle.std.specs.Prelude.{◌≡◌, true};
-    ghost use Rattle.context_syntax.specs.Context.{ContextValue, IsContext};
+    ghost use Rattle.context_syntax.specs.Context.{ContextValue, IsContextText, context_spelled};
 
     ghost Value = { ContextValue };
 
-    ghost view = { λ c. record { user = c.user; role = c.role; kind = c.kind; range = c.range } };
+    ghost view = { λ c. context_spelled c.text.items };
 
-    ghost invariant = { λ c. IsContext
-        (record { user = c.user; role = c.role; kind = c.kind; range = c.range }) };
-
-    ghost inverse = { λ v. record {
-      user = v.user;
-      role = v.role;
-      kind = v.kind;
-      range = v.range;
-    } };
+    ghost invariant = { λ c. IsContextText c.text.items c.kind_at c.kind_end };
 }
 
 /// Why bytes gave no context.
@@ -121,50 +108,31 @@ fn may_stand_in_range(b: u8) -> bool
     b.is_ascii_graphic() && b != b'"' && b != b'\\'
 }
 
-fn copy_of_range(alloc: Global, range: Option<&[u8]>) -> Result<Option<Bytes>, OutOfMemory>
-    ensures { IfOk result (λ copy. copy ≡ option_copied range.entry) }
+// What stands behind the first colon, or nothing.
+fn behind_colon(text: &[u8]) -> &[u8]
+    ensures { result.now ≡ behind_colon text.now }
 {
-    match range {
-        Some(range) => Ok(Some(Bytes::copy_of(alloc, range)?)),
-        None => Ok(None),
+    match cut_at(COLON, text).1 {
+        Some(rest) => rest,
+        None => &[],
     }
 }
 
-// The context of these parts, each copied.
-fn copied(
+// The context that the bytes spell, with a type between these places.
+fn kept(
     alloc: Global,
-    user: &[u8],
-    role: &[u8],
-    kind: &[u8],
-    range: Option<&[u8]>,
+    bytes: &[u8],
+    kind_at: usize,
+    kind_end: usize,
 ) -> Result<Context, OutOfMemory>
-    requires user { is_word user.now ≡ true }
-    requires role { is_word role.now ≡ true }
-    requires kind { is_word kind.now ≡ true }
-    requires range { is_range (option_copied range) ≡ true }
-    ensures { IfOk result (λ context. context ≡ record {
-      user = user.now;
-      role = role.now;
-      kind = kind.now;
-      range = option_copied range.entry;
-    }) }
+    requires { IsContextText bytes.now kind_at kind_end }
+    ensures { IfOk result (λ context. context ≡ context_spelled bytes.now) }
 {
     Ok(Context {
-        user: Bytes::copy_of(alloc, user)?,
-        role: Bytes::copy_of(alloc, role)?,
-        kind: Bytes::copy_of(alloc, kind)?,
-        range: copy_of_range(alloc, range)?,
+        text: Vec::from_slice(alloc, bytes)?,
+        kind_at,
+        kind_end,
     })
-}
-
-fn is_same_range(range: &Option<Bytes>, other: &Option<Bytes>) -> bool
-    ensures { result ≡ same_option range.now other.now }
-{
-    match (range, other) {
-        (None, None) => true,
-        (Some(range), Some(other)) => *range == *other,
-        _ => false,
-    }
 }
 
 impl Context {
@@ -172,7 +140,7 @@ impl Context {
 
     #[tactic(auto, using(crate::proofs::Spelling::complete, crate::proofs::Spelling::sound))]
     /// Reads a context. `NoContext` comes exactly where the bytes spell none.
-    /// Each part is copied into an allocation of its own.
+    /// Its spelling is kept in one allocation.
     pub fn read(alloc: Global, bytes: &[u8]) -> Result<Context, ContextFault>
         ensures meant { Finds (λ c. c) is_want_of_memory result (context_of bytes.now) }
 
@@ -201,12 +169,64 @@ impl Context {
         {
             return Err(ContextFault::NoContext);
         }
-        Ok(copied(alloc, user, role, kind, range)?)
+        let kind_at = bytes.len() - rest.len();
+        Ok(kept(alloc, bytes, kind_at, kind_at + kind.len())?)
+    }
+
+    /// The user: one or more of the ASCII letters and digits, `_`, `.` and `-`.
+    pub fn user(&self) -> &[u8]
+        ensures { result.now ≡ self.now.user }
+    {
+        cut_at(COLON, self.text.as_slice()).0
+    }
+
+    /// The role, in the grammar of the user.
+    pub fn role(&self) -> &[u8]
+        ensures { result.now ≡ self.now.role }
+    {
+        cut_at(COLON, behind_colon(self.text.as_slice())).0
+    }
+
+    /// The type, in the grammar of the user.
+    pub fn kind(&self) -> &[u8]
+        ensures { result.now ≡ self.now.kind }
+    {
+        &self.text.as_slice()[self.kind_at..self.kind_end]
+    }
+
+    /// The level or range, if there is one: one or more printing bytes other than blanks, `"` and
+    /// `\`.
+    pub fn range(&self) -> Option<&[u8]>
+        ensures { option_copied result ≡ self.now.range }
+    {
+        cut_at(COLON, self.behind_kind()).1
+    }
+
+    /// The one spelling.
+    pub fn as_text(&self) -> &[u8]
+        ensures text { result.now ≡ context_text self.now }
+        ensures parts { IsContext self.now }
+    {
+        self.text.as_slice()
+    }
+
+    // What is spelled before the type.
+    pub(crate) fn before_kind(&self) -> &[u8]
+        ensures { result.now ≡ before_kind self.now }
+    {
+        &self.text.as_slice()[..self.kind_at]
+    }
+
+    // What is spelled behind it.
+    pub(crate) fn behind_kind(&self) -> &[u8]
+        ensures { result.now ≡ range_text self.now.range }
+    {
+        &self.text.as_slice()[self.kind_end..]
     }
 
     #[tactic(auto, using(crate::proofs::Spelling::read_back, crate::proofs::Spelling::spells_itself))]
     /// Adds the one spelling at the end. Where memory runs out, nothing is added.
-    pub fn write(&self, alloc: Global, to: &mut Bytes) -> Result<(), OutOfMemory>
+    pub fn write(&self, to: &mut Bytes) -> Result<(), OutOfMemory>
         ensures ok { OnOk result (to.new ≡ to.old ++ context_text self.now) }
         ensures err { OnErr result (to.new ≡ to.old) }
 
@@ -214,30 +234,35 @@ impl Context {
         ensures spells { SpellsContext (context_text self.now) self.now }
         ensures read_back { context_of (context_text self.now) ≡ Some self.now }
     {
-        let _ = &self.user;
-        let mut text = Bytes::new(alloc);
-        ContextRef::whole(self).add(&mut text)?;
-        to.push(text.as_slice())
+        to.push(self.as_text())
     }
 
     /// This user, role and range with the other's type.
     pub fn with_kind_of(&self, alloc: Global, other: &Context) -> Result<Context, OutOfMemory>
         ensures { IfOk result (λ made. made ≡ with_kind_of self.now other.now) }
     {
-        copied(
-            alloc,
-            self.user.as_slice(),
-            self.role.as_slice(),
-            other.kind.as_slice(),
-            self.range.as_ref().map(|r| r.as_slice()),
-        )
+        let _ = &other.text;
+        let mut text = Vec::with_capacity(alloc, self.text.len())?;
+        text.extend_from_slice(self.before_kind())?;
+        text.extend_from_slice(other.kind())?;
+        let kind_end = text.len();
+        text.extend_from_slice(self.behind_kind())?;
+        Ok(Context {
+            text,
+            kind_at: self.kind_at,
+            kind_end,
+        })
     }
 
     /// A copy.
     pub fn copy(&self, alloc: Global) -> Result<Context, OutOfMemory>
         ensures { IfOk result (λ copy. copy ≡ self.now) }
     {
-        self.with_kind_of(alloc, self)
+        Ok(Context {
+            text: Vec::from_slice(alloc, self.text.as_slice())?,
+            kind_at: self.kind_at,
+            kind_end: self.kind_end,
+        })
     }
 
     /// Whether role, type and range are the same, whatever the users are.
@@ -245,9 +270,7 @@ impl Context {
         ensures computed { result ≡ same_but_user self.now other.now }
         ensures equal { IsTrue result ↔ (record other.now { user = self.now.user } ≡ self.now) }
     {
-        self.role == other.role
-            && self.kind == other.kind
-            && is_same_range(&self.range, &other.range)
+        behind_colon(self.text.as_slice()) == behind_colon(other.text.as_slice())
     }
 }
 
@@ -260,10 +283,7 @@ impl PartialEq for Context {
         ensures computed { result ≡ same_context self.now other.now }
         ensures equal { IsTrue result ↔ (self.now ≡ other.now) }
     {
-        self.user == other.user
-            && self.role == other.role
-            && self.kind == other.kind
-            && is_same_range(&self.range, &other.range)
+        self.text.as_slice() == other.text.as_slice()
     }
 }
 

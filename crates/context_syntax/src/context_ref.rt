@@ -2,7 +2,7 @@ ghost use Rattle.std.specs.Prelude.{◌≡◌, ◌++◌, OnErr, OnOk};
 ghost use Rattle.context_syntax.specs.Context.{context_text};
 ghost use Rattle.context_syntax.specs.ContextRef.{context_lent};
 
-use crate::context::{COLON, Context};
+use crate::context::Context;
 use label_base::{Bytes, OutOfMemory};
 use std::alloc::Global;
 
@@ -33,16 +33,9 @@ impl<'a> ContextRef<'a> {
     {
         let rest = self.rest;
         let kind = self.kind;
-        to.push(rest.user.as_slice())?;
-        to.push_byte(COLON)?;
-        to.push(rest.role.as_slice())?;
-        to.push_byte(COLON)?;
-        to.push(kind.kind.as_slice())?;
-        if let Some(range) = &rest.range {
-            to.push_byte(COLON)?;
-            to.push(range.as_slice())?;
-        }
-        Ok(())
+        to.push(rest.before_kind())?;
+        to.push(kind.kind())?;
+        to.push(rest.behind_kind())
     }
 
     /// Adds the one spelling at the end. Where memory runs out, nothing is added.

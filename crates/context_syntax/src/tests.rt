@@ -7,7 +7,7 @@ fn is_written_back(alloc: Global, bytes: &[u8]) -> Result<bool, OutOfMemory> {
     match Context::read(alloc, bytes) {
         Ok(context) => {
             let mut text = Bytes::new(alloc);
-            context.write(alloc, &mut text)?;
+            context.write(&mut text)?;
             Ok(text.as_slice() == bytes)
         }
         Err(ContextFault::NoContext) => Ok(false),
@@ -19,6 +19,19 @@ fn is_written_back(alloc: Global, bytes: &[u8]) -> Result<bool, OutOfMemory> {
 fn contexts(rt: HostRuntime) -> Result<(), Fail> {
     assert!(rt; is_written_back(rt.alloc(), b"system_u:object_r:root_t:s0")?);
     assert!(rt; is_written_back(rt.alloc(), b"user_u:r:kind-1.x_t:s0-s0:c0.c1023")?);
+    Ok(())
+}
+
+fn has_words(context: &Context, user: &[u8], role: &[u8], kind: &[u8]) -> bool {
+    context.user() == user && context.role() == role && context.kind() == kind
+}
+
+#[test]
+fn the_parts_of_a_context(rt: HostRuntime) -> Result<(), Fail> {
+    let context = Context::read(rt.alloc(), b"a_u:b_r:c_t:s0-s0:c1")?;
+    assert!(rt; has_words(&context, b"a_u", b"b_r", b"c_t"));
+    assert_eq!(rt; context.range(), Some(b"s0-s0:c1".as_slice()));
+    assert_eq!(rt; context.as_text(), b"a_u:b_r:c_t:s0-s0:c1".as_slice());
     Ok(())
 }
 

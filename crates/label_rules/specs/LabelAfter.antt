@@ -6,6 +6,6 @@ use Rattle.label_rules.specs.declared.label_after.LabelAfter.{LabelAfter}
 use Rattle.label_rules.specs.declared.label_after.LabelAfter.TheVariants.{Kept, Given}
 
 -- the label that is lent
-abbrev pub label_told : LabelAfter → Label
-label_told (Kept label) = label.now
-label_told (Given context) = Is (context_lent context)
+abbrev pub label_seen : LabelAfter → Label
+label_seen (Kept label) = label.now
+label_seen (Given context) = Is (context_lent context)

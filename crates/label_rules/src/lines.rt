@@ -5,7 +5,7 @@ ghost use Rattle.context_syntax.specs.ContextRef.{context_lent};
 ghost use Rattle.report_text.specs.Message.{message_of};
 ghost use Rattle.label_rules.specs.Decide.{given_in};
 ghost use Rattle.label_rules.specs.Decide.{label_by};
-ghost use Rattle.label_rules.specs.LabelAfter.{label_told};
+ghost use Rattle.label_rules.specs.LabelAfter.{label_seen};
 ghost use Rattle.label_rules.specs.Verdicts.{verdict_of};
 ghost use Rattle.label_rules.specs.Lines.{conflict_line, customized_line, verdict_line};
 
@@ -17,7 +17,7 @@ use report_text::Message;
 
 /// The label after a verdict.
 pub fn label_by<'a>(verdict: &Verdict<'a>, label: &'a Label) -> LabelAfter<'a>
-    ensures { label_told result ≡ label_by (verdict_of verdict.now) label.now }
+    ensures { label_seen result ≡ label_by (verdict_of verdict.now) label.now }
 {
     match verdict {
         Verdict::Keep | Verdict::Customized => LabelAfter::Kept(label),

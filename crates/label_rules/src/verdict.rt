@@ -30,10 +30,10 @@ fn decide_whole<'a>(current: &Context, wanted: &'a Context) -> Verdict<'a>
 fn decide_type<'a>(current: &'a Context, wanted: &'a Context, types: &TypeNames) -> Verdict<'a>
     ensures { verdict_of result ≡ type_verdict types.now current.now wanted.now }
 {
-    if current.kind == wanted.kind {
+    if current.kind() == wanted.kind() {
         return Verdict::Keep;
     }
-    if types.has(current.kind.as_slice()) {
+    if types.has(current.kind()) {
         return Verdict::Customized;
     }
     Verdict::Change(ContextRef {

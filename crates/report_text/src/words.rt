@@ -5,7 +5,7 @@ ghost use Rattle.context_syntax.specs.Context.{context_text};
 ghost use Rattle.report_text.specs.Texts.{found_words, given_text, kind_words, label_text};
 ghost use Rattle.report_text.specs.Texts.{relabelled_words, shown_path};
 
-use context_syntax::{Context, ContextRef, Label};
+use context_syntax::{Context, Label};
 use file_paths::PathRef;
 use label_base::{Bytes, EntryKind, OutOfMemory, write_escaped};
 use spec_reader::NO_CONTEXT;
@@ -76,7 +76,7 @@ pub(crate) fn add_path(
 pub(crate) fn add_context(context: &Context, text: &mut Bytes) -> Result<(), OutOfMemory>
     ensures { OnOk result (text.new ≡ text.old ++ context_text context.now) }
 {
-    ContextRef::whole(context).add(text)
+    text.push(context.as_text())
 }
 
 pub(crate) fn add_label(alloc: Global, label: &Label, text: &mut Bytes) -> Result<(), OutOfMemory>

@@ -1,4 +1,4 @@
-ghost use Rattle.std.specs.Prelude.{◌≡◌, ◌++◌, ◌∷◌, [], filter, length, IfOk, OnOk};
+ghost use Rattle.std.specs.Prelude.{◌≡◌, ◌++◌, ◌∷◌, [], filter, length, take, ◌≤◌, IfOk, OnOk};
 ghost use Rattle.spec_order.specs.Order.{is_exact_spec, is_pattern_spec, in_order};
 
 use label_base::{OutOfMemory, Row};
@@ -30,12 +30,61 @@ fn joined_halves(
 ) -> Result<Row<Spec>, OutOfMemory>
     ensures { IfOk result (λ specs. specs ≡ in_order (base ++ home ++ local)) }
 {
-    let mut patterns = Row::new(alloc);
     let mut exact = Row::new(alloc);
-    divide(base, &mut patterns, &mut exact)?;
+    let mut patterns = parted(alloc, base, &mut exact)?;
     divide(home, &mut patterns, &mut exact)?;
     divide(local, &mut patterns, &mut exact)?;
-    append(&mut patterns, exact)?;
+    joined(patterns, exact)
+}
+
+// How many stand in front of the first exact text.
+fn count_before_exact(specs: &[Spec]) -> usize
+    ensures within { result ≤ length specs.now }
+    ensures none_exact { filter is_exact_spec (take result specs.now) ≡ [] }
+    ensures all_patterns { filter is_pattern_spec (take result specs.now)
+        ≡ take result specs.now }
+{
+    let mut count = 0;
+    'specs: for spec in specs {
+        if is_exact(spec.text.as_slice()) {
+            return count;
+        }
+        count += 1;
+    }
+    count
+}
+
+// The patterns of the first file, while its exact texts are moved away. The patterns that stand in
+// front of the first exact text stay where they are, unless they are few: a policy mostly has its
+// exact texts last.
+fn parted(alloc: Global, specs: Row<Spec>, exact: &mut Row<Spec>) -> Result<Row<Spec>, OutOfMemory>
+    ensures patterns { IfOk result (λ patterns. patterns ≡ filter is_pattern_spec specs) }
+    ensures exact { OnOk result (exact.new ≡ exact.old ++ filter is_exact_spec specs) }
+{
+    let count = count_before_exact(specs.as_slice());
+    if count < specs.len() / 2 {
+        let mut patterns = Row::with_capacity(alloc, specs.len())?;
+        divide(specs, &mut patterns, exact)?;
+        return Ok(patterns);
+    }
+    parted_at(specs, count, exact)
+}
+
+fn parted_at(
+    specs: Row<Spec>,
+    count: usize,
+    exact: &mut Row<Spec>,
+) -> Result<Row<Spec>, OutOfMemory>
+    requires within { count ≤ length specs }
+    requires none_exact { filter is_exact_spec (take count specs) ≡ [] }
+    requires all_patterns { filter is_pattern_spec (take count specs) ≡ take count specs }
+    ensures patterns { IfOk result (λ patterns. patterns ≡ filter is_pattern_spec specs) }
+    ensures exact { OnOk result (exact.new ≡ exact.old ++ filter is_exact_spec specs) }
+{
+    let mut front = specs.into_vec();
+    let rest = front.split_off(count)?;
+    let mut patterns = Row::from(front);
+    divide(Row::from(rest), &mut patterns, exact)?;
     Ok(patterns)
 }
 
@@ -66,11 +115,11 @@ fn add(spec: Spec, patterns: &mut Row<Spec>, exact: &mut Row<Spec>) -> Result<()
     }
 }
 
-fn append(to: &mut Row<Spec>, specs: Row<Spec>) -> Result<(), OutOfMemory>
-    ensures { OnOk result (to.new ≡ to.old ++ specs) }
+// The one list with the other behind it.
+fn joined(patterns: Row<Spec>, exact: Row<Spec>) -> Result<Row<Spec>, OutOfMemory>
+    ensures { IfOk result (λ specs. specs ≡ patterns ++ exact) }
 {
-    'specs: for spec in specs.into_vec() {
-        to.push(spec)?;
-    }
-    Ok(())
+    let mut specs = patterns.into_vec();
+    specs.append(&mut exact.into_vec())?;
+    Ok(Row::from(specs))
 }

@@ -24,7 +24,7 @@ fn reads_lines(rt: HostRuntime) -> Result<(), Fail> {
     let Decision::Give(context) = &root.decision else {
         return Err("no context".into());
     };
-    assert_eq!(rt; context.kind.as_slice(), b"root_t".as_slice());
+    assert_eq!(rt; context.kind(), b"root_t".as_slice());
     let proc = specs.get(1);
     assert_eq!(rt; proc.text.as_slice(), b"/proc/.*".as_slice());
     assert_eq!(rt; proc.kind, None);
