@@ -2,10 +2,10 @@ ghost use Rattle.std.specs.Prelude.{◌≡◌, ◌⊎◌, ◌≤◌, ◌-◌, �
 ghost use Rattle.input_output.specs.Store.{name_led};
 
 use crate::reading::{AllFault, read_all};
-use crate::sink::{WriteSink, write_all};
+use crate::sink::{WriteSink, write_text};
 use crate::source::ReadSource;
 use crate::store::{FileFault, SaveFault, Store};
-use label_base::Bytes;
+use label_base::{Bytes, PiecedText};
 use std::alloc::Global;
 use std::fs;
 use std::fs::{Files, OpenFile};
@@ -116,7 +116,7 @@ fn keep<F: OpenFile>(file: &F) -> Result<(), SaveFault> {
     }
 }
 
-fn save<R: Files>(system: &R, name: &str, bytes: &[u8]) -> Result<(), SaveFault> {
+fn save<R: Files>(system: &R, name: &str, text: &PiecedText) -> Result<(), SaveFault> {
     let mut file = match fs::create(system, name) {
         Ok(file) => file,
         Err(error) => match error.kind() {
@@ -124,7 +124,7 @@ fn save<R: Files>(system: &R, name: &str, bytes: &[u8]) -> Result<(), SaveFault>
             _ => return Err(SaveFault::Failed),
         },
     };
-    if write_all(&mut WriteSink::new(&mut file), bytes).is_err() {
+    if write_text(&mut WriteSink::new(&mut file), text).is_err() {
         return Err(SaveFault::Failed);
     }
     keep(&file)
@@ -148,8 +148,13 @@ impl<'r, R: Files> Store for FileStore<'r, R> {
         answer
     }
 
-    fn write_file(&mut self, _alloc: Global, name: &str, bytes: &[u8]) -> Result<(), SaveFault> {
-        let answer = save(self.system, name_led(self.from, self.to, name), bytes);
+    fn write_file(
+        &mut self,
+        _alloc: Global,
+        name: &str,
+        text: &PiecedText,
+    ) -> Result<(), SaveFault> {
+        let answer = save(self.system, name_led(self.from, self.to, name), text);
         if let Err(SaveFault::Failed) = &answer {
             self.write_faults = self.write_faults.saturating_add(1);
         }
@@ -160,8 +165,13 @@ impl<'r, R: Files> Store for FileStore<'r, R> {
 #[cfg(test)]
 mod tests {
     use super::*;
+    use label_base::OutOfMemory;
     use std::test::Fail;
     use std::{env, process};
+
+    fn text(alloc: Global, bytes: &[u8]) -> Result<PiecedText, OutOfMemory> {
+        PiecedText::of(alloc, Bytes::copy_of(alloc, bytes)?)
+    }
 
     #[test]
     fn a_file_of_the_system_is_written_and_read(rt: HostRuntime) -> Result<(), Fail> {
@@ -169,8 +179,10 @@ mod tests {
         let name = format!(in rt.alloc(); "label_base-{id}")?;
         let path = env::temp_dir(&rt)?.join(rt.alloc(), name.as_str())?;
         let mut store = FileStore::new(&rt);
-        store.write_file(rt.alloc(), path.as_str(), b"one and two")?;
-        store.write_file(rt.alloc(), path.as_str(), b"three")?;
+        let mut longer = text(rt.alloc(), b"one")?;
+        longer.push(Bytes::copy_of(rt.alloc(), b" and two")?)?;
+        store.write_file(rt.alloc(), path.as_str(), &longer)?;
+        store.write_file(rt.alloc(), path.as_str(), &text(rt.alloc(), b"three")?)?;
         let read = store.read_file(rt.alloc(), path.as_str(), 5);
         let long = store.read_file(rt.alloc(), path.as_str(), 4).err();
         fs::remove_file(&rt, path.as_str())?;
@@ -184,7 +196,8 @@ mod tests {
         let id = process::id(rt.process());
         let name = format!(in rt.alloc(); "label_base-led-{id}")?;
         let path = env::temp_dir(&rt)?.join(rt.alloc(), name.as_str())?;
-        FileStore::new(&rt).write_file(rt.alloc(), path.as_str(), b"three")?;
+        let three = text(rt.alloc(), b"three")?;
+        FileStore::new(&rt).write_file(rt.alloc(), path.as_str(), &three)?;
         let mut store = FileStore::redirected(&rt, "/dev/no such file", path.as_str());
         let read = store.read_file(rt.alloc(), "/dev/no such file", 5);
         fs::remove_file(&rt, path.as_str())?;

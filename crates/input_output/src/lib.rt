@@ -17,6 +17,6 @@ pub use mem_sink::{MemSink, SureSink};
 pub use mem_source::{MemSource, SureSource};
 pub use mem_store::{MemStore, SureStore};
 pub use reading::{AllFault, read_all};
-pub use sink::{Put, Sink, WriteFailed, WriteSink, write_all};
+pub use sink::{Put, Sink, WriteFailed, WriteSink, write_all, write_text};
 pub use source::{ReadSource, Source, Take};
 pub use store::{FileFault, SaveFault, Store};

@@ -9,7 +9,7 @@ ghost use Rattle.input_output.specs.Store.{file_has_name, is_planned, read_after
 ghost use Rattle.input_output.specs.Store.{write_after, write_failed};
 
 use crate::store::{FileFault, SaveFault, Store};
-use label_base::{Bytes, Name, OutOfMemory, Row};
+use label_base::{Bytes, Name, OutOfMemory, PiecedText, Row};
 use std::alloc::Global;
 use std::marker::Model;
 
@@ -117,6 +117,15 @@ impl SureStore {
         put_file(&mut self.files, alloc, name, bytes)
     }
 
+    // Makes a file hold this text. After a refusal all files stay.
+    fn put_text(&mut self, alloc: Global, name: &str, text: &PiecedText) -> Result<(), OutOfMemory>
+        ensures ok { OnOk result (self.new ≡ map.insert self.old name.now text.now) }
+        ensures err { OnErr result (self.new ≡ self.old) }
+    {
+        let joined = text.joined(alloc)?;
+        self.put(alloc, name, joined.as_slice())
+    }
+
     /// What a file holds, if there is one of this name.
     #[tactic(auto, using(crate::proofs::StoreLemmas::content_is))]
     pub fn file(&self, name: &str) -> Option<&[u8]>
@@ -149,13 +158,13 @@ impl Store for SureStore {
         }
     }
 
-    fn write_file(&mut self, alloc: Global, name: &str, bytes: &[u8]) -> Result<(), SaveFault>
-        ensures files { SaveTold (Some self.old) (Some self.new) name.now bytes.now result }
+    fn write_file(&mut self, alloc: Global, name: &str, text: &PiecedText) -> Result<(), SaveFault>
+        ensures files { SaveTold (Some self.old) (Some self.new) name.now text.now result }
         ensures counts { SaveCounts 0 0 result }
         ensures calls { Calls None None 1 }
         ensures calm { write_failed result ≡ false }
     {
-        match self.put(alloc, name, bytes) {
+        match self.put_text(alloc, name, text) {
             Ok(()) => Ok(()),
             Err(_) => Err(SaveFault::OutOfMemory),
         }
@@ -260,20 +269,20 @@ impl Store for MemStore {
         self.inner.read_file(alloc, name, limit)
     }
 
-    fn write_file(&mut self, alloc: Global, name: &str, bytes: &[u8]) -> Result<(), SaveFault>
+    fn write_file(&mut self, alloc: Global, name: &str, text: &PiecedText) -> Result<(), SaveFault>
         ensures files { SaveTold (Some self.old.files) (Some self.new.files)
-            name.now bytes.now result }
+            name.now text.now result }
         ensures counts { SaveCounts self.old.write_faults self.new.write_faults result }
         ensures calls { Calls (Some self.old.calls) (Some self.new.calls) 1 }
         ensures reads { self.new.read_faults ≡ self.old.read_faults }
         ensures planned { write_failed result ≡ is_planned self.old }
-        ensures after { self.new ≡ write_after self.old name.now bytes.now result }
+        ensures after { self.new ≡ write_after self.old name.now text.now result }
     {
         if self.is_next_to_fail() {
             self.write_faults = self.write_faults.saturating_add(1);
             return Err(SaveFault::Failed);
         }
-        self.inner.write_file(alloc, name, bytes)
+        self.inner.write_file(alloc, name, text)
     }
 }
 
@@ -289,10 +298,11 @@ mod tests {
         let mut store = MemStore::new(rt.alloc(), failing);
         let absent = store.read_file(rt.alloc(), "a", 3).err();
         assert_eq!(rt; absent, Some(FileFault::NotThere));
-        let refused = store.write_file(rt.alloc(), "a", b"two");
+        let two = PiecedText::of(rt.alloc(), Bytes::copy_of(rt.alloc(), b"two")?)?;
+        let refused = store.write_file(rt.alloc(), "a", &two);
         assert_eq!(rt; refused, Err(SaveFault::Failed));
         assert!(rt; store.file("a").is_none());
-        store.write_file(rt.alloc(), "a", b"two")?;
+        store.write_file(rt.alloc(), "a", &two)?;
         assert!(rt; store.file("a") == Some(b"two".as_slice()));
         Ok(())
     }
@@ -301,7 +311,8 @@ mod tests {
     fn a_sure_store_keeps_the_last_content(rt: HostRuntime) -> Result<(), Fail> {
         let mut store = SureStore::new(rt.alloc());
         store.put(rt.alloc(), "a", b"one")?;
-        store.write_file(rt.alloc(), "a", b"three")?;
+        let three = PiecedText::of(rt.alloc(), Bytes::copy_of(rt.alloc(), b"three")?)?;
+        store.write_file(rt.alloc(), "a", &three)?;
         assert!(rt; store.file("a") == Some(b"three".as_slice()));
         let absent = store.read_file(rt.alloc(), "c", 9).err();
         assert_eq!(rt; absent, Some(FileFault::NotThere));

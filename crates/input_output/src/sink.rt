@@ -5,6 +5,7 @@ ghost use Rattle.input_output.specs.Sink.{Puts, PutCounts, AppendsFront};
 ghost use Rattle.input_output.specs.Source.{Rose};
 
 use crate::source::MOST_TRIES;
+use label_base::PiecedText;
 use std::io;
 use std::io::{ErrorKind, Write};
 use std::marker::Model;
@@ -51,6 +52,21 @@ pub fn write_all<O: Sink>(out: &mut O, bytes: &[u8]) -> Result<(), WriteFailed>
             Put::Took(count) => done += count,
             Put::Failed => return Err(WriteFailed),
         }
+    }
+    Ok(())
+}
+
+/// Writes all of a text, piece after piece. After a failure some front of it was written.
+pub fn write_text<O: Sink>(out: &mut O, text: &PiecedText) -> Result<(), WriteFailed>
+    ensures ok { OnOk result (Appends (O.written out.old) (O.written out.new) text.now) }
+    ensures calm { OnOk result (O.faults out.new ≡ O.faults out.old) }
+    ensures err { OnErr result (AppendsFront (O.written out.old) (O.written out.new) text.now) }
+    ensures rose { OnErr result (Rose (O.faults out.old) (O.faults out.new)) }
+    ensures later { O.faults out.old ≤ O.faults out.new }
+{
+    let pieces = text.pieces();
+    'pieces: for piece in pieces {
+        write_all(out, piece.as_slice())?;
     }
     Ok(())
 }
@@ -112,6 +128,21 @@ impl<W: Write> Sink for WriteSink<W> {
 #[cfg(test)]
 mod tests {
     use super::*;
+    use label_base::Bytes;
+    use std::test::Fail;
+
+    #[test]
+    fn pieces_are_written_in_order(rt: HostRuntime) -> Result<(), Fail> {
+        let mut written = Vec::new(rt.alloc());
+        let mut text = PiecedText::of(rt.alloc(), Bytes::copy_of(rt.alloc(), b"abc")?)?;
+        text.push(Bytes::copy_of(rt.alloc(), b"de")?)?;
+        assert_eq!(rt;
+            write_text(&mut WriteSink::new(&mut written), &text),
+            Ok(())
+        );
+        assert_eq!(rt; written.as_slice(), b"abcde".as_slice());
+        Ok(())
+    }
 
     #[test]
     fn a_writer_is_a_sink(rt: HostRuntime) {

@@ -2,7 +2,7 @@ ghost use Rattle.std.specs.Prelude.{◌≡◌, ◌≤◌, IfOk, length, ℕ, Opt
 ghost use Rattle.input_output.specs.Store.{Calls, FileCounts, FileTold, Files, SaveCounts};
 ghost use Rattle.input_output.specs.Store.{SaveTold};
 
-use label_base::Bytes;
+use label_base::{Bytes, PiecedText};
 use std::alloc::Global;
 
 /// Why a file gave no bytes.
@@ -51,9 +51,9 @@ pub trait Store {
         ensures calls { Calls (calls self.old) (calls self.new) 1 }
         ensures writes { write_faults self.new ≡ write_faults self.old };
 
-    /// Makes a file hold exactly these bytes, also where there was none. All other files stay.
-    fn write_file(&mut self, alloc: Global, name: &str, bytes: &[u8]) -> Result<(), SaveFault>
-        ensures files { SaveTold (files self.old) (files self.new) name.now bytes.now result }
+    /// Makes a file hold exactly this text, also where there was none. All other files stay.
+    fn write_file(&mut self, alloc: Global, name: &str, text: &PiecedText) -> Result<(), SaveFault>
+        ensures files { SaveTold (files self.old) (files self.new) name.now text.now result }
         ensures counts { SaveCounts (write_faults self.old) (write_faults self.new) result }
         ensures calls { Calls (calls self.old) (calls self.new) 1 }
         ensures reads { read_faults self.new ≡ read_faults self.old };

@@ -5,6 +5,7 @@ pub mod LineCuts
 pub mod LineLemmas
 pub mod LinesMeant
 pub mod NumberLemmas
+pub mod PieceLemmas
 pub mod EscapeLemmas
 pub mod Sending
 pub mod LineLengths

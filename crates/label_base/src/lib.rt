@@ -13,6 +13,7 @@ mod lines;
 mod memory;
 mod name;
 mod number;
+mod pieced_text;
 mod row;
 mod steps;
 
@@ -29,5 +30,6 @@ pub use lines::{COMMENT_MARK, LineReader, LinesWhy, RefusedLine, read_lines, rea
 pub use memory::OutOfMemory;
 pub use name::Name;
 pub use number::read_number;
+pub use pieced_text::PiecedText;
 pub use row::Row;
 pub use steps::Steps;

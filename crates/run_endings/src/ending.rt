@@ -1,4 +1,4 @@
-use label_base::{Bytes, Name};
+use label_base::{Name, PiecedText};
 use run_faults::Finding;
 
 /// How a run ends that writes its report.
@@ -20,13 +20,13 @@ pub struct Saved {
     /// The name of the file.
     pub name: Name,
     /// All that the file holds then.
-    pub text: Bytes,
+    pub text: PiecedText,
 }
 
 /// What a run writes at its end.
 pub struct Ending {
     /// The lines of the report.
-    pub report: Bytes,
+    pub report: PiecedText,
     /// How the run ends once the report is written.
     pub end: End,
     /// The text that is saved before, where a file is asked for.

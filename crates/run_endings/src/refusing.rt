@@ -7,7 +7,7 @@ ghost use Rattle.file_roles.specs.declared.list.NamedFile.{NamedFile};
 
 use crate::ending::{End, Ending};
 use file_roles::FileList;
-use input_output::{Sink, write_all};
+use input_output::{Sink, write_all, write_text};
 use label_base::Fault;
 use run_faults::{Cause, Outcome, fault_line, status};
 use std::alloc::Global;
@@ -86,7 +86,7 @@ pub fn refuse_words<O: Sink>(alloc: Global, fault: Fault<Usage>, out: &mut O) ->
     refuse(alloc, &FileList::new(alloc), words_cause(fault), out)
 }
 
-fn cause_of(end: End) -> Cause
+fn ending_cause(end: End) -> Cause
     ensures { result ≡ ending_cause end }
 {
     match end {
@@ -102,8 +102,8 @@ fn cause_of(end: End) -> Cause
 pub fn finish<O: Sink>(ending: &Ending, out: &mut O) -> Cause
     ensures { WritesReport O.written O.faults out.old out.new ending.now result }
 {
-    match write_all(out, ending.report.as_slice()) {
-        Ok(()) => cause_of(ending.end),
+    match write_text(out, &ending.report) {
+        Ok(()) => ending_cause(ending.end),
         Err(_) => Cause::WriteFault,
     }
 }

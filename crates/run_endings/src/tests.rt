@@ -1,7 +1,7 @@
 use crate::{End, Ending, Saved, finish, give_up, lose_dump, outcome, refuse, refuse_words, save};
 use file_roles::FileList;
 use input_output::{MemSink, MemStore};
-use label_base::{Bytes, Fault, Name, OutOfMemory, Row};
+use label_base::{Bytes, Fault, Name, OutOfMemory, PiecedText, Row};
 use run_faults::Cause;
 use std::alloc::Global;
 use std::test::Fail;
@@ -47,9 +47,10 @@ fn wrong_words_end_a_run(rt: HostRuntime) {
 }
 
 fn ending(alloc: Global) -> Result<Ending, OutOfMemory> {
-    let report = Bytes::copy_of(alloc, b"report")?;
+    let mut report = PiecedText::of(alloc, Bytes::copy_of(alloc, b"re")?)?;
+    report.push(Bytes::copy_of(alloc, b"port")?)?;
     let name = Name::copy_of(alloc, "dump")?;
-    let text = Bytes::copy_of(alloc, b"text")?;
+    let text = PiecedText::of(alloc, Bytes::copy_of(alloc, b"text")?)?;
     Ok(Ending {
         report,
         end: End::WalkErrors { count: 2 },

@@ -17,6 +17,6 @@ pub fn save<S: Store>(alloc: Global, ending: &Ending, store: &mut S) -> Result<(
 {
     match &ending.saved {
         None => Ok(()),
-        Some(saved) => store.write_file(alloc, saved.name.as_str(), saved.text.as_slice()),
+        Some(saved) => store.write_file(alloc, saved.name.as_str(), &saved.text),
     }
 }

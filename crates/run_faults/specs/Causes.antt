@@ -1,6 +1,7 @@
 -- What a part of a run may answer in place of a value. A cause that no row names is refused.
-use Rattle.std.specs.Prelude.{◌≡◌, ℕ, ◌≤◌, Result, Ok, Err}
+use Rattle.std.specs.Prelude.{◌≡◌, ℕ, ◌≤◌, Option, Some, None, Result, Ok, Err}
 use Rattle.input_output.specs.Source.{Rose}
+use Rattle.label_base.specs.Answers.{Answers, Explains}
 use Rattle.label_base.specs.declared.fault.Fault.{Fault}
 use Rattle.label_base.specs.declared.fault.Fault.TheVariants as faults
 use Rattle.tool_words.specs.declared.usage.Usage as wrong_word
@@ -76,16 +77,19 @@ IsInputCause (Doubled first second) = Unit {0}
 IsInputCause (Limit which) = IsInputLimit which
 IsInputCause cause = IsReadingCause cause
 
--- a cause is what is meant; a failed read and want of memory say nothing of it
+-- what a cause says of the bytes that were read: a failed read and want of memory say nothing
+abbrev pub saying : Cause → Option Cause
+saying ReadFault = None
+saying OutOfMemory = None
+saying cause = Some cause
+
+-- a cause is what is meant, if it says anything
 abbrev pub Explained : {V : Type 0} → Result V Cause → Cause → Type 0
-Explained meant ReadFault = Unit {0}
-Explained meant OutOfMemory = Unit {0}
-Explained meant cause = meant ≡ Err cause
+Explained meant cause = Explains (saying cause) meant
 
 -- what a part answers is what is meant, but for failed reads and want of memory
 abbrev pub Gives : {V : Type 0} → Result V Cause → Result V Cause → Type 0
-Gives meant (Ok value) = meant ≡ Ok value
-Gives meant (Err cause) = Explained meant cause
+Gives meant result = Answers (λ value. value) saying result meant
 
 -- only a failed read raises a count
 abbrev pub CauseCounts : ℕ → ℕ → Cause → Type 0

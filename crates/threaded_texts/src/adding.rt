@@ -3,7 +3,7 @@ ghost use Rattle.std.specs.Thread.{IsSync};
 ghost use Rattle.threaded_texts.specs.Stretch.{stretch};
 
 use crate::texts::Texts;
-use label_base::{Bytes, OutOfMemory};
+use label_base::{Bytes, OutOfMemory, PiecedText};
 use std::alloc::Global;
 use std::thread::{Threads, join};
 
@@ -43,6 +43,22 @@ fn add_stretch<T: Texts>(
     Ok(to)
 }
 
+// Adds so many texts, one after the other, as one piece.
+fn add_piece<T: Texts>(
+    alloc: Global,
+    texts: &T,
+    first: u32,
+    count: u32,
+    mut to: PiecedText,
+) -> Result<PiecedText, OutOfMemory>
+    requires within { first + count ≤ T.count texts.now }
+    requires few { first + count < 2 ^ 32 }
+    ensures { IfOk result (λ made. made ≡ to ++ stretch (T.text texts.now) first count) }
+{
+    to.push(add_stretch(alloc, texts, first, count, text_for(alloc, count))?)?;
+    Ok(to)
+}
+
 // How many of so many texts fall to the last of the workers.
 fn last_share(count: u32, workers: u32) -> u32
     requires workers { 0 < workers }
@@ -51,8 +67,8 @@ fn last_share(count: u32, workers: u32) -> u32
     count / workers
 }
 
-// Adds so many texts: a thread makes those of the last worker, while the caller sees to those of
-// the others. So what each thread made is copied once.
+// Adds so many texts: a thread makes those of the last worker, as one piece, while the caller sees
+// to those of the others.
 #[cycle(stretches)]
 fn add_parted<R: Threads + Sync, T: Texts + Sync>(
     rt: &R,
@@ -61,8 +77,8 @@ fn add_parted<R: Threads + Sync, T: Texts + Sync>(
     first: u32,
     count: u32,
     workers: u32,
-    to: Bytes,
-) -> Result<Bytes, OutOfMemory>
+    to: PiecedText,
+) -> Result<PiecedText, OutOfMemory>
     requires within { first + count ≤ T.count texts.now }
     requires few { first + count < 2 ^ 32 }
     requires workers { 1 < workers }
@@ -79,7 +95,7 @@ fn add_parted<R: Threads + Sync, T: Texts + Sync>(
                 × (middle + back < 2 ^ 32) }
             ensures { IfOk result (λ made. made ≡ stretch (T.text texts.entry.now) middle back) }
         { add_stretch(alloc, texts, middle, back, text_for(alloc, back)) },
-        || -> Result<Bytes, OutOfMemory>
+        || -> Result<PiecedText, OutOfMemory>
             requires { IsSync R.row × IsSync T.row × (first + front ≤ T.count texts.now)
                 × (first + front < 2 ^ 32) }
             ensures { IfOk result (λ made.
@@ -87,7 +103,7 @@ fn add_parted<R: Threads + Sync, T: Texts + Sync>(
         { add_stretches(rt, alloc, texts, first, front, others, to) },
     );
     let mut made = made?;
-    made.push(made_behind?.as_slice())?;
+    made.push(made_behind?)?;
     Ok(made)
 }
 
@@ -100,29 +116,29 @@ fn add_stretches<R: Threads + Sync, T: Texts + Sync>(
     first: u32,
     count: u32,
     workers: u32,
-    to: Bytes,
-) -> Result<Bytes, OutOfMemory>
+    to: PiecedText,
+) -> Result<PiecedText, OutOfMemory>
     requires within { first + count ≤ T.count texts.now }
     requires few { first + count < 2 ^ 32 }
     ensures { IfOk result (λ made. made ≡ to ++ stretch (T.text texts.now) first count) }
 {
     if workers < 2 {
-        return add_stretch(alloc, texts, first, count, to);
+        return add_piece(alloc, texts, first, count, to);
     }
     add_parted(rt, alloc, texts, first, count, workers, to)
 }
 
 /// Adds so many texts at the end of one, in the order of their numbers, by so many workers at once,
-/// or [`MOST_AT_ONCE`]: each makes a stretch of them. Where no thread can be started, one after the
-/// other makes its own. It fails for want of memory alone.
+/// or [`MOST_AT_ONCE`]: each makes a stretch of them, which is a piece. Where no thread can be
+/// started, one after the other makes its own. It fails for want of memory alone.
 pub fn add_texts<R: Threads + Sync, T: Texts + Sync>(
     rt: &R,
     alloc: Global,
     texts: &T,
     count: u32,
     workers: u32,
-    to: Bytes,
-) -> Result<Bytes, OutOfMemory>
+    to: PiecedText,
+) -> Result<PiecedText, OutOfMemory>
     requires { count ≤ T.count texts.now }
     ensures { IfOk result (λ made. made ≡ to ++ stretch (T.text texts.now) 0 count) }
 {

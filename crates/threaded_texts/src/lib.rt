@@ -1,5 +1,5 @@
 //! One text made of many, by several workers at once: each makes a stretch of them, and the
-//! stretches are joined in order, so that the text is the same for every number of workers.
+//! stretches are its pieces, in order, so that the text is the same for every number of workers.
 #![tactic(auto)]
 
 mod adding;

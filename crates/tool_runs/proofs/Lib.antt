@@ -1,4 +1,5 @@
 pub mod Completeness
+pub mod InputStage
 pub mod MemoryRuns
 pub mod PartLemmas
 pub mod RefusedRuns

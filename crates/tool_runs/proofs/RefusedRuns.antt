@@ -17,7 +17,7 @@ use Rattle.run_endings.specs.declared.ending.Ending.{Ending}
 use Rattle.tool_runs.specs.Outside.{InputSeen, Outside, WritesLine}
 use Rattle.tool_runs.specs.Plan.{answer_by, plan_by, refusal_in}
 use Rattle.tool_runs.specs.Run.{Run, Writes, WritesAndSaves}
-use Rattle.tool_runs.specs.Stages.{InputRead}
+use Rattle.tool_runs.proofs.InputStage.{InputRead}
 use Rattle.tool_runs.proofs.PartLemmas.{FilesRead, all_up_to, cause_up_to, counts_calm}
 use Rattle.tool_runs.proofs.PartLemmas.{counts_later, ends_explained, file_calls, file_explains}
 use Rattle.tool_runs.proofs.PartLemmas.{files_accepted, files_memory, files_refused, if_some}

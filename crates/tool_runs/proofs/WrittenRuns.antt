@@ -23,7 +23,8 @@ use Rattle.tool_runs.specs.Outside.{Outside, StoreSeen, WritesLine}
 use Rattle.tool_runs.specs.Plan.{answer_by, plan_by}
 use Rattle.tool_runs.specs.Run.{EndsAsMeant, LosesDump, LosesReport, OthersStay, Run, Writes}
 use Rattle.tool_runs.specs.Run.{WritesAndSaves, WritesFrontAndSaves, files_with}
-use Rattle.tool_runs.specs.Stages.{Ended, GivesUp, InputRead, WritesBehind, saved_name}
+use Rattle.tool_runs.specs.Stages.{Ended, GivesUp, WritesBehind, saved_name}
+use Rattle.tool_runs.proofs.InputStage.{InputRead}
 use Rattle.tool_runs.proofs.PartLemmas.{FilesRead, all_saved, all_up_to, answer_is, end_kept}
 use Rattle.tool_runs.proofs.PartLemmas.{end_written, ends_explained, ends_reported, exactly}
 use Rattle.tool_runs.proofs.PartLemmas.{failing_named, files_accepted, if_both, if_some}

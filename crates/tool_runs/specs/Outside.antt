@@ -6,7 +6,7 @@ use Rattle.input_output.specs.declared.source.Source as sources
 use Rattle.input_output.specs.declared.sink.Sink as sinks
 use Rattle.run_endings.specs.Endings.{LineOrFront}
 
--- a store: itself, and what it tells
+-- a store: itself, and what it shows
 pub record StoreSeen (S : Type 0) : Type 0 where
   pub object : S
   -- its files, where they are known
@@ -17,7 +17,7 @@ pub record StoreSeen (S : Type 0) : Type 0 where
   pub read_faults : ℕ
   pub write_faults : ℕ
 
--- an input: itself, and what it tells
+-- an input: itself, and what it shows
 pub record InputSeen (I : Type 0) : Type 0 where
   pub object : I
   -- the bytes that are left, where they are known
@@ -25,7 +25,7 @@ pub record InputSeen (I : Type 0) : Type 0 where
   -- how many of the reads have failed
   pub faults : ℕ
 
--- what a sink tells
+-- what a sink shows
 pub record SinkSeen : Type 0 where
   -- the bytes that were written, where they are known
   pub written : Option (List ℕ)
@@ -40,23 +40,23 @@ pub record Outside (S I : Type 0) : Type 0 where
 -- ---- seen at an object
 
 abbrev pub store_seen : {S : Type 0} → stores.Ghosts S → S → StoreSeen S
-store_seen tells store = record {
+store_seen shows store = record {
   object = store;
-  files = tells.files store;
-  calls = tells.calls store;
-  read_faults = tells.read_faults store;
-  write_faults = tells.write_faults store;
+  files = shows.files store;
+  calls = shows.calls store;
+  read_faults = shows.read_faults store;
+  write_faults = shows.write_faults store;
 }
 
 abbrev pub input_seen : {I : Type 0} → sources.Ghosts I → I → InputSeen I
-input_seen tells input = record {
+input_seen shows input = record {
   object = input;
-  left = tells.left input;
-  faults = tells.faults input;
+  left = shows.left input;
+  faults = shows.faults input;
 }
 
 abbrev pub sink_seen : {O : Type 0} → sinks.Ghosts O → O → SinkSeen
-sink_seen tells sink = record { written = tells.written sink; faults = tells.faults sink }
+sink_seen shows sink = record { written = shows.written sink; faults = shows.faults sink }
 
 -- the outside that these three are
 abbrev pub outside : {S I O : Type 0} → stores.Ghosts S → sources.Ghosts I → sinks.Ghosts O

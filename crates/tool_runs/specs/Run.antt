@@ -139,7 +139,7 @@ pub record LosesReport {S I : Type 0} (asked : Result Plan Usage) (before after 
 -- why it ended.
 pub record Run {S I : Type 0} (asked : Result Plan Usage) (before after : Outside S I)
     (cause : Cause) : Type 0 where
-  -- Wrong words are known as such, and only they, whatever the objects tell. Nothing is read then.
+  -- Wrong words are known as such, and only they, whatever the objects show. Nothing is read then.
   pub wrong_words : IfErr asked (λ wrong. RefusesWords wrong before after cause)
   pub only_wrong_words : (wrong : Usage)
       → cause ≡ causes.Usage wrong.index wrong.why → asked ≡ Err wrong
@@ -162,7 +162,7 @@ pub record Run {S I : Type 0} (asked : Result Plan Usage) (before after : Outsid
   pub is_meant : IfSome before.store.files (λ known.
       IfSome (input_in asked before.input.left) (λ bytes.
       EndsAsMeant (answer_in asked known bytes) (WritesAndSaves before after known) cause))
-  -- A tool that reads no file ends as it is meant to whatever the store tells.
+  -- A tool that reads no file ends as it is meant to whatever the store shows.
   pub is_meant_alone : IfOk asked (λ plan. plan.reads ≡ [] → (known : Files)
       → IfSome (input_for plan.records before.input.left) (λ bytes.
       EndsAsMeant (plan.answer known bytes) (Writes before after) cause))

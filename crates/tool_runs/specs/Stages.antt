@@ -1,32 +1,21 @@
--- What the stages of a run leave: the files are read, then the input, then the tool is asked, and
--- its answer written.
-use Rattle.std.specs.Prelude.{◌≡◌, ℕ, List, Option, None, Result, Ok, Err, IfSome, option_map, ◌⊎◌}
+-- What the last stage of a run leaves: once files and input are read, the tool is asked, and its
+-- answer written.
+use Rattle.std.specs.Prelude.{◌≡◌, ℕ, List, Option, None, Result, Ok, Err, option_map, ◌⊎◌}
 use Rattle.input_output.specs.Store.{Calls, SaveCounts}
 use Rattle.input_output.specs.declared.store.SaveFault.{SaveFault}
 use Rattle.input_output.specs.declared.store.SaveFault.TheVariants as save
 use Rattle.file_roles.specs.declared.list.NamedFile.{NamedFile}
-use Rattle.find_records.specs.Record.{Record}
-use Rattle.find_records.specs.declared.format.Format.{Format}
-use Rattle.run_faults.specs.Causes.{Counts, Gives, IsInputCause}
+use Rattle.run_faults.specs.Causes.{Gives, IsInputCause}
 use Rattle.run_faults.specs.Faults.{fault_line}
 use Rattle.run_faults.specs.declared.cause.Cause.{Cause}
 use Rattle.run_faults.specs.declared.cause.Cause.TheVariants.{OutOfMemory, ReadFault, WriteFault}
-use Rattle.run_input.specs.Records.{entries_for, input_for}
 use Rattle.run_endings.specs.Endings.{Saves, WritesReport, writes_of}
 use Rattle.run_endings.specs.declared.ending.Ending.{Ending}
 use Rattle.run_endings.specs.declared.ending.Saved.{Saved}
-use Rattle.tool_runs.specs.Outside.{InputSeen, SinkSeen, StoreSeen, WritesLine}
+use Rattle.tool_runs.specs.Outside.{SinkSeen, StoreSeen, WritesLine}
 
 abbrev pub saved_name : Saved → List ℕ
 saved_name saved = saved.name
-
--- what reading the input leaves
-pub record InputRead {I : Type 0} (records : Option Format) (input input_now : InputSeen I)
-    (result : Result (List Record) Cause) : Type 0 where
-  pub gives : IfSome (input_for records input.left) (λ bytes.
-      Gives (entries_for records bytes) result)
-  pub untouched : records ≡ None → input_now ≡ input
-  pub counts : Counts input.faults input_now.faults result
 
 -- The tool refused, and the store is as it was. Its refusal is the cause, or want of memory for the
 -- line.

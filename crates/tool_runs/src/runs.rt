@@ -18,6 +18,7 @@ use run_endings::{Ending, finish, give_up, lose_dump, outcome, refuse, refuse_wo
 use run_faults::{Cause, Outcome};
 use run_input::read_entries;
 use std::alloc::Global;
+use std::mem::forget;
 use tool_words::Usage;
 use tree_model::Tree;
 
@@ -102,7 +103,10 @@ fn run_listed<T: Tool, S: Store, I: Source, O: Sink>(
         Ok(found) => found,
         Err(refusal) => return refuse(alloc, list, refusal, out),
     };
-    run_found(alloc, tool, list, &found, store, input, out)
+    let cause = run_found(alloc, tool, list, &found, store, input, out);
+    // The process ends behind this, and takes the memory of a whole policy back at once.
+    forget(found);
+    cause
 }
 
 // Runs a tool. Each function from here inwards owns one value.

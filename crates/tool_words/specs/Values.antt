@@ -72,11 +72,11 @@ first_wrong items = first_of (filter_map item_wrong items)
 -- ---- calls that look for what is wrong
 
 -- a call's cause is what is wrong; want of memory has none
-abbrev pub Tells : {W : Type 0} → Option W → Option W → Type 0
-Tells None wrong = Unit {0}
-Tells (Some why) wrong = wrong ≡ Some why
+abbrev pub ExplainsWrong : {W : Type 0} → Option W → Option W → Type 0
+ExplainsWrong None wrong = Unit {0}
+ExplainsWrong (Some why) wrong = wrong ≡ Some why
 
 -- a call succeeds where nothing is wrong, and else tells what is
 abbrev pub Judges : {A W : Type 0} → Result A (Fault W) → Option W → Type 0
 Judges (Ok x) wrong = wrong ≡ None
-Judges (Err e) wrong = Tells (fault_cause e) wrong
+Judges (Err e) wrong = ExplainsWrong (fault_cause e) wrong

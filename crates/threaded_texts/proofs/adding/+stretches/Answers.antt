@@ -1,4 +1,4 @@
-use Rattle.std.proofs.Common.{◌∙◌, ap, ◌-◌, ◌++◌, arith}
+use Rattle.std.proofs.Common.{◌-◌, arith}
 use Rattle.threaded_texts.proofs.StretchLemmas.{parted}
 use Rattle.threaded_texts.proofs.adding.+stretches.Goals as goal
 
@@ -11,4 +11,4 @@ add_parted-returns g t c =
     (omega (arith, c.last_share-back.ensures))
     (rw c.in_ok-made.was at c.join-made_behind.ensures.second)
     (rw c.in_ok-made_behind.was at c.join-made_behind.ensures.first)
-    (c.in_ok-push.ensures.ok ∙ ap (λ t. c.in_ok-made.made ++ t) c.as_slice.ensures)
+    c.in_ok-push.ensures.ok

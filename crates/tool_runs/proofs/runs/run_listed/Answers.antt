@@ -12,5 +12,5 @@ returns-in-Err g c =
     c.refuse.ensures.line
 
 pub returns : goal.returns
-returns g c = c.run_found.ensures _ c.in-Ok.ensures.reads c.in-Ok.ensures.unread
+returns g c = c.run_found-cause.ensures _ c.in-Ok.ensures.reads c.in-Ok.ensures.unread
     c.in-Ok.ensures.alone
