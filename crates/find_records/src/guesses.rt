@@ -9,7 +9,9 @@ const MIX: u64 = 0x9E37_79B9_7F4A_7C15;
 
 /// What was mixed so far, and a word more.
 pub fn mix(mixed: u64, word: u64) -> u64 {
-    (mixed ^ word).wrapping_mul(MIX)
+    let product = (mixed ^ word).wrapping_mul(MIX);
+    // A product carries what differs upwards alone, so its upper half goes into the lower one.
+    product ^ product >> 32
 }
 
 // Guesses of numbers, by what the thing that has a number mixes to. Nothing is claimed of them:
@@ -19,8 +21,9 @@ pub struct Guesses {
     numbers: Vec<u32>,
 }
 
+// The uppermost bits: each bit of what was mixed reaches these.
 fn slot_of(mixed: u64) -> usize {
-    ((mixed >> 32) as usize) % GUESSES
+    ((mixed >> 52) as usize) % GUESSES
 }
 
 impl Guesses {

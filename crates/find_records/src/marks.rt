@@ -6,6 +6,7 @@ ghost use Rattle.find_records.specs.MarkRef.{mark_lent};
 ghost use Rattle.find_records.specs.Marks.{AreMarkRows, IsWithRow, mark_of, marks_in, no_mark};
 
 use crate::all_labels::AllLabels;
+use crate::entry::Told;
 use crate::guesses::Guesses;
 use crate::mark_row::MarkRow;
 use context_syntax::Label;
@@ -22,15 +23,31 @@ pub struct MarkRef<'a> {
     pub label: &'a Label,
 }
 
+// Where the numbers of rows are found. Nothing is claimed of them: what they give is compared.
+#[derive(Drop)]
+struct RowNumbers {
+    // In order, as those of spellings are.
+    by_row: BTreeMap<MarkRow, u32>,
+    guesses: Guesses,
+}
+
+impl RowNumbers {
+    // No numbers.
+    fn new(alloc: Global) -> RowNumbers {
+        RowNumbers {
+            by_row: BTreeMap::new(alloc),
+            guesses: Guesses::new(alloc),
+        }
+    }
+}
+
 // The devices, link counts and labels of records, seen as the list of what goes together. They are
 // found by their number, from 0 on. So a record without a link count costs nothing for it.
 #[derive(Drop)]
 pub struct Marks {
     labels: AllLabels,
     rows: Vec<MarkRow>,
-    // The numbers of rows, in order, as those of spellings are: what they give is compared.
-    numbers: BTreeMap<MarkRow, u32>,
-    guesses: Guesses,
+    numbers: RowNumbers,
 }
 
 impl Model for Marks {
@@ -73,19 +90,16 @@ fn number_told(rows: &[MarkRow], number: Option<u32>, row: MarkRow) -> Option<u3
     None
 }
 
-// The number of a row that is there: one that is guessed, or one that is found.
-fn number_in(
-    rows: &[MarkRow],
-    numbers: &BTreeMap<MarkRow, u32>,
-    guess: u32,
-    row: MarkRow,
-) -> Option<u32>
+// The number of a row that is there, which mixes to this: one that is guessed, or one that is
+// found.
+fn number_in(rows: &[MarkRow], numbers: &RowNumbers, mixed: u64, row: MarkRow) -> Option<u32>
     ensures { IfSome result (λ number. slice_get rows.now number ≡ Some row) }
 {
+    let guess = numbers.guesses.get(mixed);
     if is_row(rows, guess, row) {
         return Some(guess);
     }
-    number_told(rows, numbers.get(&row).copied(), row)
+    number_told(rows, numbers.by_row.get(&row).copied(), row)
 }
 
 // Adds a row behind the others: its number. There is no memory for more than there are numbers.
@@ -140,8 +154,7 @@ pub fn number_guessed(
 fn number_of(
     alloc: Global,
     rows: &mut Vec<MarkRow>,
-    numbers: &mut BTreeMap<MarkRow, u32>,
-    guesses: &mut Guesses,
+    numbers: &mut RowNumbers,
     row: MarkRow,
 ) -> Result<u32, OutOfMemory>
     requires { length rows.old.items < 2 ^ 32 }
@@ -151,44 +164,42 @@ fn number_of(
     ensures err { OnErr result (rows.new.items ≡ rows.old.items) }
 {
     let mixed = row.mixed();
-    if let Some(number) = number_in(rows.as_slice(), numbers, guesses.get(mixed), row) {
-        guesses.keep(mixed, number);
+    if let Some(number) = number_in(rows.as_slice(), numbers, mixed, row) {
+        numbers.guesses.keep(mixed, number);
         return Ok(number);
     }
-    guesses.make_room(alloc)?;
+    numbers.guesses.make_room(alloc)?;
     let number = rows.len() as u32;
-    let _ = numbers.insert(row, number)?;
-    guesses.keep(mixed, number);
+    let _ = numbers.by_row.insert(row, number)?;
+    numbers.guesses.keep(mixed, number);
     add_row(rows, row)
 }
 
-// The number of a device, a link count and a label, which are added if they are new.
+// The number of the device, the link count and the label that are told, which are added if they are
+// new.
 fn mark_number(
     alloc: Global,
     labels: &mut AllLabels,
     rows: &mut Vec<MarkRow>,
-    numbers: &mut BTreeMap<MarkRow, u32>,
-    guesses: &mut Guesses,
-    device: u64,
-    links: Option<u64>,
-    bytes: &[u8],
+    numbers: &mut RowNumbers,
+    told: &Told<'_>,
 ) -> Result<u32, OutOfMemory>
     requires { AreMarkRows labels.old rows.old.items }
     ensures marks { AreMarkRows labels.new rows.new.items }
     ensures number { IfOk result (λ number. slice_get (marks_in labels.new rows.new.items) number
-        ≡ Some (mark_of device links (label_of bytes.now))) }
+        ≡ Some (mark_of told.now.device told.now.links (label_of told.now.label.now))) }
     ensures extends { Extends (marks_in labels.old rows.old.items)
         (marks_in labels.new rows.new.items) }
     ensures same { OnErr result (marks_in labels.new rows.new.items
         ≡ marks_in labels.old rows.old.items) }
 {
-    let label = labels.number_of(alloc, bytes)?;
+    let label = labels.number_of(alloc, told.label)?;
     let row = MarkRow {
-        device,
-        links,
+        device: told.device,
+        links: told.links,
         label,
     };
-    number_of(alloc, rows, numbers, guesses, row)
+    number_of(alloc, rows, numbers, row)
 }
 
 impl Marks {
@@ -199,8 +210,7 @@ impl Marks {
         Marks {
             labels: AllLabels::new(alloc),
             rows: Vec::new(alloc),
-            numbers: BTreeMap::new(alloc),
-            guesses: Guesses::new(alloc),
+            numbers: RowNumbers::new(alloc),
         }
     }
 
@@ -212,8 +222,7 @@ impl Marks {
         Marks {
             labels: AllLabels::of_given(alloc, labels),
             rows,
-            numbers: BTreeMap::new(alloc),
-            guesses: Guesses::new(alloc),
+            numbers: RowNumbers::new(alloc),
         }
     }
 
@@ -242,17 +251,11 @@ impl Marks {
         self.labels.is_same(first.label, second.label)
     }
 
-    // The number of a device, a link count and the label that the bytes spell, which are added if
-    // they are new.
-    pub fn number_of(
-        &mut self,
-        alloc: Global,
-        device: u64,
-        links: Option<u64>,
-        label: &[u8],
-    ) -> Result<u32, OutOfMemory>
-        ensures number { IfOk result (λ number.
-            slice_get self.new number ≡ Some (mark_of device links (label_of label.now))) }
+    // The number of the device, the link count and the label that are told, which are added if they
+    // are new.
+    pub fn number_of(&mut self, alloc: Global, told: &Told<'_>) -> Result<u32, OutOfMemory>
+        ensures number { IfOk result (λ number. slice_get self.new number
+            ≡ Some (mark_of told.now.device told.now.links (label_of told.now.label.now))) }
         ensures extends { Extends self.old self.new }
         ensures same { OnErr result (self.new ≡ self.old) }
     {
@@ -261,10 +264,7 @@ impl Marks {
             &mut self.labels,
             &mut self.rows,
             &mut self.numbers,
-            &mut self.guesses,
-            device,
-            links,
-            label,
+            told,
         )
     }
 }

@@ -25,6 +25,16 @@ struct Front<'a> {
     inode: &'a [u8],
 }
 
+// All fields of a record.
+#[derive(Clone, Copy)]
+struct Fields<'a> {
+    front: Front<'a>,
+    // Where the format has it.
+    links: Option<&'a [u8]>,
+    label: &'a [u8],
+    path: &'a [u8],
+}
+
 fn read_kind(field: &[u8]) -> Option<EntryKind>
     ensures { result ≡ kind_of field.now }
 {
@@ -62,17 +72,16 @@ fn add_told(alloc: Global, records: &mut Records, told: &Told<'_>) -> Result<(),
 fn add_fields(
     alloc: Global,
     records: &mut Records,
-    front: &Front<'_>,
-    links: Option<&[u8]>,
-    label: &[u8],
-    path: &[u8],
+    fields: &Fields<'_>,
 ) -> Result<(), Fault<RecordWhy>>
     requires { length records.old < 2 ^ 32 - 1 }
     ensures answer { Answers (λ _. records.new) fault_cause result (with_one records.old
-        (with_path front.now.letter.now front.now.device.now front.now.inode.now (option_copied links.entry)
-        label.now path.now)) }
+        (with_path fields.now.front.letter.now fields.now.front.device.now
+        fields.now.front.inode.now (option_copied fields.now.links)
+        fields.now.label.now fields.now.path.now)) }
     ensures same { OnErr result (records.new ≡ records.old) }
 {
+    let front = fields.front;
     let Some(kind) = read_kind(front.letter) else {
         return Err(Fault::Why(RecordWhy::BadType));
     };
@@ -82,7 +91,7 @@ fn add_fields(
     let Some(inode) = read_number(front.inode) else {
         return Err(Fault::Why(RecordWhy::BadNumber));
     };
-    let Some(links) = read_links(links) else {
+    let Some(links) = read_links(fields.links) else {
         return Err(Fault::Why(RecordWhy::BadNumber));
     };
     let told = Told {
@@ -90,8 +99,8 @@ fn add_fields(
         device,
         inode,
         links,
-        label,
-        path,
+        label: fields.label,
+        path: fields.path,
     };
     add_told(alloc, records, &told)
 }
@@ -106,15 +115,21 @@ fn add_labelled(
 ) -> Result<(), Fault<RecordWhy>>
     requires { length records.old < 2 ^ 32 - 1 }
     ensures answer { Answers (λ _. records.new) fault_cause result (with_one records.old
-        (with_links front.now.letter.now front.now.device.now front.now.inode.now (option_copied links.entry)
-        rest.now)) }
+        (with_links front.now.letter.now front.now.device.now front.now.inode.now
+        (option_copied links.entry) rest.now)) }
     ensures same { OnErr result (records.new ≡ records.old) }
 {
     let (label, path) = cut_at(SPACE, rest);
     let Some(path) = path else {
         return Err(Fault::Why(RecordWhy::MissingField));
     };
-    add_fields(alloc, records, front, links, label, path)
+    let fields = Fields {
+        front: *front,
+        links,
+        label,
+        path,
+    };
+    add_fields(alloc, records, &fields)
 }
 
 // Adds the record whose link count, label and path these are.

@@ -84,7 +84,7 @@ fn row_of(
     let at = texts.len();
     add_path(alloc, texts, told.path)?;
     let size = (texts.len() - at) as u16;
-    let mark = marks.number_of(alloc, told.device, told.links, told.label)?;
+    let mark = marks.number_of(alloc, told)?;
     Ok(RecordRow {
         inode: told.inode,
         at,

@@ -38,7 +38,8 @@ chosen_firsts seen (user ∷ users) =
     elim (list_any (same_bytes (root_text user)) seen) as (λ v. chosen false (cond v (false ∷
     first_flags seen users) (true ∷ first_flags (seen ++ root_text user ∷ []) users)) (user ∷
     users)
-    ≡ cond v (first_by_root seen users) (user ∷ first_by_root (seen ++ root_text user ∷ []) users)) [
+    ≡ cond v (first_by_root seen users)
+    (user ∷ first_by_root (seen ++ root_text user ∷ []) users)) [
       | true ↦ chosen_firsts seen users
       | false ↦ ap (λ us. user ∷ us) (chosen_firsts (seen ++ root_text user ∷ []) users)
     ]

@@ -102,7 +102,8 @@ written_ends false text h = h
 escaped_some : (text : List ℕ) → 0 < length text → 0 < length (pattern_escaped text)
 escaped_some [] h = h
 escaped_some (b ∷ bs) h =
-    elim (stands_bare b) as (λ v. 0 < length (cond v (b ∷ []) (92 ∷ b ∷ []) ++ pattern_escaped bs)) [
+    elim (stands_bare b) as (λ v. 0
+    < length (cond v (b ∷ []) (92 ∷ b ∷ []) ++ pattern_escaped bs)) [
       | true ↦
           omega arith
       | false ↦ omega arith

@@ -10,7 +10,7 @@ use Rattle.std.proofs.lemmas.List.Folds.{list_all-append, list_any-append}
 use Rattle.label_base.specs.Lines.{first_of}
 use Rattle.label_base.specs.declared.lines.RefusedLine.{RefusedLine}
 use Rattle.spec_reader.specs.declared.spec_fault.SpecWhy.{SpecWhy}
-use Rattle.home_contexts.specs.Homes.{Given, first_refusal, home_text, is_long, refusal, homes_text}
+use Rattle.home_contexts.specs.Homes.{Given, first_refusal, home_line, is_long, refusal, homes_text}
 use Rattle.home_contexts.specs.Making.{AddsGiven, IsMade, StopsAtRefused, is_home_given}
 use Rattle.home_contexts.specs.declared.homes_fault.HomesWhy.{HomesWhy}
 use Rattle.home_contexts.specs.declared.homes_fault.HomesWhy.TheVariants.{Refused, TooLong}
@@ -132,18 +132,18 @@ next_short start now all rest next later going split short =
 
 pub text_more : (given : List Given) (next : Given) → homes_text (given ++ next ∷ [])
     ≡ homes_text given
-    ++ home_text next
-text_more given next = flat_map-append home_text given (next ∷ []) ∙ ap (λ t. homes_text given ++ t)
-    (append-nil (home_text next))
+    ++ home_line next
+text_more given next = flat_map-append home_line given (next ∷ []) ∙ ap (λ t. homes_text given ++ t)
+    (append-nil (home_line next))
 
 pub made_more : (old new : Made) (line : List ℕ) (given : List Given) (next : Given)
     → new.lines ≡ min 65537 (old.lines + 1) → new.bytes ≡ min 67108865 (old.bytes + length line) →
     (new.lines ≤ 65536 → new.bytes ≤ 67108864 → new.text ≡ old.text ++ line)
-    → line ≡ home_text next → IsMade old given → IsMade new (given ++ next ∷ [])
+    → line ≡ home_line next → IsMade old given → IsMade new (given ++ next ∷ [])
 made_more old new line given next lines bytes text same made = record {
   counted = omega (arith, lines, made.counted, length-append given (next ∷ []));
   measured =
-      let sum = length-append (homes_text given) (home_text next) in
+      let sum = length-append (homes_text given) (home_line next) in
       omega (arith, bytes, made.measured, ap length (text_more given next), sum, ap length same);
   kept = λ few short.
       let before : old.lines ≤ 65536 = omega (arith, lines, few) in

@@ -89,14 +89,16 @@ given_lines template users = given_from users 1 (lines_of template)
 
 -- ---- the text
 
-abbrev pub home_text : Given → List ℕ
-home_text given = line_text given.fields
+-- the line of one home
+abbrev pub home_line : Given → List ℕ
+home_line given = line_text given.fields
 
+-- the file of homes
 abbrev pub homes_text : List Given → List ℕ
-homes_text given = flat_map home_text given
+homes_text given = flat_map home_line given
 
 abbrev pub is_long : Given → Bool
-is_long given = nat_lt MOST_TEXT_BYTES (length (home_text given))
+is_long given = nat_lt MOST_TEXT_BYTES (length (home_line given))
 
 abbrev pub refusal_of : ℕ → Result SpecValue SpecWhy → Option (RefusedLine SpecWhy)
 refusal_of number (Ok spec) = None

@@ -3,9 +3,10 @@ use Rattle.std.specs.Prelude.{◌≡◌, ⊤, ℕ, ◌+◌, ◌≤◌, ◌==◌,
 use Rattle.std.specs.Prelude.{List, [], ◌∷◌, ◌++◌, length, map, Option, Some, None, Result, Ok, Err}
 use Rattle.std.specs.Prelude.{if◌then◌else◌}
 use Rattle.std.specs.List.{list_all, list_any}
+use Rattle.std.specs.Option.{option_copied}
 use Rattle.std.specs.declared.vec.Vec.{Vec}
 use Rattle.label_base.specs.Answers.{fault_cause}
-use Rattle.label_base.specs.Lines.{is_comment}
+use Rattle.label_base.specs.Lines.{fields_left, is_comment}
 use Rattle.label_base.specs.Text.{same_bytes}
 use Rattle.label_base.specs.declared.cut.TheConstants.{LINE_FEED}
 use Rattle.label_base.specs.declared.fault.Fault.{Fault}
@@ -13,6 +14,7 @@ use Rattle.spec_reader.specs.SpecValue.{SpecValue}
 use Rattle.spec_reader.specs.declared.spec_fault.SpecWhy.{SpecWhy}
 use Rattle.home_contexts.specs.Homes.{Given, first_refusal, refusal_of, root_text, homes_text}
 use Rattle.home_contexts.specs.User.{UserValue, ends_field}
+use Rattle.home_contexts.specs.declared.giving.TemplateLine.{TemplateLine}
 use Rattle.home_contexts.specs.declared.homes_fault.HomesWhy.{HomesWhy}
 use Rattle.home_contexts.specs.declared.homes_fault.HomesWhy.TheVariants.{Refused}
 use Rattle.home_contexts.specs.declared.limits.TheConstants.{MOST_SPECS, MOST_TEXT_BYTES}
@@ -34,6 +36,10 @@ StopsAtRefused (Some (Refused refused)) next = first_refusal next ≡ Some refus
 StopsAtRefused (Some why) next = ⊥
 
 -- ---- one line
+
+-- the fields of a line of the template
+abbrev pub fields_in : TemplateLine → List (List ℕ)
+fields_in line = line.first.now ∷ fields_left (option_copied line.more)
 
 abbrev pub is_feed : ℕ → Bool
 is_feed b = b == LINE_FEED

@@ -7,7 +7,7 @@ ghost use Rattle.home_contexts.specs.Homes.{given_lines, is_long};
 ghost use Rattle.home_contexts.specs.Making.{GivesHomes, first_flags, is_feed};
 
 use crate::firsts::first_flags;
-use crate::giving::give_lines;
+use crate::giving::{Giving, TemplateLine, UsersByRoot, give_lines};
 use crate::homes_fault::{HomesFault, HomesWhy};
 use crate::long::gives_long;
 use crate::made::Made;
@@ -21,17 +21,15 @@ fn give_by_line(
     alloc: Global,
     number: u32,
     text: &[u8],
-    users: &[User],
-    firsts: &[bool],
-    line: &mut Bytes,
-    made: &mut Made,
+    by: &UsersByRoot<'_>,
+    giving: &mut Giving,
 ) -> Result<(), HomesFault>
-    requires flags { firsts.now ≡ first_flags [] users.now }
+    requires flags { by.now.firsts.now ≡ first_flags [] by.now.users.now }
     requires feed { list_any is_feed text.now ≡ false }
     requires short { list_any is_long
-        (given_by_fields users.now number (fields_of text.now)) ≡ false }
-    ensures { GivesHomes result made.old made.new
-        (given_by_fields users.now number (fields_of text.now)) }
+        (given_by_fields by.now.users.now number (fields_of text.now)) ≡ false }
+    ensures { GivesHomes result giving.old.made giving.new.made
+        (given_by_fields by.now.users.now number (fields_of text.now)) }
 {
     let Some((first, more)) = next_field(Some(text)) else {
         return Ok(());
@@ -40,11 +38,16 @@ fn give_by_line(
         return Ok(());
     }
     let held = held_by(first, more);
+    let of = TemplateLine {
+        number,
+        first,
+        more,
+    };
     if held.other {
-        return give_lines(alloc, true, number, first, more, users, firsts, line, made);
+        return give_lines(alloc, true, &of, by, giving);
     }
     if held.root {
-        return give_lines(alloc, false, number, first, more, users, firsts, line, made);
+        return give_lines(alloc, false, &of, by, giving);
     }
     Ok(())
 }
@@ -53,43 +56,42 @@ fn give_by_line(
 fn give_all(
     alloc: Global,
     template: &[u8],
-    users: &[User],
-    firsts: &[bool],
-    line: &mut Bytes,
-    made: &mut Made,
+    by: &UsersByRoot<'_>,
+    giving: &mut Giving,
 ) -> Result<(), HomesFault>
     requires size { length template.now < 2 ^ 32 }
-    requires flags { firsts.now ≡ first_flags [] users.now }
-    requires short { list_any is_long (given_lines template.now users.now) ≡ false }
-    ensures { GivesHomes result made.old made.new (given_lines template.now users.now) }
+    requires flags { by.now.firsts.now ≡ first_flags [] by.now.users.now }
+    requires short { list_any is_long (given_lines template.now by.now.users.now) ≡ false }
+    ensures { GivesHomes result giving.old.made giving.new.made
+        (given_lines template.now by.now.users.now) }
 {
     let mut left = template;
     let mut number = 0u32;
     'lines: while let Some((text, rest)) = next_line(left) {
         number += 1;
-        give_by_line(alloc, number, text, users, firsts, line, made)?;
+        give_by_line(alloc, number, text, by, giving)?;
         left = rest;
     }
     Ok(())
 }
 
-fn expand_by(
-    alloc: Global,
-    template: &[u8],
-    users: &[User],
-    firsts: &[bool],
-) -> Result<Bytes, HomesFault>
+fn expand_by(alloc: Global, template: &[u8], by: &UsersByRoot<'_>) -> Result<Bytes, HomesFault>
     requires size { length template.now < 2 ^ 32 }
-    requires flags { firsts.now ≡ first_flags [] users.now }
-    ensures text { Answers (λ text. text) fault_cause result (expansion template.now users.now) }
+    requires flags { by.now.firsts.now ≡ first_flags [] by.now.users.now }
+    ensures text { Answers (λ text. text) fault_cause result
+        (expansion template.now by.now.users.now) }
     ensures read_back { IfOk result IsReadBack }
 {
-    if gives_long(template, users, firsts) {
+    if gives_long(template, by.users, by.firsts) {
         return Err(Fault::Why(HomesWhy::TooLong));
     }
-    let mut made = Made::new(alloc);
-    let mut line = Bytes::new(alloc);
-    give_all(alloc, template, users, firsts, &mut line, &mut made)?;
+    let made = Made::new(alloc);
+    let mut giving = Giving {
+        made,
+        line: Bytes::new(alloc),
+    };
+    give_all(alloc, template, by, &mut giving)?;
+    let Giving { made, line: _ } = giving;
     made.finish()
 }
 
@@ -112,5 +114,9 @@ pub fn expand(alloc: Global, template: &[u8], users: &Row<User>) -> Result<Bytes
     ensures read_back { IfOk result IsReadBack }
 {
     let firsts = first_flags(alloc, users.as_slice())?;
-    expand_by(alloc, template, users.as_slice(), firsts.as_slice())
+    let by = UsersByRoot {
+        users: users.as_slice(),
+        firsts: firsts.as_slice(),
+    };
+    expand_by(alloc, template, &by)
 }

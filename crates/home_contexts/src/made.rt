@@ -1,6 +1,6 @@
 ghost use Rattle.std.specs.Prelude.{◌≡◌, ◌++◌, ◌∷◌, ◌+◌, [], List, min, OnOk};
 ghost use Rattle.label_base.specs.Answers.{Answers, fault_cause};
-ghost use Rattle.home_contexts.specs.Homes.{Given, home_text, within_limits};
+ghost use Rattle.home_contexts.specs.Homes.{Given, home_line, within_limits};
 ghost use Rattle.home_contexts.specs.Making.{IsMade};
 
 use crate::homes_fault::{HomesFault, HomesWhy};
@@ -50,7 +50,7 @@ impl Made {
     /// Adds a line. After a refusal nothing is known of the text.
     pub fn add(&mut self, line: &[u8]) -> Result<(), OutOfMemory>
         ensures { OnOk result ((given : List Given) → (next : Given)
-            → line.now ≡ home_text next
+            → line.now ≡ home_line next
             → IsMade self.old given
             → IsMade self.new (given ++ next ∷ [])) }
     {

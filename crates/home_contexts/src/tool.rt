@@ -6,7 +6,7 @@ use crate::found::read_found;
 use file_roles::{FileList, FileRole, Part};
 use find_records::Format;
 use input_output::Store;
-use label_base::{Bytes, Name, OutOfMemory};
+use label_base::{Bytes, Name, OutOfMemory, PiecedText};
 use run_endings::{End, Ending, Saved};
 use run_faults::Cause;
 use std::alloc::Global;
@@ -38,10 +38,10 @@ fn ending(alloc: Global, words: &HomesWords, text: &Bytes) -> Result<Ending, Out
 {
     let saved = Saved {
         name: Name::copy_of(alloc, words.output.as_str())?,
-        text: Bytes::copy_of(alloc, text.as_slice())?,
+        text: PiecedText::of(alloc, Bytes::copy_of(alloc, text.as_slice())?)?,
     };
     Ok(Ending {
-        report: Bytes::new(alloc),
+        report: PiecedText::of(alloc, Bytes::new(alloc))?,
         end: End::Done,
         saved: Some(saved),
     })

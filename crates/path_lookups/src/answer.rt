@@ -1,10 +1,10 @@
 ghost use Rattle.std.specs.Prelude.{◌≡◌, ◌<◌, ◌^◌, IfOk, length};
 ghost use Rattle.path_lookups.specs.Answer.{lookups_of, found_ending, lookup_end, verified_ending};
 
-use crate::found::add_found_report;
-use crate::verified::add_verified_report;
+use crate::found::{Lookup, add_found_report};
+use crate::verified::{Verification, add_verified_report};
 use crate::words::LookupWords;
-use label_base::{Bytes, OutOfMemory};
+use label_base::{Bytes, OutOfMemory, PiecedText};
 use label_rules::Rules;
 use run_endings::{End, Ending};
 use std::alloc::Global;
@@ -23,17 +23,15 @@ fn lookup_end(count: u32) -> End
 fn found_ending(alloc: Global, words: &LookupWords, rules: &Rules) -> Result<Ending, OutOfMemory>
     ensures { IfOk result (λ ending. ending ≡ found_ending words.now rules.now) }
 {
-    let mut report = Bytes::new(alloc);
-    add_found_report(
-        alloc,
+    let lookup = Lookup {
         rules,
-        words.paths.as_slice(),
-        words.asked,
-        words.bare,
-        &mut report,
-    )?;
+        kind: words.asked,
+        bare: words.bare,
+    };
+    let mut report = Bytes::new(alloc);
+    add_found_report(alloc, &lookup, words.paths.as_slice(), &mut report)?;
     Ok(Ending {
-        report,
+        report: PiecedText::of(alloc, report)?,
         end: End::Done,
         saved: None,
     })
@@ -48,17 +46,15 @@ fn verified_ending(
     requires { length words.now.paths < 2 ^ 31 }
     ensures { IfOk result (λ ending. ending ≡ verified_ending words.now rules.now tree.now) }
 {
-    let mut report = Bytes::new(alloc);
-    let count = add_verified_report(
-        alloc,
+    let by = Verification {
         rules,
         tree,
-        words.paths.as_slice(),
-        words.asked,
-        &mut report,
-    )?;
+        kind: words.asked,
+    };
+    let mut report = Bytes::new(alloc);
+    let count = add_verified_report(alloc, &by, words.paths.as_slice(), &mut report)?;
     Ok(Ending {
-        report,
+        report: PiecedText::of(alloc, report)?,
         end: lookup_end(count),
         saved: None,
     })

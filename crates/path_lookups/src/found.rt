@@ -1,7 +1,8 @@
 ghost use Rattle.std.specs.Prelude.{◌≡◌, ◌+◌, ◌++◌, ◌<◌, ◌≤◌, IfOk, OnOk};
 ghost use Rattle.std.specs.Option.{option_copied};
 ghost use Rattle.file_paths.specs.PathRef.{path_of};
-ghost use Rattle.report_text.specs.Texts.{message_line, report_of};
+ghost use Rattle.report_text.specs.Message.{message_of};
+ghost use Rattle.report_text.specs.Texts.{report_of};
 ghost use Rattle.spec_match.specs.Scratches.{IsScratchOf};
 ghost use Rattle.path_lookups.specs.Found.{any_or, context_for, found_message, found_messages};
 
@@ -14,6 +15,16 @@ use spec_match::Scratch;
 use std::alloc::Global;
 use std::marker::Brand;
 use std::sync::ledger::{Blank, Ledger};
+
+/// By which rules paths are looked up, as which kind, and how they are told.
+#[derive(Clone, Copy)]
+pub struct Lookup<'a> {
+    pub rules: &'a Rules,
+    /// Where none is told, specifications of every kind apply.
+    pub kind: Option<EntryKind>,
+    /// A bare line doesn't name its path.
+    pub bare: bool,
+}
 
 /// The context that is decided for a path. There is none where no specification decides it, nor
 /// where the one that does says `<<none>>`. It counts at most one step.
@@ -44,67 +55,67 @@ fn any_or(kind: Option<EntryKind>) -> Asked
     }
 }
 
-fn add_found<L: Ledger>(
+// What is found for a path.
+fn find_path<'a, L: Ledger>(
     alloc: Global,
-    rules: &Rules,
-    kind: Option<EntryKind>,
-    bare: bool,
-    path: &NormPath,
+    lookup: &Lookup<'a>,
+    path: &'a NormPath,
     scratch: &mut Scratch,
-    to: &mut Bytes,
     steps: &mut Steps<L>,
-) -> Result<(), OutOfMemory>
-    requires { IsScratchOf rules.now.rules scratch.old }
-    ensures own { IsScratchOf rules.now.rules scratch.new }
-    ensures text { OnOk result
-        (to.new ≡ to.old ++ message_line (found_message rules.now kind bare path.now)) }
+) -> Result<Message<'a>, OutOfMemory>
+    requires { IsScratchOf lookup.now.rules.now.rules scratch.old }
+    ensures own { IsScratchOf lookup.now.rules.now.rules scratch.new }
+    ensures message { IfOk result (λ message. message_of message
+        ≡ found_message lookup.now.rules.now lookup.now.kind lookup.now.bare path.now) }
 {
     let path = path.path();
-    let context = find_context(alloc, rules, &path, any_or(kind), scratch, steps)?;
-    let message = Message::Found {
+    let context = find_context(
+        alloc,
+        lookup.rules,
+        &path,
+        any_or(lookup.kind),
+        scratch,
+        steps,
+    )?;
+    Ok(Message::Found {
         path,
         context,
-        bare,
-    };
-    add_line(alloc, &message, to)
+        bare: lookup.bare,
+    })
 }
 
-fn add_all_found<L: Ledger>(
+fn add_all_found<'a, L: Ledger>(
     alloc: Global,
-    rules: &Rules,
-    paths: &[NormPath],
-    kind: Option<EntryKind>,
-    bare: bool,
+    lookup: &Lookup<'a>,
+    paths: &'a [NormPath],
     to: &mut Bytes,
     blank: Blank,
 ) -> Result<(), OutOfMemory>
     requires name { blank.name ≡ L.name }
     requires parts { blank.parts ≡ L.parts }
     requires some { 0 < blank.parts }
-    ensures { OnOk result
-        (to.new ≡ to.old ++ report_of (found_messages rules.now kind bare paths.now)) }
+    ensures { OnOk result (to.new ≡ to.old ++ report_of
+        (found_messages lookup.now.rules.now lookup.now.kind lookup.now.bare paths.now)) }
 {
     let mut steps = Steps::<L>::open(blank);
-    let mut scratch = Scratch::new(alloc, &rules.rules)?;
+    let mut scratch = Scratch::new(alloc, &lookup.rules.rules)?;
     'paths: for path in paths {
-        add_found(alloc, rules, kind, bare, path, &mut scratch, to, &mut steps)?;
+        let message = find_path(alloc, lookup, path, &mut scratch, &mut steps)?;
+        add_line(alloc, &message, to)?;
     }
     Ok(())
 }
 
 /// Adds at the end a line for each path with the context that is decided for it, `<<none>>` where
-/// none is (matchpathcon(8)). Where no kind is told, specifications of every kind apply. A `bare`
-/// line doesn't name the path. After want of memory a front of the lines may have been added.
-pub fn add_found_report(
+/// none is (matchpathcon(8)). After want of memory a front of the lines may have been added.
+pub fn add_found_report<'a>(
     alloc: Global,
-    rules: &Rules,
-    paths: &[NormPath],
-    kind: Option<EntryKind>,
-    bare: bool,
+    lookup: &Lookup<'a>,
+    paths: &'a [NormPath],
     to: &mut Bytes,
 ) -> Result<(), OutOfMemory>
-    ensures { OnOk result
-        (to.new ≡ to.old ++ report_of (found_messages rules.now kind bare paths.now)) }
+    ensures { OnOk result (to.new ≡ to.old ++ report_of
+        (found_messages lookup.now.rules.now lookup.now.kind lookup.now.bare paths.now)) }
 {
-    add_all_found::<Brand>(alloc, rules, paths, kind, bare, to, Blank::new(1))
+    add_all_found::<Brand>(alloc, lookup, paths, to, Blank::new(1))
 }

@@ -10,9 +10,9 @@ mod tool;
 mod verified;
 mod words;
 
-pub use found::{add_found_report, find_context};
+pub use found::{Lookup, add_found_report, find_context};
 pub use laws::constants_are_stated;
-pub use verified::{add_verified_report, is_unverified, verify};
+pub use verified::{Verification, add_verified_report, is_unverified, verify};
 pub use words::{LookupWords, read_lookup};
 
 /// The name of the tool.

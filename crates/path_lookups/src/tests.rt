@@ -2,8 +2,8 @@ ghost use Rattle.std.specs.Prelude.{◌≡◌, ◌<◌, ◌^◌, IfOk, length};
 ghost use Rattle.spec_match.specs.Scratches.{IsScratchOf};
 
 use crate::{
-    LookupWords, add_found_report, add_verified_report, find_context, is_unverified, read_lookup,
-    verify,
+    Lookup, LookupWords, Verification, add_found_report, add_verified_report, find_context,
+    is_unverified, read_lookup, verify,
 };
 use context_syntax::TypeNames;
 use file_paths::{NormPath, PathRef};
@@ -75,9 +75,13 @@ fn found(
     paths: &Row<NormPath>,
     kind: Option<EntryKind>,
 ) -> Result<Bytes, OutOfMemory> {
+    let lookup = Lookup {
+        rules,
+        kind,
+        bare: kind.is_none(),
+    };
     let mut report = Bytes::new(alloc);
-    let bare = kind.is_none();
-    add_found_report(alloc, rules, paths.as_slice(), kind, bare, &mut report)?;
+    add_found_report(alloc, &lookup, paths.as_slice(), &mut report)?;
     Ok(report)
 }
 
@@ -189,7 +193,12 @@ fn verified(
     if paths.len() > 9 {
         return Ok(99);
     }
-    add_verified_report(alloc, rules, tree, paths.as_slice(), None, report)
+    let by = Verification {
+        rules,
+        tree,
+        kind: None,
+    };
+    add_verified_report(alloc, &by, paths.as_slice(), report)
 }
 
 fn verified_by(
@@ -272,7 +281,12 @@ fn told_of<L: Ledger>(
     let index = look_up_path(alloc, rules, path, Asked::Any, scratch, &mut steps)?;
     let context = find_context(alloc, rules, path, Asked::Any, scratch, &mut steps)?;
     let is_found = context.is_some();
-    let message = verify(alloc, rules, tree, None, path, scratch, &mut steps)?;
+    let by = Verification {
+        rules,
+        tree,
+        kind: None,
+    };
+    let message = verify(alloc, &by, path, scratch, &mut steps)?;
     Ok((index, is_found, is_unverified(&message)))
 }
 

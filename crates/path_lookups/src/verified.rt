@@ -2,7 +2,7 @@ ghost use Rattle.std.specs.Prelude.{◌≡◌, ◌+◌, ◌++◌, ◌<◌, ◌�
 ghost use Rattle.std.specs.Option.{option_copied};
 ghost use Rattle.file_paths.specs.PathRef.{path_of};
 ghost use Rattle.report_text.specs.Message.{message_of};
-ghost use Rattle.report_text.specs.Texts.{message_line, report_of};
+ghost use Rattle.report_text.specs.Texts.{report_of};
 ghost use Rattle.spec_match.specs.Scratches.{IsScratchOf};
 ghost use Rattle.path_lookups.specs.Verified.{count_unverified, entry_message, is_but_user};
 ghost use Rattle.path_lookups.specs.Verified.{is_unverified, kind_or, label_message};
@@ -19,6 +19,15 @@ use std::alloc::Global;
 use std::marker::Brand;
 use std::sync::ledger::{Blank, Ledger};
 use tree_model::Tree;
+
+/// By which rules and in which tree paths are verified, and as which kind.
+#[derive(Clone, Copy)]
+pub struct Verification<'a> {
+    pub rules: &'a Rules,
+    pub tree: &'a Tree,
+    /// Where none is told, it is the entry's.
+    pub kind: Option<EntryKind>,
+}
 
 fn is_but_user(label: &Label, wanted: &Context) -> bool
     ensures { result ≡ is_but_user label.now wanted.now }
@@ -68,23 +77,22 @@ fn kind_or(told: Option<EntryKind>, kind: EntryKind) -> Asked
 // Whether the path of an entry has the label that it should have.
 fn entry_message<'a, L: Ledger>(
     alloc: Global,
-    rules: &'a Rules,
-    tree: &'a Tree,
-    kind: Option<EntryKind>,
+    by: &Verification<'a>,
     path: &PathRef<'a>,
     e: u32,
     scratch: &mut Scratch,
     steps: &mut Steps<L>,
 ) -> Result<Message<'a>, OutOfMemory>
-    requires entry { e < length tree.now }
-    requires own { IsScratchOf rules.now.rules scratch.old }
-    ensures own { IsScratchOf rules.now.rules scratch.new }
+    requires entry { e < length by.now.tree.now }
+    requires own { IsScratchOf by.now.rules.now.rules scratch.old }
+    ensures own { IsScratchOf by.now.rules.now.rules scratch.new }
     ensures message { IfOk result (λ message. message_of message
-        ≡ entry_message rules.now tree.now kind (path_of path.now) (Some e)) }
+        ≡ entry_message by.now.rules.now by.now.tree.now by.now.kind (path_of path.now) (Some e)) }
     ensures count { steps.new ≤ steps.old + 1 }
 {
-    let asked = kind_or(kind, tree.entry(e).kind);
-    let wanted = find_context(alloc, rules, path, asked, scratch, steps)?;
+    let tree = by.tree;
+    let asked = kind_or(by.kind, tree.entry(e).kind);
+    let wanted = find_context(alloc, by.rules, path, asked, scratch, steps)?;
     Ok(label_message(path, tree.label(tree.group(e)), wanted))
 }
 
@@ -94,22 +102,20 @@ fn entry_message<'a, L: Ledger>(
 /// equals the decided one but for the user. It counts at most one step.
 pub fn verify<'a, L: Ledger>(
     alloc: Global,
-    rules: &'a Rules,
-    tree: &'a Tree,
-    kind: Option<EntryKind>,
+    by: &Verification<'a>,
     path: &PathRef<'a>,
     scratch: &mut Scratch,
     steps: &mut Steps<L>,
 ) -> Result<Message<'a>, OutOfMemory>
-    requires { IsScratchOf rules.now.rules scratch.old }
-    ensures own { IsScratchOf rules.now.rules scratch.new }
+    requires { IsScratchOf by.now.rules.now.rules scratch.old }
+    ensures own { IsScratchOf by.now.rules.now.rules scratch.new }
     ensures message { IfOk result (λ message. message_of message
-        ≡ verified_message rules.now tree.now kind (path_of path.now)) }
+        ≡ verified_message by.now.rules.now by.now.tree.now by.now.kind (path_of path.now)) }
     ensures count { steps.new ≤ steps.old + 1 }
 {
-    match tree.find(path) {
+    match by.tree.find(path) {
         None => Ok(Message::NoRecord { path: *path }),
-        Some(e) => entry_message(alloc, rules, tree, kind, path, e, scratch, steps),
+        Some(e) => entry_message(alloc, by, path, e, scratch, steps),
     }
 }
 
@@ -123,35 +129,10 @@ pub fn is_unverified(message: &Message<'_>) -> bool
     }
 }
 
-// Adds the line of a path, and answers whether it is not verified.
-fn add_verified<L: Ledger>(
+fn add_all_verified<'a, L: Ledger>(
     alloc: Global,
-    rules: &Rules,
-    tree: &Tree,
-    kind: Option<EntryKind>,
-    path: &NormPath,
-    scratch: &mut Scratch,
-    to: &mut Bytes,
-    steps: &mut Steps<L>,
-) -> Result<bool, OutOfMemory>
-    requires { IsScratchOf rules.now.rules scratch.old }
-    ensures own { IsScratchOf rules.now.rules scratch.new }
-    ensures text { OnOk result
-        (to.new ≡ to.old ++ message_line (verified_message rules.now tree.now kind path.now)) }
-    ensures told { IfOk result (λ told.
-        told ≡ is_unverified (verified_message rules.now tree.now kind path.now)) }
-{
-    let message = verify(alloc, rules, tree, kind, &path.path(), scratch, steps)?;
-    add_line(alloc, &message, to)?;
-    Ok(is_unverified(&message))
-}
-
-fn add_all_verified<L: Ledger>(
-    alloc: Global,
-    rules: &Rules,
-    tree: &Tree,
-    paths: &[NormPath],
-    kind: Option<EntryKind>,
+    by: &Verification<'a>,
+    paths: &'a [NormPath],
     to: &mut Bytes,
     blank: Blank,
 ) -> Result<u32, OutOfMemory>
@@ -159,17 +140,18 @@ fn add_all_verified<L: Ledger>(
     requires name { blank.name ≡ L.name }
     requires parts { blank.parts ≡ L.parts }
     requires some { 0 < blank.parts }
-    ensures text { OnOk result
-        (to.new ≡ to.old ++ report_of (verified_messages rules.now tree.now kind paths.now)) }
-    ensures count { IfOk result (λ unverified.
-        unverified ≡ count_unverified (verified_messages rules.now tree.now kind paths.now)) }
+    ensures text { OnOk result (to.new ≡ to.old ++ report_of
+        (verified_messages by.now.rules.now by.now.tree.now by.now.kind paths.now)) }
+    ensures count { IfOk result (λ unverified. unverified ≡ count_unverified
+        (verified_messages by.now.rules.now by.now.tree.now by.now.kind paths.now)) }
 {
     let mut steps = Steps::<L>::open(blank);
-    let mut scratch = Scratch::new(alloc, &rules.rules)?;
+    let mut scratch = Scratch::new(alloc, &by.rules.rules)?;
     let mut unverified = 0;
     'paths: for path in paths {
-        let is_more = add_verified(alloc, rules, tree, kind, path, &mut scratch, to, &mut steps)?;
-        unverified += u32::from(is_more);
+        let message = verify(alloc, by, &path.path(), &mut scratch, &mut steps)?;
+        add_line(alloc, &message, to)?;
+        unverified += u32::from(is_unverified(&message));
     }
     Ok(unverified)
 }
@@ -177,19 +159,17 @@ fn add_all_verified<L: Ledger>(
 /// Adds at the end a line for each path that says whether it has the label that it should have, as
 /// [`verify`] has it, and answers how many have another or no record. There must be fewer than 2^32
 /// paths. After want of memory a front of the lines may have been added.
-pub fn add_verified_report(
+pub fn add_verified_report<'a>(
     alloc: Global,
-    rules: &Rules,
-    tree: &Tree,
-    paths: &[NormPath],
-    kind: Option<EntryKind>,
+    by: &Verification<'a>,
+    paths: &'a [NormPath],
     to: &mut Bytes,
 ) -> Result<u32, OutOfMemory>
     requires { length paths.now < 2 ^ 32 }
-    ensures text { OnOk result
-        (to.new ≡ to.old ++ report_of (verified_messages rules.now tree.now kind paths.now)) }
-    ensures count { IfOk result (λ unverified.
-        unverified ≡ count_unverified (verified_messages rules.now tree.now kind paths.now)) }
+    ensures text { OnOk result (to.new ≡ to.old ++ report_of
+        (verified_messages by.now.rules.now by.now.tree.now by.now.kind paths.now)) }
+    ensures count { IfOk result (λ unverified. unverified ≡ count_unverified
+        (verified_messages by.now.rules.now by.now.tree.now by.now.kind paths.now)) }
 {
-    add_all_verified::<Brand>(alloc, rules, tree, paths, kind, to, Blank::new(1))
+    add_all_verified::<Brand>(alloc, by, paths, to, Blank::new(1))
 }

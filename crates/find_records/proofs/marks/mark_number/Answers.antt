@@ -7,7 +7,11 @@ use Rattle.find_records.proofs.marks.mark_number.Goals as goal
 pub returns-clause-extends : goal.returns-clause-extends
 returns-clause-extends c =
     marks_longer c.args.labels.now c.number_of.new.self
-    (record { device = c.args.device; links = c.args.links; label = c.in_ok-label.label })
+    (record {
+      device = c.args.told.now.device;
+      links = c.args.told.now.links;
+      label = c.in_ok-label.label;
+    })
     c.args.rows.now.items c.number_of-2.new.rows.items
     c.in_ok-label.ensures.extends c.requires c.number_of-2.ensures.with
 

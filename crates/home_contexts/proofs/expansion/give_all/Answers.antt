@@ -12,19 +12,23 @@ give_by_line-requires-clause-feed c = first_feed c.lines.left.now c.in-Some.text
 
 pub returns-in_err-give_by_line : goal.returns-in_err-give_by_line
 returns-in_err-give_by_line c =
-    going_refused _ _ _ _ _ _ _ (given_by_fields c.args.users.now (c.lines.number + 1) (fields_of
-    c.in-Some.text.now)) (given_from c.args.users.now (c.lines.number + 1 + 1) (lines_of
+    going_refused _ _ _ _ _ _ _
+    (given_by_fields c.args.by.now.users.now (c.lines.number + 1) (fields_of
+    c.in-Some.text.now)) (given_from c.args.by.now.users.now (c.lines.number + 1 + 1) (lines_of
     c.in-Some.rest.now))
-    c.from_residual.ensures.1 c.lines.invariant.going (lines_split c.args.users.now (c.lines.number
+    c.from_residual.ensures.1 c.lines.invariant.going
+    (lines_split c.args.by.now.users.now (c.lines.number
     + 1) c.lines.left.now c.in-Some.text.now c.in-Some.rest.now c.in-Some.ensures.found)
     c.in_err-give_by_line.ensures
 
 pub lines-preserved : goal.lines-preserved
 lines-preserved c = record {
-  going = going_more _ _ _ _ _ (given_by_fields c.args.users.now (c.lines.number + 1) (fields_of
-      c.in-Some.text.now)) (given_from c.args.users.now (c.lines.number + 1 + 1) (lines_of
+  going = going_more _ _ _ _ _
+      (given_by_fields c.args.by.now.users.now (c.lines.number + 1) (fields_of
+      c.in-Some.text.now)) (given_from c.args.by.now.users.now (c.lines.number + 1 + 1) (lines_of
       c.in-Some.rest.now))
-      c.lines.invariant.going (lines_split c.args.users.now (c.lines.number + 1) c.lines.left.now
+      c.lines.invariant.going
+      (lines_split c.args.by.now.users.now (c.lines.number + 1) c.lines.left.now
       c.in-Some.text.now c.in-Some.rest.now c.in-Some.ensures.found)
       c.in_ok-give_by_line.ensures;
   count = omega (arith, c.in-Some.ensures.shorter);

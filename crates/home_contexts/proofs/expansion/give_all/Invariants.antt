@@ -6,8 +6,8 @@ use Rattle.home_contexts.proofs.expansion.give_all.Given as goal
 
 abbrev pub invariant-lines : goal.invariant-lines
 invariant-lines l = record {
-  going : IsGoing l.fn.made l.made (given_lines l.template l.users) (given_from l.users (l.number +
-      1) (lines_of l.left));
+  going : IsGoing l.fn.giving.made l.giving.made (given_lines l.template l.by.users.now)
+      (given_from l.by.users.now (l.number + 1) (lines_of l.left));
   count : l.number + length l.left ≤ length l.template;
 }
 

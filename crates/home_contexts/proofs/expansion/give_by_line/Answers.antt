@@ -9,7 +9,8 @@ use Rattle.home_contexts.proofs.TemplateLines.{line_parts}
 use Rattle.home_contexts.proofs.expansion.give_by_line.Goals as goal
 
 pub give_lines-requires-clause-flags : goal.give_lines-requires-clause-flags
-give_lines-requires-clause-flags c = ap length c.requires.flags ∙ flags_length [] c.args.users.now
+give_lines-requires-clause-flags c = ap length c.requires.flags
+    ∙ flags_length [] c.args.by.now.users.now
 
 pub give_lines-requires-clause-parts : goal.give_lines-requires-clause-parts
 give_lines-requires-clause-parts c =
@@ -18,8 +19,9 @@ give_lines-requires-clause-parts c =
 
 pub give_lines-requires-clause-short : goal.give_lines-requires-clause-short
 give_lines-requires-clause-short c =
-    let same = ap length c.requires.flags ∙ flags_length [] c.args.users.now in
-    ap (list_any is_long) (sym (other_given c.args.users.now c.args.firsts.now c.args.number
+    let same = ap length c.requires.flags ∙ flags_length [] c.args.by.now.users.now in
+    ap (list_any is_long)
+    (sym (other_given c.args.by.now.users.now c.args.by.now.firsts.now c.args.number
     (fields_of c.args.text.now) c.in-Some.first.now (fields_left (option_copied
     c.in-Some.more)) c.in-Some.ensures.found
     (sym c.is_comment.ensures ∙ c.if-is_comment.false) same (sym c.held_by-held.ensures.other ∙
@@ -28,9 +30,10 @@ give_lines-requires-clause-short c =
 
 pub returns-then-held : goal.returns-then-held
 returns-then-held c =
-    let same = ap length c.requires.flags ∙ flags_length [] c.args.users.now in
-    subst (GivesHomes c.give_lines.result c.args.made.now c.give_lines.new.made) (sym (other_given
-    c.args.users.now c.args.firsts.now c.args.number (fields_of c.args.text.now)
+    let same = ap length c.requires.flags ∙ flags_length [] c.args.by.now.users.now in
+    subst (GivesHomes c.give_lines.result c.args.giving.now.made c.give_lines.new.giving.made)
+    (sym (other_given
+    c.args.by.now.users.now c.args.by.now.firsts.now c.args.number (fields_of c.args.text.now)
     c.in-Some.first.now (fields_left (option_copied c.in-Some.more)) c.in-Some.ensures.found
     (sym c.is_comment.ensures ∙ c.if-is_comment.false) same (sym c.held_by-held.ensures.other ∙
     c.if-held.true)))
@@ -38,7 +41,7 @@ returns-then-held c =
 
 pub give_lines-requires-then-held-2-clause-flags : goal.give_lines-requires-then-held-2-clause-flags
 give_lines-requires-then-held-2-clause-flags c = ap length c.requires.flags ∙ flags_length []
-    c.args.users.now
+    c.args.by.now.users.now
 
 pub give_lines-requires-then-held-2-clause-parts : goal.give_lines-requires-then-held-2-clause-parts
 give_lines-requires-then-held-2-clause-parts c =
@@ -47,7 +50,8 @@ give_lines-requires-then-held-2-clause-parts c =
 
 pub give_lines-requires-then-held-2-clause-short : goal.give_lines-requires-then-held-2-clause-short
 give_lines-requires-then-held-2-clause-short c =
-    ap (list_any is_long) (sym (root_given c.args.users.now c.args.firsts.now c.args.number
+    ap (list_any is_long)
+    (sym (root_given c.args.by.now.users.now c.args.by.now.firsts.now c.args.number
     (fields_of c.args.text.now) c.in-Some.first.now (fields_left (option_copied
     c.in-Some.more)) c.in-Some.ensures.found
     (sym c.is_comment.ensures ∙ c.if-is_comment.false) c.requires.flags (sym
@@ -57,9 +61,9 @@ give_lines-requires-then-held-2-clause-short c =
 
 pub returns-then-held-2 : goal.returns-then-held-2
 returns-then-held-2 c =
-    subst (GivesHomes c.give_lines-then-held-2.result c.args.made.now
-    c.give_lines-then-held-2.new.made)
-    (sym (root_given c.args.users.now c.args.firsts.now c.args.number (fields_of
+    subst (GivesHomes c.give_lines-then-held-2.result c.args.giving.now.made
+    c.give_lines-then-held-2.new.giving.made)
+    (sym (root_given c.args.by.now.users.now c.args.by.now.firsts.now c.args.number (fields_of
     c.args.text.now) c.in-Some.first.now (fields_left (option_copied c.in-Some.more))
     c.in-Some.ensures.found
     (sym c.is_comment.ensures ∙ c.if-is_comment.false) c.requires.flags (sym

@@ -7,7 +7,9 @@ use Rattle.path_lookups.proofs.found.add_all_found.Given as goal
 -- the lines so far, and those of the paths that are left
 abbrev pub invariant-paths : goal.invariant-paths
 invariant-paths g l = record {
-  own : IsScratchOf l.rules.rules l.scratch;
-  text : l.to ++ report_of (found_messages l.rules l.kind l.bare (drop l.path-index l.paths))
-      ≡ l.initial.to ++ report_of (found_messages l.rules l.kind l.bare l.paths);
+  own : IsScratchOf l.lookup.rules.now.rules l.scratch;
+  text : l.to ++ report_of (found_messages l.lookup.rules.now l.lookup.kind l.lookup.bare
+      (drop l.path-index l.paths))
+      ≡ l.initial.to ++ report_of
+      (found_messages l.lookup.rules.now l.lookup.kind l.lookup.bare l.paths);
 }
