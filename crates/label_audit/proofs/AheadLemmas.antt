@@ -10,10 +10,11 @@ use Rattle.relabel_core.specs.Walk.{Walk, walk_count, has_changed_name, is_chang
 use Rattle.label_audit.specs.Ahead.{IsAhead}
 use Rattle.label_audit.specs.Skipping.{SkipEndsAt}
 use Rattle.label_audit.specs.declared.ahead.Ahead.{Ahead}
+use Rattle.label_audit.specs.declared.skipping.Cursor.{Cursor}
 use Rattle.label_audit.proofs.SkipLemmas.{covers_none}
 
 -- nothing was looked at
-pub none_ahead : (w : Walk) → IsAhead w 0 (record { clear = 0; end = 0 })
+pub none_ahead : (w : Walk) → IsAhead w 0 (record { clear = record { entry = 0; end = 0 } })
 none_ahead w = record { covers = covers_none w; clear = λ e a b. absurd (omega (arith, b)) }
 
 -- from a later entry on
@@ -22,21 +23,23 @@ ahead_on w d ahead old =
     record { covers = old.covers; clear = λ e a b. old.clear e (omega (arith, a)) b }
 
 -- from an entry on where one has looked less far
-pub ahead_from : (w : Walk) (d end : ℕ) → SkipEndsAt w d end
-    → IsAhead w d (record { clear = d; end = end })
-ahead_from w d end covers =
+pub ahead_from : (w : Walk) (at : Cursor) → SkipEndsAt w at.entry at.end
+    → IsAhead w at.entry (record { clear = at })
+ahead_from w at covers =
     record { covers = covers; clear = λ e a b. absurd (omega (arith, a, b)) }
 
 -- one entry more
 pub ahead_more : (w : Walk) (d end : ℕ) (ahead now : Ahead) → IsAhead w d ahead
-    → is_changed_name w ahead.clear ≡ false → SkipEndsAt w (ahead.clear + 1) end
-    → now ≡ record { clear = ahead.clear + 1; end = end } → IsAhead w d now
+    → is_changed_name w ahead.clear.entry ≡ false → SkipEndsAt w (ahead.clear.entry + 1) end
+    → now ≡ record { clear = record { entry = ahead.clear.entry + 1; end = end } }
+    → IsAhead w d now
 ahead_more w d end ahead now old same covers is =
     subst (λ (a : Ahead). IsAhead w d a) (sym is) (record {
       covers = covers;
-      clear = λ e a b. elim (cases_lt e ahead.clear) [
+      clear = λ e a b. elim (cases_lt e ahead.clear.entry) [
         | inl lt ↦ old.clear e a lt
-        | inr ge ↦ ap (is_changed_name w) {x = e} {y = ahead.clear} (omega (arith, b, ge)) ∙ same
+        | inr ge ↦ ap (is_changed_name w) {x = e} {y = ahead.clear.entry} (omega (arith, b, ge))
+            ∙ same
       ];
     })
 
@@ -60,7 +63,7 @@ found_changed w d e stop within run from before changed =
 -- where one has looked to the end, none does
 pub none_changed : (w : Walk) (d stop : ℕ) (ahead : Ahead)
     → ((x : ℕ) → x < walk_count w → in_extent w.entries d x ≡ (nat_le d x && nat_lt x stop))
-    → IsAhead w d ahead → stop ≤ ahead.clear → false ≡ has_changed_name w d
+    → IsAhead w d ahead → stop ≤ ahead.clear.entry → false ≡ has_changed_name w d
 unfolding has_changed_name
 none_changed w d stop ahead run old past =
     sym (none_from (walk_count w) (λ x. in_extent w.entries d x && is_changed_name w x) (λ e l.

@@ -10,11 +10,11 @@ use Rattle.label_base.proofs.BoundedLemmas.{any_at, any_has, any_same}
 use Rattle.tree_model.specs.Extents.{in_extent}
 use Rattle.tree_model.specs.Tree.{ByPath}
 use Rattle.tree_model.proofs.ExtentLemmas.{in_behind, in_chain, in_itself}
-use Rattle.relabel_core.specs.Passed.{is_covered, renewal, skip_of}
+use Rattle.relabel_core.specs.Swept.{is_covered, renewal, skip_of}
 use Rattle.relabel_core.specs.Walk.{Walk, walk_count, is_skipped, is_skipped_first, skippable}
-use Rattle.relabel_core.specs.declared.passed.Skip.{Skip}
-use Rattle.relabel_core.specs.declared.passed.Skip.TheVariants.{Not, First, Below}
-use Rattle.relabel_core.proofs.PassedLemmas.{none_renewed_if_skipped}
+use Rattle.relabel_core.specs.declared.swept.Skip.{Skip}
+use Rattle.relabel_core.specs.declared.swept.Skip.TheVariants.{Not, First, Below}
+use Rattle.relabel_core.proofs.SweptLemmas.{none_renewed_if_skipped}
 use Rattle.label_audit.specs.Skipping.{SkipEndsAt, IsSkipped}
 use Rattle.label_audit.specs.declared.skipping.Skipped.{Skipped}
 

@@ -6,5 +6,5 @@ use Rattle.label_audit.specs.declared.ahead.Ahead.{Ahead}
 
 -- from the entry d on no name of a group whose label changes was met
 pub record IsAhead (w : Walk) (d : ℕ) (ahead : Ahead) : Type 0 where
-  pub covers : SkipEndsAt w ahead.clear ahead.end
-  pub clear : (e : ℕ) → d ≤ e → e < ahead.clear → is_changed_name w e ≡ false
+  pub covers : SkipEndsAt w ahead.clear.entry ahead.clear.end
+  pub clear : (e : ℕ) → d ≤ e → e < ahead.clear.entry → is_changed_name w e ≡ false

@@ -6,6 +6,7 @@ use Rattle.label_rules.specs.declared.rules.Rules.{Rules}
 use Rattle.relabel_core.specs.Report.{AreRaised, optional_text, unflagged_line}
 use Rattle.relabel_core.specs.Walk.{Walk}
 use Rattle.label_audit.specs.Ahead.{IsAhead}
+use Rattle.label_audit.specs.Looking.{AreReady}
 use Rattle.label_audit.specs.Pieces.{PlacedPiece, differing, differing_in, piece_placed}
 use Rattle.label_audit.specs.declared.compared.Compared.{Compared}
 use Rattle.label_audit.specs.declared.entries.Audit.{Audit}
@@ -32,11 +33,12 @@ is_compared_open (Some file) = is_none file.differs
 -- an audit before its first piece
 pub record IsOpened (w : Walk) (report : List ℕ) (dump : Option (List ℕ)) (audit : Audit)
     : Type 0 where
-  pub report_is : (pieces : List PlacedPiece) → next_behind audit.report pieces ≡ differing pieces
-      report
+  pub report_is : (pieces : List PlacedPiece) → next_behind audit.report.file pieces
+      ≡ differing pieces report
   pub dump_is : (pieces : List PlacedPiece) → behind_of audit.dump pieces ≡ differing_in pieces dump
   pub ahead : IsAhead w 0 audit.ahead
   pub flags : AreRaised w 0 audit.flags.items
+  pub ready : AreReady w audit.lookups
 
 -- the line of a specification whose flag is not raised
 abbrev pub unflagged_piece : Rules → List Bool → ℕ → PlacedPiece

@@ -1,6 +1,6 @@
 -- Which entries are below a directory that is skipped, entry by entry.
 use Rattle.std.specs.Prelude.{◌≡◌, ℕ, ◌+◌, ◌<◌, ◌≤◌, nat_lt}
-use Rattle.relabel_core.specs.Passed.{is_covered, renewal, skip_of}
+use Rattle.relabel_core.specs.Swept.{is_covered, renewal, skip_of}
 use Rattle.relabel_core.specs.Walk.{Walk, walk_count}
 use Rattle.label_audit.specs.declared.skipping.Skipped.{Skipped}
 

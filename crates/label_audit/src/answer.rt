@@ -14,7 +14,7 @@ use crate::entries::entry_path;
 use crate::found::AuditFiles;
 use crate::words::AuditWords;
 use file_paths::PathRef;
-use label_base::{Bytes, OutOfMemory, write_escaped};
+use label_base::{Bytes, OutOfMemory, PiecedText, write_escaped};
 use label_rules::{Rules, spec_at};
 use relabel_core::{Stored, WalkInput, operand_at, walk_input};
 use run_endings::{End, Ending};
@@ -162,7 +162,7 @@ fn ending_over(
 {
     let finding = audit(alloc, input, found.report.as_slice(), dump_of(&found.dump))?;
     Ok(Ending {
-        report: finding_line(alloc, input, finding)?,
+        report: PiecedText::of(alloc, finding_line(alloc, input, finding)?)?,
         end: finding_end(finding),
         saved: None,
     })

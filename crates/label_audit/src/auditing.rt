@@ -1,4 +1,4 @@
-ghost use Rattle.std.specs.Prelude.{◌≡◌, ◌++◌, ◌<◌, [], IfOk, List, OnOk, option_map};
+ghost use Rattle.std.specs.Prelude.{◌≡◌, [], IfOk, List, OnOk};
 ghost use Rattle.std.specs.Option.{option_copied};
 ghost use Rattle.relabel_core.specs.Report.{AreRaised};
 ghost use Rattle.relabel_core.specs.Walked.{IsFit, walk_of};
@@ -11,14 +11,12 @@ ghost use Rattle.label_audit.specs.Pieces.{PlacedPiece, differing_in, dump_piece
 use crate::ahead::Ahead;
 use crate::compared::Compared;
 use crate::entries::{Audit, Texts, audit_entries};
-use crate::lines::{compare_operands, compare_specs};
-use crate::looking::{LookUps, look_ups};
-use label_base::{Bytes, OutOfMemory, Steps};
+use crate::lines::{ComparedReport, compare_operands, compare_specs};
+use crate::looking::look_ups;
+use label_base::{Bytes, OutOfMemory};
 use relabel_core::{WalkInput, no_flags};
 use run_faults::{Finding, Piece};
 use std::alloc::Global;
-use std::marker::Brand;
-use std::sync::ledger::{Blank, Ledger};
 
 fn dump_of<'f>(dump: Option<&'f [u8]>) -> Option<Compared<'f>>
     ensures { (pieces : List PlacedPiece)
@@ -31,58 +29,50 @@ fn dump_of<'f>(dump: Option<&'f [u8]>) -> Option<Compared<'f>>
 }
 
 // An audit before its first piece.
-fn audit_of<'f>(
+fn audit_of<'a, 'f>(
     alloc: Global,
-    input: &WalkInput<'_>,
+    input: &WalkInput<'a>,
     report: &'f [u8],
     dump: Option<&'f [u8]>,
-) -> Result<Audit<'f>, OutOfMemory>
+) -> Result<Audit<'a, 'f>, OutOfMemory>
     ensures { IfOk result (IsOpened (walk_of input.now) report.now (option_copied dump.entry)) }
 {
     let flags = no_flags(alloc, input.rules.rules.len())?;
+    let lookups = look_ups(alloc, input)?;
     Ok(Audit {
-        report: Compared::new(report),
+        report: ComparedReport {
+            file: Compared::new(report),
+            line: Bytes::new(alloc),
+        },
         dump: dump_of(dump),
         ahead: Ahead::new(),
         flags,
         texts: Texts {
-            piece: Bytes::new(alloc),
+            section: Bytes::new(alloc),
             spelled: Bytes::new(alloc),
         },
+        lookups,
     })
 }
 
-// Compares all pieces, by look-ups that nobody counts.
-fn compare_all<L: Ledger>(
+fn compare_all(
     alloc: Global,
     input: &WalkInput<'_>,
-    lookups: &mut LookUps<'_>,
-    audit: &mut Audit<'_>,
-    blank: Blank,
+    audit: &mut Audit<'_, '_>,
 ) -> Result<(), OutOfMemory>
     requires fit { IsFit input.now }
-    requires name { blank.name ≡ L.name }
-    requires parts { blank.parts ≡ L.parts }
-    requires some { 0 < blank.parts }
-    requires ready { AreReady (walk_of input.now) lookups.old }
+    requires ready { AreReady (walk_of input.now) audit.old.lookups }
     requires ahead { IsAhead (walk_of input.now) 0 audit.old.ahead }
     requires flags { AreRaised (walk_of input.now) 0 audit.old.flags.items }
-    ensures report { OnOk result (next_behind audit.new.report []
-        ≡ next_behind audit.old.report (report_pieces (walk_of input.now) input.now.operands.now
-        input.now.chosen.now.absent)) }
+    ensures report { OnOk result (next_behind audit.new.report.file []
+        ≡ next_behind audit.old.report.file (report_pieces (walk_of input.now)
+        input.now.operands.now input.now.chosen.now.absent)) }
     ensures dump { OnOk result (behind_of audit.new.dump []
         ≡ behind_of audit.old.dump (dump_pieces (walk_of input.now))) }
 {
-    let mut steps = Steps::<L>::open(blank);
-    compare_operands(alloc, input, &mut audit.texts.piece, &mut audit.report)?;
-    audit_entries(alloc, input, lookups, audit, &mut steps)?;
-    compare_specs(
-        alloc,
-        input,
-        audit.flags.as_slice(),
-        &mut audit.texts.piece,
-        &mut audit.report,
-    )?;
+    compare_operands(alloc, input, &mut audit.report)?;
+    audit_entries(alloc, input, audit)?;
+    compare_specs(alloc, input, audit.flags.as_slice(), &mut audit.report)?;
     Ok(())
 }
 
@@ -107,24 +97,6 @@ fn finding_by(report: Option<Piece>, dump: Option<Piece>) -> Finding
     }
 }
 
-// What is found by these look-ups.
-fn audit_by(
-    alloc: Global,
-    input: &WalkInput<'_>,
-    report: &[u8],
-    dump: Option<&[u8]>,
-    lookups: &mut LookUps<'_>,
-) -> Result<Finding, OutOfMemory>
-    requires fit { IsFit input.now }
-    requires ready { AreReady (walk_of input.now) lookups.old }
-    ensures { IfOk result (λ finding. finding ≡ finding_of (walk_of input.now)
-        input.now.operands.now input.now.chosen.now.absent report.now (option_copied dump.entry)) }
-{
-    let mut audit = audit_of(alloc, input, report, dump)?;
-    compare_all::<Brand>(alloc, input, lookups, &mut audit, Blank::new(1))?;
-    Ok(finding_by(audit.report.end(), end_of(&audit.dump)))
-}
-
 /// Compares a report, and a dump where there is one, with those of a walk, piece by piece: it
 /// answers the first piece of the report that doesn't stand where those before it end, else the
 /// same of the dump. It takes memory for the piece at hand, and for the winner of each inode whose
@@ -139,6 +111,7 @@ pub fn audit(
     ensures { IfOk result (λ finding. finding ≡ finding_of (walk_of input.now)
         input.now.operands.now input.now.chosen.now.absent report.now (option_copied dump.entry)) }
 {
-    let mut lookups = look_ups(alloc, input)?;
-    audit_by(alloc, input, report, dump, &mut lookups)
+    let mut audit = audit_of(alloc, input, report, dump)?;
+    compare_all(alloc, input, &mut audit)?;
+    Ok(finding_by(audit.report.file.end(), end_of(&audit.dump)))
 }

@@ -1,6 +1,6 @@
 ghost use Rattle.std.specs.Prelude.{◌≡◌, ◌<◌, ◌&&◌, IfOk, OnOk, None, is_some, not};
 ghost use Rattle.relabel_core.specs.Changes.{digest_change};
-ghost use Rattle.relabel_core.specs.Passed.{renewal};
+ghost use Rattle.relabel_core.specs.Swept.{renewal};
 ghost use Rattle.relabel_core.specs.Walk.{walk_count};
 ghost use Rattle.relabel_core.specs.Walked.{IsFit, walk_of};
 ghost use Rattle.label_audit.specs.Ahead.{IsAhead};
@@ -8,12 +8,12 @@ ghost use Rattle.label_audit.specs.Looking.{AreReady};
 ghost use Rattle.label_audit.specs.Skipping.{SkipEndsAt};
 
 use crate::ahead::{Ahead, has_changed};
-use crate::looking::LookUps;
+use crate::looking::{FoundEntry, LookUps};
+use crate::skipping::Cursor;
 use dir_digest::Digest;
-use label_base::{OutOfMemory, Steps};
+use label_base::OutOfMemory;
 use relabel_core::{WalkInput, digest_change, unless_stored};
 use std::alloc::Global;
-use std::sync::ledger::Ledger;
 
 // Whether a digest is stored for an entry, and may give way to the void one.
 fn may_change(input: &WalkInput<'_>, e: u32) -> bool
@@ -24,56 +24,51 @@ fn may_change(input: &WalkInput<'_>, e: u32) -> bool
 
 // The digest to which that of an entry changes that isn't made anew. One looks ahead only where one
 // is stored.
-fn digest_voided<L: Ledger>(
+fn digest_voided(
     alloc: Global,
     input: &WalkInput<'_>,
-    e: u32,
-    end: u32,
+    at: Cursor,
     lookups: &mut LookUps<'_>,
     ahead: &mut Ahead,
-    steps: &mut Steps<L>,
 ) -> Result<Option<Digest>, OutOfMemory>
     requires fit { IsFit input.now }
-    requires entry { e < walk_count (walk_of input.now) }
-    requires covers { SkipEndsAt (walk_of input.now) e end }
-    requires renewed { None ≡ renewal (walk_of input.now) e }
+    requires entry { at.entry < walk_count (walk_of input.now) }
+    requires covers { SkipEndsAt (walk_of input.now) at.entry at.end }
+    requires renewed { None ≡ renewal (walk_of input.now) at.entry }
     requires ready { AreReady (walk_of input.now) lookups.old }
-    requires ahead { IsAhead (walk_of input.now) e ahead.old }
+    requires ahead { IsAhead (walk_of input.now) at.entry ahead.old }
     ensures ready { OnOk result (AreReady (walk_of input.now) lookups.new) }
-    ensures ahead { OnOk result (IsAhead (walk_of input.now) e ahead.new) }
-    ensures found { IfOk result (λ found. found ≡ digest_change (walk_of input.now) e) }
+    ensures ahead { OnOk result (IsAhead (walk_of input.now) at.entry ahead.new) }
+    ensures found { IfOk result (λ found. found ≡ digest_change (walk_of input.now) at.entry) }
 {
-    if !may_change(input, e) {
-        return Ok(digest_change(input, e, None, false));
+    if !may_change(input, at.entry) {
+        return Ok(digest_change(input, at.entry, None, false));
     }
-    let changed = has_changed(alloc, input, e, end, lookups, ahead, steps)?;
-    Ok(digest_change(input, e, None, changed))
+    let changed = has_changed(alloc, input, at, lookups, ahead)?;
+    Ok(digest_change(input, at.entry, None, changed))
 }
 
-/// The digest to which that of an entry changes, which gets this one anew. Of the entries from it
-/// on, those before `end` are below a directory before it that is skipped.
-pub fn digest_at<L: Ledger>(
+/// The digest to which that of an entry changes.
+pub fn digest_at(
     alloc: Global,
     input: &WalkInput<'_>,
-    e: u32,
-    end: u32,
-    renewed: Option<Digest>,
+    found: &FoundEntry<'_>,
     lookups: &mut LookUps<'_>,
     ahead: &mut Ahead,
-    steps: &mut Steps<L>,
 ) -> Result<Option<Digest>, OutOfMemory>
     requires fit { IsFit input.now }
-    requires entry { e < walk_count (walk_of input.now) }
-    requires covers { SkipEndsAt (walk_of input.now) e end }
-    requires renewed { renewed ≡ renewal (walk_of input.now) e }
+    requires entry { found.now.at.entry < walk_count (walk_of input.now) }
+    requires covers { SkipEndsAt (walk_of input.now) found.now.at.entry found.now.at.end }
+    requires renewed { found.now.renewed ≡ renewal (walk_of input.now) found.now.at.entry }
     requires ready { AreReady (walk_of input.now) lookups.old }
-    requires ahead { IsAhead (walk_of input.now) e ahead.old }
+    requires ahead { IsAhead (walk_of input.now) found.now.at.entry ahead.old }
     ensures ready { OnOk result (AreReady (walk_of input.now) lookups.new) }
-    ensures ahead { OnOk result (IsAhead (walk_of input.now) e ahead.new) }
-    ensures found { IfOk result (λ found. found ≡ digest_change (walk_of input.now) e) }
+    ensures ahead { OnOk result (IsAhead (walk_of input.now) found.now.at.entry ahead.new) }
+    ensures found { IfOk result (λ digest.
+        digest ≡ digest_change (walk_of input.now) found.now.at.entry) }
 {
-    match renewed {
-        Some(digest) => Ok(unless_stored(digest, input.stored.get(e))),
-        None => digest_voided(alloc, input, e, end, lookups, ahead, steps),
+    match found.renewed {
+        Some(digest) => Ok(unless_stored(digest, input.stored.get(found.at.entry))),
+        None => digest_voided(alloc, input, found.at, lookups, ahead),
     }
 }

@@ -7,6 +7,7 @@ mod ahead;
 mod answer;
 mod auditing;
 mod compared;
+mod deciding;
 mod digests;
 mod entries;
 mod found;

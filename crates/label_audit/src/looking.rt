@@ -1,22 +1,20 @@
 ghost use Rattle.std.specs.Prelude.{◌≡◌, ◌<◌, IfOk, OnOk};
 ghost use Rattle.tree_model.specs.Groups.{group_of};
 ghost use Rattle.relabel_core.specs.KnownEntry.{index_known, walk_known};
-ghost use Rattle.relabel_core.specs.Passed.{skip_of};
+ghost use Rattle.relabel_core.specs.Swept.{skip_of};
 ghost use Rattle.relabel_core.specs.Walk.{walk_count, deciding, is_skipped};
 ghost use Rattle.relabel_core.specs.Walked.{IsFit, walk_of};
 ghost use Rattle.label_audit.specs.Looking.{AreReady};
 ghost use Rattle.label_audit.specs.Skipping.{SkipEndsAt, IsSkipped};
 ghost use Rattle.label_audit.specs.Winners.{IsWinner};
 
-use crate::skipping::{Skipped, skip_entry};
+use crate::deciding::{LookedUp, decide};
+use crate::skipping::{Cursor, Skipped, skip_entry};
 use crate::winners::{NO_WINNER, Winner, Winners, winner_of};
-use dir_digest::Listings;
-use label_base::{OutOfMemory, Steps};
-use relabel_core::{
-    Buffers, Known, Skip, WalkInput, buffers_for, decide_entry, does_skip, listings_by,
-};
+use dir_digest::{Digest, Listings};
+use label_base::OutOfMemory;
+use relabel_core::{Buffers, Known, Skip, WalkInput, buffers_for, does_skip, listings_by};
 use std::alloc::Global;
-use std::sync::ledger::Ledger;
 
 /// What the entries of a walk are looked up with.
 #[derive(Drop)]
@@ -24,6 +22,15 @@ pub struct LookUps<'a> {
     pub listings: Listings<'a>,
     pub buffers: Buffers,
     pub winners: Winners,
+}
+
+/// What is found of an entry.
+#[derive(Clone, Copy)]
+pub struct FoundEntry<'a> {
+    pub at: Cursor,
+    pub known: Known<'a>,
+    /// The digest that it gets anew.
+    pub renewed: Option<Digest>,
 }
 
 /// Look-ups for a walk, of which none was made yet.
@@ -39,70 +46,65 @@ pub fn look_ups<'a>(alloc: Global, input: &WalkInput<'a>) -> Result<LookUps<'a>,
     })
 }
 
-// The winner of the group of an entry that this specification decides.
-fn winner_unless<L: Ledger>(
+// The winner of the group of an entry; none where the entry is skipped.
+fn winner_unless(
     alloc: Global,
     input: &WalkInput<'_>,
-    e: u32,
+    own: LookedUp,
     skipped: bool,
-    decided: Option<u32>,
     lookups: &mut LookUps<'_>,
-    steps: &mut Steps<L>,
 ) -> Result<Winner, OutOfMemory>
     requires fit { IsFit input.now }
-    requires entry { e < walk_count (walk_of input.now) }
-    requires skipped { skipped ≡ is_skipped (walk_of input.now) e }
-    requires decided { decided ≡ deciding (walk_of input.now) e }
+    requires entry { own.entry < walk_count (walk_of input.now) }
+    requires decided { own.spec ≡ deciding (walk_of input.now) own.entry }
+    requires skipped { skipped ≡ is_skipped (walk_of input.now) own.entry }
     requires ready { AreReady (walk_of input.now) lookups.old }
     ensures ready { OnOk result (AreReady (walk_of input.now) lookups.new) }
-    ensures found { IfOk result (IsWinner (walk_of input.now) (group_of input.now.tree.now e)) }
+    ensures found { IfOk result
+        (IsWinner (walk_of input.now) (group_of input.now.tree.now own.entry)) }
 {
     if skipped {
         return Ok(NO_WINNER);
     }
     let scratch = &mut lookups.buffers.scratch;
-    winner_of(
-        alloc,
-        input,
-        e,
-        decided,
-        scratch,
-        &mut lookups.winners,
-        steps,
-    )
+    winner_of(alloc, input, own, scratch, &mut lookups.winners)
 }
 
-/// What is known of an entry of which it is known whether it is skipped, and what decides it.
-pub fn known_of<'a, L: Ledger>(
+/// What is known of an entry that was looked up, and of which it is known whether it is skipped.
+pub fn known_of<'a>(
     alloc: Global,
     input: &WalkInput<'a>,
-    e: u32,
+    own: LookedUp,
     skip: Skip,
-    decided: Option<u32>,
     lookups: &mut LookUps<'_>,
-    steps: &mut Steps<L>,
 ) -> Result<Known<'a>, OutOfMemory>
     requires fit { IsFit input.now }
-    requires entry { e < walk_count (walk_of input.now) }
-    requires skip { skip ≡ skip_of (walk_of input.now) e }
-    requires decided { decided ≡ deciding (walk_of input.now) e }
+    requires entry { own.entry < walk_count (walk_of input.now) }
+    requires decided { own.spec ≡ deciding (walk_of input.now) own.entry }
+    requires skip { skip ≡ skip_of (walk_of input.now) own.entry }
     requires ready { AreReady (walk_of input.now) lookups.old }
     ensures ready { OnOk result (AreReady (walk_of input.now) lookups.new) }
     ensures walk { IfOk result (λ known. walk_known known ≡ walk_of input.now) }
-    ensures index { IfOk result (λ known. index_known known ≡ e) }
+    ensures index { IfOk result (λ known. index_known known ≡ own.entry) }
 {
-    let winner = winner_unless(alloc, input, e, does_skip(skip), decided, lookups, steps)?;
-    Ok(Known::new(input, e, skip, decided, winner.name, winner.decided))
+    let winner = winner_unless(alloc, input, own, does_skip(skip), lookups)?;
+    Ok(Known::new(
+        input,
+        own.entry,
+        skip,
+        own.spec,
+        winner.name,
+        winner.decided,
+    ))
 }
 
 /// The specification that decides an entry of which it is known whether it is skipped.
-pub fn decide_at<L: Ledger>(
+pub fn decide_at(
     alloc: Global,
     input: &WalkInput<'_>,
     e: u32,
     skip: Skip,
     lookups: &mut LookUps<'_>,
-    steps: &mut Steps<L>,
 ) -> Result<Option<u32>, OutOfMemory>
     requires fit { IsFit input.now }
     requires entry { e < walk_count (walk_of input.now) }
@@ -112,31 +114,22 @@ pub fn decide_at<L: Ledger>(
     ensures found { IfOk result (λ found. found ≡ deciding (walk_of input.now) e) }
 {
     let scratch = &mut lookups.buffers.scratch;
-    decide_entry(alloc, input, e, does_skip(skip), scratch, steps)
+    decide(alloc, input, e, does_skip(skip), scratch)
 }
 
-/// Finds whether an entry is skipped, and the digest that it gets anew. Of the entries from it on,
-/// those before `end` are below a directory before it that is skipped.
+/// Finds whether an entry is skipped, and the digest that it gets anew.
 pub fn skip_at(
     alloc: Global,
     input: &WalkInput<'_>,
-    e: u32,
-    end: u32,
+    at: Cursor,
     lookups: &mut LookUps<'_>,
 ) -> Result<Skipped, OutOfMemory>
     requires fit { IsFit input.now }
-    requires entry { e < walk_count (walk_of input.now) }
-    requires covers { SkipEndsAt (walk_of input.now) e end }
+    requires entry { at.entry < walk_count (walk_of input.now) }
+    requires covers { SkipEndsAt (walk_of input.now) at.entry at.end }
     requires ready { AreReady (walk_of input.now) lookups.old }
     ensures ready { OnOk result (AreReady (walk_of input.now) lookups.new) }
-    ensures found { IfOk result (IsSkipped (walk_of input.now) e) }
+    ensures found { IfOk result (IsSkipped (walk_of input.now) at.entry) }
 {
-    skip_entry(
-        alloc,
-        input,
-        e,
-        end,
-        &lookups.listings,
-        &mut lookups.buffers,
-    )
+    skip_entry(alloc, input, at, &lookups.listings, &mut lookups.buffers)
 }

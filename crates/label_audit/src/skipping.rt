@@ -1,8 +1,8 @@
 ghost use Rattle.std.specs.Prelude.{◌≡◌, ◌<◌, ◌≤◌, IfOk};
-ghost use Rattle.dir_digest.specs.Listings.{terms_in};
+ghost use Rattle.dir_digest.specs.Listings.{basis_in};
 ghost use Rattle.spec_match.specs.Scratches.{IsScratchOf};
-ghost use Rattle.relabel_core.specs.Passed.{needed};
-ghost use Rattle.relabel_core.specs.Terms.{terms_by};
+ghost use Rattle.relabel_core.specs.Swept.{needed};
+ghost use Rattle.relabel_core.specs.DigestBasis.{basis_by};
 ghost use Rattle.relabel_core.specs.Walk.{walk_count, skippable};
 ghost use Rattle.relabel_core.specs.Walked.{IsFit, walk_of};
 ghost use Rattle.label_audit.specs.Skipping.{SkipEndsAt, IsSkipped};
@@ -11,6 +11,14 @@ use dir_digest::{Digest, Listings};
 use label_base::OutOfMemory;
 use relabel_core::{Buffers, Finding, Skip, WalkInput, find_directory, renewed_digest};
 use std::alloc::Global;
+
+/// An entry that an audit has come to. Of the entries from it on, those before `end` are below a
+/// directory before it that is skipped.
+#[derive(Clone, Copy)]
+pub struct Cursor {
+    pub entry: u32,
+    pub end: u32,
+}
 
 /// What is found of an entry as a directory.
 #[derive(Clone, Copy)]
@@ -24,54 +32,52 @@ pub struct Skipped {
 }
 
 // What is found of an entry that is below no directory that is skipped.
-fn skip_found(input: &WalkInput<'_>, e: u32, end: u32, found: &Finding) -> Skipped
+fn skip_found(input: &WalkInput<'_>, at: Cursor, found: &Finding) -> Skipped
     requires fit { IsFit input.now }
-    requires entry { e < walk_count (walk_of input.now) }
-    requires outside { end ≤ e }
-    requires covers { SkipEndsAt (walk_of input.now) e end }
-    requires digest { found.now.digest ≡ needed (walk_of input.now) e }
-    requires skippable { found.now.skippable ≡ skippable (walk_of input.now) e }
-    ensures { IsSkipped (walk_of input.now) e result }
+    requires entry { at.entry < walk_count (walk_of input.now) }
+    requires covers { SkipEndsAt (walk_of input.now) at.entry at.end }
+    requires outside { at.end ≤ at.entry }
+    requires digest { found.now.digest ≡ needed (walk_of input.now) at.entry }
+    requires skippable { found.now.skippable ≡ skippable (walk_of input.now) at.entry }
+    ensures { IsSkipped (walk_of input.now) at.entry result }
 {
     if found.skippable {
         return Skipped {
             skip: Skip::First,
             renewed: None,
-            end: input.tree.extent(e),
+            end: input.tree.extent(at.entry),
         };
     }
     Skipped {
         skip: Skip::Not,
-        renewed: renewed_digest(input, e, found.digest, false),
-        end,
+        renewed: renewed_digest(input, at.entry, found.digest, false),
+        end: at.end,
     }
 }
 
-/// Finds whether an entry is skipped, and the digest that it gets anew. Of the entries from it on,
-/// those before `end` are below a directory before it that is skipped.
+/// Finds whether an entry is skipped, and the digest that it gets anew.
 pub fn skip_entry(
     alloc: Global,
     input: &WalkInput<'_>,
-    e: u32,
-    end: u32,
+    at: Cursor,
     listings: &Listings<'_>,
     buffers: &mut Buffers,
 ) -> Result<Skipped, OutOfMemory>
     requires fit { IsFit input.now }
-    requires entry { e < walk_count (walk_of input.now) }
-    requires covers { SkipEndsAt (walk_of input.now) e end }
-    requires listings { terms_in listings.now ≡ terms_by input.now.rules.now input.now.options }
+    requires entry { at.entry < walk_count (walk_of input.now) }
+    requires covers { SkipEndsAt (walk_of input.now) at.entry at.end }
+    requires listings { basis_in listings.now ≡ basis_by input.now.rules.now input.now.options }
     requires own { IsScratchOf input.now.rules.now.rules buffers.old.scratch }
     ensures own { IsScratchOf input.now.rules.now.rules buffers.new.scratch }
-    ensures found { IfOk result (IsSkipped (walk_of input.now) e) }
+    ensures found { IfOk result (IsSkipped (walk_of input.now) at.entry) }
 {
-    if e < end {
+    if at.entry < at.end {
         return Ok(Skipped {
             skip: Skip::Below,
             renewed: None,
-            end,
+            end: at.end,
         });
     }
-    let found = find_directory(alloc, input, e, listings, buffers)?;
-    Ok(skip_found(input, e, end, &found))
+    let found = find_directory(alloc, input, at.entry, listings, buffers)?;
+    Ok(skip_found(input, at, &found))
 }

@@ -8,13 +8,13 @@ ghost use Rattle.relabel_core.specs.Walk.{walk_count, deciding, is_skipped};
 ghost use Rattle.relabel_core.specs.Walked.{IsFit, walk_of};
 ghost use Rattle.label_audit.specs.Winners.{AreWinnersKept, IsWinner, winner_if};
 
-use label_base::{OutOfMemory, Steps};
+use crate::deciding::{LookedUp, decide};
+use label_base::OutOfMemory;
 use label_rules::does_give;
-use relabel_core::{WalkInput, decide_entry};
+use relabel_core::WalkInput;
 use spec_match::Scratch;
 use std::alloc::Global;
 use std::collections::BTreeMap;
-use std::sync::ledger::Ledger;
 
 /// The winner of a group of names, and the specification that decides it; both none where none of
 /// the names is decided to a context.
@@ -34,28 +34,27 @@ pub const NO_WINNER: Winner = Winner {
 /// names of each are gone through once.
 pub type Winners = BTreeMap<u32, Winner>;
 
-// An entry that this specification decides, where that gives a context.
+// An entry, where the specification that decides it gives a context.
 #[tactic(auto, unfolding(relabel_core::specs::Walk::wanted))]
-fn winner_if(input: &WalkInput<'_>, e: u32, decided: Option<u32>) -> Winner
-    requires { decided ≡ deciding (walk_of input.now) e }
-    ensures { result ≡ winner_if (walk_of input.now) e }
+fn winner_if(input: &WalkInput<'_>, own: LookedUp) -> Winner
+    requires { own.spec ≡ deciding (walk_of input.now) own.entry }
+    ensures { result ≡ winner_if (walk_of input.now) own.entry }
 {
-    if does_give(input.rules, decided) {
+    if does_give(input.rules, own.spec) {
         return Winner {
-            name: Some(e),
-            decided,
+            name: Some(own.entry),
+            decided: own.spec,
         };
     }
     NO_WINNER
 }
 
 // Decides an entry that isn't skipped.
-fn decide_name<L: Ledger>(
+fn decide_name(
     alloc: Global,
     input: &WalkInput<'_>,
     e: u32,
     scratch: &mut Scratch,
-    steps: &mut Steps<L>,
 ) -> Result<Winner, OutOfMemory>
     requires fit { IsFit input.now }
     requires entry { e < walk_count (walk_of input.now) }
@@ -64,18 +63,17 @@ fn decide_name<L: Ledger>(
     ensures own { IsScratchOf input.now.rules.now.rules scratch.new }
     ensures found { IfOk result (λ found. found ≡ winner_if (walk_of input.now) e) }
 {
-    let decided = decide_entry(alloc, input, e, false, scratch, steps)?;
-    Ok(winner_if(input, e, decided))
+    let spec = decide(alloc, input, e, false, scratch)?;
+    Ok(winner_if(input, LookedUp { entry: e, spec }))
 }
 
 // The winner of the group of an entry that isn't skipped, among its names: none of these is, then.
-fn search_names<L: Ledger>(
+fn search_names(
     alloc: Global,
     input: &WalkInput<'_>,
     e: u32,
     names: &[u32],
     scratch: &mut Scratch,
-    steps: &mut Steps<L>,
 ) -> Result<Winner, OutOfMemory>
     requires fit { IsFit input.now }
     requires entry { e < walk_count (walk_of input.now) }
@@ -86,7 +84,7 @@ fn search_names<L: Ledger>(
     ensures found { IfOk result (IsWinner (walk_of input.now) (group_of input.now.tree.now e)) }
 {
     'names: for name in names {
-        let found = decide_name(alloc, input, *name, scratch, steps)?;
+        let found = decide_name(alloc, input, *name, scratch)?;
         if found.name.is_some() {
             return Ok(found);
         }
@@ -113,13 +111,12 @@ fn keep_winner(group: u32, winner: Winner, winners: &mut Winners) -> Result<(), 
 }
 
 // The same, where it isn't kept already; it is then.
-fn later_winner<L: Ledger>(
+fn later_winner(
     alloc: Global,
     input: &WalkInput<'_>,
     e: u32,
     scratch: &mut Scratch,
     winners: &mut Winners,
-    steps: &mut Steps<L>,
 ) -> Result<Winner, OutOfMemory>
     requires fit { IsFit input.now }
     requires entry { e < walk_count (walk_of input.now) }
@@ -136,34 +133,32 @@ fn later_winner<L: Ledger>(
         None => {}
     }
     let names = input.tree.names_of(group);
-    let winner = search_names(alloc, input, e, names, scratch, steps)?;
+    let winner = search_names(alloc, input, e, names, scratch)?;
     keep_winner(group, winner, winners)?;
     Ok(winner)
 }
 
-// The first name of the group of an entry that isn't skipped, and that this specification decides,
-// where that name is decided to a context.
-fn first_winner<L: Ledger>(
+// The first name of the group of an entry that isn't skipped, where that name is decided to a
+// context.
+fn first_winner(
     alloc: Global,
     input: &WalkInput<'_>,
-    e: u32,
-    decided: Option<u32>,
+    own: LookedUp,
     first: u32,
     scratch: &mut Scratch,
-    steps: &mut Steps<L>,
 ) -> Result<Winner, OutOfMemory>
     requires fit { IsFit input.now }
     requires entry { first < walk_count (walk_of input.now) }
     requires left { is_skipped (walk_of input.now) first ≡ false }
-    requires decided { decided ≡ deciding (walk_of input.now) e }
+    requires decided { own.spec ≡ deciding (walk_of input.now) own.entry }
     requires own { IsScratchOf input.now.rules.now.rules scratch.old }
     ensures own { IsScratchOf input.now.rules.now.rules scratch.new }
     ensures found { IfOk result (λ found. found ≡ winner_if (walk_of input.now) first) }
 {
-    if first == e {
-        return Ok(winner_if(input, e, decided));
+    if first == own.entry {
+        return Ok(winner_if(input, own));
     }
-    decide_name(alloc, input, first, scratch, steps)
+    decide_name(alloc, input, first, scratch)
 }
 
 fn first_of(names: &[u32]) -> u32
@@ -173,34 +168,33 @@ fn first_of(names: &[u32]) -> u32
     names[0]
 }
 
-/// The winner of the group of an entry that isn't skipped, and that this specification decides.
-pub fn winner_of<L: Ledger>(
+/// The winner of the group of an entry that isn't skipped.
+pub fn winner_of(
     alloc: Global,
     input: &WalkInput<'_>,
-    e: u32,
-    decided: Option<u32>,
+    own: LookedUp,
     scratch: &mut Scratch,
     winners: &mut Winners,
-    steps: &mut Steps<L>,
 ) -> Result<Winner, OutOfMemory>
     requires fit { IsFit input.now }
-    requires entry { e < walk_count (walk_of input.now) }
-    requires left { is_skipped (walk_of input.now) e ≡ false }
-    requires decided { decided ≡ deciding (walk_of input.now) e }
+    requires entry { own.entry < walk_count (walk_of input.now) }
+    requires left { is_skipped (walk_of input.now) own.entry ≡ false }
+    requires decided { own.spec ≡ deciding (walk_of input.now) own.entry }
     requires own { IsScratchOf input.now.rules.now.rules scratch.old }
     requires winners { AreWinnersKept (walk_of input.now) winners.old }
     ensures own { IsScratchOf input.now.rules.now.rules scratch.new }
     ensures winners { OnOk result (AreWinnersKept (walk_of input.now) winners.new) }
-    ensures found { IfOk result (IsWinner (walk_of input.now) (group_of input.now.tree.now e)) }
+    ensures found { IfOk result
+        (IsWinner (walk_of input.now) (group_of input.now.tree.now own.entry)) }
 {
-    let names = input.tree.names_of(input.tree.group(e));
+    let names = input.tree.names_of(input.tree.group(own.entry));
     let first = first_of(names);
-    let found = first_winner(alloc, input, e, decided, first, scratch, steps)?;
+    let found = first_winner(alloc, input, own, first, scratch)?;
     if found.name.is_some() {
         return Ok(found);
     }
     if names.len() == 1 {
         return Ok(NO_WINNER);
     }
-    later_winner(alloc, input, e, scratch, winners, steps)
+    later_winner(alloc, input, own.entry, scratch, winners)
 }

@@ -4,22 +4,25 @@ use Rattle.label_audit.proofs.AheadLemmas.{ahead_more, found_changed, none_chang
 use Rattle.label_audit.proofs.ahead.look_on.Goals as goal
 
 pub returns-then-seen-clause-found : goal.returns-then-seen-clause-found
-returns-then-seen-clause-found g c =
-    found_changed (walk_of c.args.input.now) c.args.d c.entries.ahead.clear c.args.stop
-    c.requires.within c.requires.run c.entries.invariant.from
+returns-then-seen-clause-found c =
+    found_changed (walk_of c.args.input.now) c.args.d c.entries.ahead.clear.entry
+    c.extent-stop.result
+    c.extent-stop.ensures.within c.extent-stop.ensures.run c.entries.invariant.from
     c.entries-test.true (sym c.in_ok-seen.ensures.changed ∙ c.if-seen.true)
 
 pub entries-preserved : goal.entries-preserved
-entries-preserved g c = record {
+entries-preserved c = record {
   ready = c.in_ok-seen.ensures.ready;
   ahead = ahead_more (walk_of c.args.input.now) c.args.d c.in_ok-seen.seen.end c.entries.ahead
-      (record { clear = c.entries.ahead.clear + 1; end = c.in_ok-seen.seen.end })
+      (record {
+        clear = record { entry = c.entries.ahead.clear.entry + 1; end = c.in_ok-seen.seen.end };
+      })
       c.entries.invariant.ahead (sym c.in_ok-seen.ensures.changed ∙ c.if-seen.false)
       c.in_ok-seen.ensures.covers refl;
   from = omega (arith, c.entries.invariant.from);
 }
 
 pub returns-clause-found : goal.returns-clause-found
-returns-clause-found g c =
-    none_changed (walk_of c.args.input.now) c.args.d c.args.stop c.entries.ahead c.requires.run
-    c.entries.invariant.ahead c.entries-test.false
+returns-clause-found c =
+    none_changed (walk_of c.args.input.now) c.args.d c.extent-stop.result c.entries.ahead
+    c.extent-stop.ensures.run c.entries.invariant.ahead c.entries-test.false

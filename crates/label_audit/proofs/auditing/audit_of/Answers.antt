@@ -8,7 +8,8 @@ returns c =
     record {
       report_is = c.new.ensures;
       dump_is = c.dump_of.ensures;
-      ahead = c.new-2.ensures w;
+      ahead = c.new-3.ensures w;
       flags = none_raised w c.len.result c.in_ok-flags.flags.items c.len.ensures
           c.in_ok-flags.ensures;
+      ready = c.in_ok-lookups.ensures;
     }

@@ -5,8 +5,8 @@ use Rattle.relabel_core.proofs.ChangeLemmas.{change_renewed}
 use Rattle.label_audit.proofs.digests.digest_at.Goals as goal
 
 pub returns-in-Some-clause-found : goal.returns-in-Some-clause-found
-returns-in-Some-clause-found g c =
+returns-in-Some-clause-found c =
     let digest = c.in-Some.digest in
     c.unless_stored.ensures ∙ ap (λ stored. unless_stored digest stored) c.get.ensures
-    ∙ sym (change_renewed (walk_of c.args.input.now) c.args.e digest
+    ∙ sym (change_renewed (walk_of c.args.input.now) c.args.found.now.at.entry digest
     (sym c.requires.renewed ∙ c.in-Some.is))

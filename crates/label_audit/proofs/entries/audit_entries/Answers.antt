@@ -13,7 +13,7 @@ use Rattle.label_audit.proofs.SkipLemmas.{covers_none}
 use Rattle.label_audit.proofs.entries.audit_entries.Goals as goal
 
 pub entries-init : goal.entries-init
-entries-init g c = record {
+entries-init c = record {
   ready = c.requires.ready;
   covers = covers_none (walk_of c.args.input.now);
   ahead = c.requires.ahead;
@@ -23,17 +23,17 @@ entries-init g c = record {
 }
 
 pub entries-preserved : goal.entries-preserved
-entries-preserved g c =
+entries-preserved c =
     let w = walk_of c.args.input.now in
-    let e = c.entries.e in
-    let here : e < walk_count w = omega (arith, c.entries-test.true, c.len-e-end.ensures) in
+    let e = c.entries.entry in
+    let here : e < walk_count w = omega (arith, c.entries-test.true, c.len-entry-end.ensures) in
     record {
       ready = c.in_ok-end.ensures.ready;
       covers = c.in_ok-end.ensures.covers;
       ahead = c.in_ok-end.ensures.ahead;
       flags = c.in_ok-end.ensures.flags;
-      report = next_compared (next_behind c.entries.audit.report)
-          (next_behind c.audit_entry.new.audit.report) _ (entry_pieces w) e (entry_piece w e)
+      report = next_compared (next_behind c.entries.audit.report.file)
+          (next_behind c.audit_entry.new.audit.report.file) _ (entry_pieces w) e (entry_piece w e)
           (omega (
             arith,
             here,
@@ -55,13 +55,13 @@ entries-preserved g c =
     }
 
 pub returns-clause-report : goal.returns-clause-report
-returns-clause-report g c =
+returns-clause-report c =
     let w = walk_of c.args.input.now in
-    all_compared (next_behind c.entries.audit.report) _ (entry_pieces w) c.entries.e
+    all_compared (next_behind c.entries.audit.report.file) _ (entry_pieces w) c.entries.entry
     (omega (
       arith,
       c.entries-test.false,
-      c.len-e-end.ensures,
+      c.len-entry-end.ensures,
       length-map
           (all_numbers (walk_count w)) (entry_piece w),
       count_numbers (walk_count w),
@@ -69,13 +69,13 @@ returns-clause-report g c =
     c.entries.invariant.report
 
 pub returns-clause-dump : goal.returns-clause-dump
-returns-clause-dump g c =
+returns-clause-dump c =
     let w = walk_of c.args.input.now in
-    all_compared (behind_of c.entries.audit.dump) _ (dump_pieces w) c.entries.e
+    all_compared (behind_of c.entries.audit.dump) _ (dump_pieces w) c.entries.entry
     (omega (
       arith,
       c.entries-test.false,
-      c.len-e-end.ensures,
+      c.len-entry-end.ensures,
       length-map
           (all_numbers (walk_count w)) (section_piece w),
       count_numbers (walk_count w),

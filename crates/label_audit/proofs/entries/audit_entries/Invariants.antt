@@ -10,15 +10,15 @@ use Rattle.label_audit.proofs.entries.audit_entries.Given as goal
 
 -- the pieces left, behind those that were compared
 abbrev pub invariant-entries : goal.invariant-entries
-invariant-entries g l = record {
-  ready : AreReady (walk_of l.input) l.lookups;
-  covers : SkipEndsAt (walk_of l.input) l.e l.end;
-  ahead : IsAhead (walk_of l.input) l.e l.audit.ahead;
-  flags : AreRaised (walk_of l.input) l.e l.audit.flags.items;
+invariant-entries l = record {
+  ready : AreReady (walk_of l.input) l.audit.lookups;
+  covers : SkipEndsAt (walk_of l.input) l.entry l.end;
+  ahead : IsAhead (walk_of l.input) l.entry l.audit.ahead;
+  flags : AreRaised (walk_of l.input) l.entry l.audit.flags.items;
   report : (rest : List PlacedPiece)
-      → next_behind l.audit.report (drop l.e (entry_pieces (walk_of l.input)) ++ rest)
-      ≡ next_behind l.initial.audit.report (entry_pieces (walk_of l.input) ++ rest);
+      → next_behind l.audit.report.file (drop l.entry (entry_pieces (walk_of l.input)) ++ rest)
+      ≡ next_behind l.initial.audit.report.file (entry_pieces (walk_of l.input) ++ rest);
   dump : (rest : List PlacedPiece)
-      → behind_of l.audit.dump (drop l.e (dump_pieces (walk_of l.input)) ++ rest)
+      → behind_of l.audit.dump (drop l.entry (dump_pieces (walk_of l.input)) ++ rest)
       ≡ behind_of l.initial.audit.dump (dump_pieces (walk_of l.input) ++ rest);
 }

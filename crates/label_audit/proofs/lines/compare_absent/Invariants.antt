@@ -6,5 +6,5 @@ use Rattle.label_audit.proofs.lines.compare_absent.Given as goal
 -- the pieces left, behind those that were compared
 abbrev pub invariant-operands : goal.invariant-operands
 invariant-operands l = (rest : List PlacedPiece)
-    → next_behind l.report (map (operand_piece l.operands) (drop l.i-index l.indices) ++ rest)
-    ≡ next_behind l.initial.report (map (operand_piece l.operands) l.indices ++ rest)
+    → next_behind l.report.file (map (operand_piece l.operands) (drop l.i-index l.indices) ++ rest)
+    ≡ next_behind l.initial.report.file (map (operand_piece l.operands) l.indices ++ rest)

@@ -15,7 +15,7 @@ specs-preserved c =
     let n = length c.args.rules.now.rules in
     let piece = unflagged_piece c.args.rules.now c.args.flags.now in
     let here : c.specs.i < n = omega (arith, c.specs-test.true, c.len-i-end.ensures) in
-    next_compared (next_behind c.specs.report) (next_behind c.compare_spec.new.report) _
+    next_compared (next_behind c.specs.report.file) (next_behind c.compare_spec.new.report.file) _
     (map piece (all_numbers n)) c.specs.i (piece c.specs.i)
     (omega (arith, here, length-map (all_numbers n) piece, count_numbers n))
     (mapped_at piece n c.specs.i (piece c.specs.i) here)
@@ -25,7 +25,7 @@ pub returns : goal.returns
 returns c =
     let n = length c.args.rules.now.rules in
     let piece = unflagged_piece c.args.rules.now c.args.flags.now in
-    all_compared (next_behind c.specs.report) _ (map piece (all_numbers n)) c.specs.i
+    all_compared (next_behind c.specs.report.file) _ (map piece (all_numbers n)) c.specs.i
     (omega (
       arith,
       c.specs-test.false,

@@ -7,7 +7,7 @@ use Rattle.label_audit.proofs.winners.search_names.Given as goal
 
 -- the first of the names left that is wanted is the first of all
 abbrev pub invariant-names : goal.invariant-names
-invariant-names g l = record {
+invariant-names l = record {
   own : IsScratchOf l.input.rules.now.rules l.scratch;
   first : find (is_wanted (walk_of l.input)) (drop l.name-index l.names)
       ≡ find (is_wanted (walk_of l.input)) l.names;

@@ -2,7 +2,7 @@ use Rattle.std.proofs.Common.{◌∙◌, ap₂}
 use Rattle.relabel_core.specs.Walked.{walk_of}
 use Rattle.label_audit.specs.Finding.{finding_by, finding_of}
 use Rattle.label_audit.specs.Pieces.{dump_pieces, report_pieces}
-use Rattle.label_audit.proofs.auditing.audit_by.Goals as goal
+use Rattle.label_audit.proofs.auditing.audit.Goals as goal
 
 pub returns : goal.returns
 unfolding finding_of
