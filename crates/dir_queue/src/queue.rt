@@ -97,7 +97,8 @@ impl DirQueue {
             × (0 < passes_of_queue self.now) }
         ensures pass { IsQueuePassOf self.now result }
         ensures view { queue_view result
-            ≡ fresh_queue (queue_shape self.now).parents (passes_of_queue self.now) (passes_of_queue self.now) }
+            ≡ fresh_queue (queue_shape self.now).parents (passes_of_queue self.now)
+            (passes_of_queue self.now) }
     {
         let job = self.job(0);
         if self
@@ -115,7 +116,8 @@ impl DirQueue {
         ensures old { IsQueuePassOf self.now pass.new
             × (queue_view pass.new ≡ queue_for_one_less (queue_view pass.old)) }
         ensures new { IsQueuePassOf self.now result
-            × (queue_view result ≡ fresh_queue (queue_shape self.now).parents (passes_of_queue self.now) 1) }
+            × (queue_view result ≡ fresh_queue (queue_shape self.now).parents
+            (passes_of_queue self.now) 1) }
     {
         let pass = self.queue.another::<CutOne>(&mut pass.pass);
         QueuePass { pass }
@@ -129,12 +131,14 @@ impl DirQueue {
     ) -> Result<Row<QueuePass>, OutOfMemory>
         requires some { 0 < passes }
         requires pass { IsQueuePassOf self.now pass
-            × (queue_view pass ≡ fresh_queue (queue_shape self.now).parents (passes_of_queue self.now)
+            × (queue_view pass ≡ fresh_queue (queue_shape self.now).parents
+            (passes_of_queue self.now)
             passes) }
         ensures len { IfOk result (λ all. length all ≡ passes) }
         ensures each { IfOk result
             (λ all. All (λ p. IsQueuePassOf self.now p
-            × (queue_view p ≡ fresh_queue (queue_shape self.now).parents (passes_of_queue self.now) 1)) all) }
+            × (queue_view p ≡ fresh_queue (queue_shape self.now).parents (passes_of_queue self.now)
+            1)) all) }
     {
         let mut all = Row::new(alloc);
         'passes: for _ in 1..passes {

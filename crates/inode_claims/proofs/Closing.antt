@@ -13,17 +13,17 @@ use Rattle.inode_claims.specs.declared.rule.Call.{Call}
 use Rattle.inode_claims.specs.declared.rule.ClaimView.{ClaimView}
 use Rattle.inode_claims.specs.declared.rule.Plan.{Plan}
 use Rattle.inode_claims.specs.declared.winners.Winners.{Winners}
-use Rattle.inode_claims.specs.Claiming.{calls_where, is_call_at, is_told, least_claimed}
+use Rattle.inode_claims.specs.Claiming.{calls_where, is_call_at, was_answered, least_claimed}
 use Rattle.inode_claims.specs.Rule.{LeastIsKept, count_all}
-use Rattle.inode_claims.specs.Answers.{Wins, TellsAll}
+use Rattle.inode_claims.specs.Answers.{Wins, AnswersAll}
 
 abbrev ExactWords : ℕ → List ℕ → List Call → Type 0
 ExactWords groups words calls =
     ((g : ℕ) → g < groups → (get_or words (suc g) 0 ≡ NONE_WORD) ⊎
     (0 < calls_where (is_call_at g (get_or words (suc g) 0)) calls))
-    × ((g a : ℕ) → 0 < calls_where (is_told g a) calls
+    × ((g a : ℕ) → 0 < calls_where (was_answered g a) calls
     → (a ≡ NONE_WORD) ⊎ (0 < calls_where (is_call_at g a) calls))
-    × ((g : ℕ) → g < groups → calls_where (is_told g NONE_WORD) calls
+    × ((g : ℕ) → g < groups → calls_where (was_answered g NONE_WORD) calls
     ≡ cond (get_or words (suc g) 0 == NONE_WORD) 0 1)
 
 -- where one pass stands for all, its calls are all calls
@@ -51,8 +51,8 @@ closes_exact plan words xs seat v f whole = let k = f.1.0 in
       (λ g lt. subst (λ (n : ℕ). (get_or f.0.words (suc g) 0 ≡ NONE_WORD) ⊎ (0 < n))
           (c (is_call_at g (get_or f.0.words (suc g) 0))) (k.met g lt)),
       (λ g a h. subst (λ (n : ℕ). (a ≡ NONE_WORD) ⊎ (0 < n)) (c (is_call_at g a))
-          (k.told g a (let e = c (is_told g a) in omega (arith, e, h)))),
-      λ g lt. sym (c (is_told g NONE_WORD)) ∙ k.once g lt,
+          (k.answered g a (let e = c (was_answered g a) in omega (arith, e, h)))),
+      λ g lt. sym (c (was_answered g NONE_WORD)) ∙ k.once g lt,
     )
 
 at_or : (xs : List ℕ) (i x : ℕ) → get_elem? xs i ≡ some x → get_or xs i 0 ≡ x
@@ -90,9 +90,9 @@ abbrev ExactRoom : ℕ → List ℕ → List Call → Type 0
 ExactRoom groups room calls =
     ((g : ℕ) → g < groups
     → (get_or room g 0 ≡ NONE_WORD) ⊎ (0 < calls_where (is_call_at g (get_or room g 0)) calls))
-    × ((g a : ℕ) → 0 < calls_where (is_told g a) calls
+    × ((g a : ℕ) → 0 < calls_where (was_answered g a) calls
     → (a ≡ NONE_WORD) ⊎ (0 < calls_where (is_call_at g a) calls))
-    × ((g : ℕ) → g < groups → calls_where (is_told g NONE_WORD) calls
+    × ((g : ℕ) → g < groups → calls_where (was_answered g NONE_WORD) calls
     ≡ cond (get_or room g 0 == NONE_WORD) 0 1)
 
 winners_exact : (plan : Plan) (room words xs : List ℕ) (seat : ℕ) (v : ClaimView)
@@ -213,7 +213,7 @@ pub closed_tells : (plan : Plan) (w : Winners) (words xs : List ℕ) (seat : ℕ
     → Final (Seen (λ (s : State ℕ ClaimView). LeastIsKept plan s.words s.views) seat v) words xs
     → ((k : ℕ) → k < plan.groups → get_or w.words.items k 0 ≡ get_or words (suc k) 0)
     → length w.words.items ≡ plan.groups → All (λ c. c.position < NONE_WORD) v.calls
-    → v.stands_for ≡ plan.passes → TellsAll plan.groups v.calls w
+    → v.stands_for ≡ plan.passes → AnswersAll plan.groups v.calls w
 closed_tells plan w words xs seat v f same sized fit whole = let e =
     winners_exact plan w.words.items words xs seat v f same whole in record {
       least = λ g lt. is_least g (get_or w.words.items g 0) v.calls

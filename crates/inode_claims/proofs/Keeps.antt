@@ -17,7 +17,7 @@ use Rattle.inode_claims.specs.declared.rule.ClaimView.{ClaimView}
 use Rattle.inode_claims.specs.declared.rule.Plan.{Plan}
 use Rattle.walk_steps.specs.declared.machine.TheConstants.{NONE_WORD}
 use Rattle.inode_claims.specs.Claiming.{call_of, fresh_claims, with_call, claims_for_one_less}
-use Rattle.inode_claims.specs.Claiming.{claims_joined, calls_where, is_call_at, is_told}
+use Rattle.inode_claims.specs.Claiming.{claims_joined, calls_where, is_call_at, was_answered}
 use Rattle.inode_claims.specs.Rule.{LeastIsKept, SpentIsEmpty, count_all, IsClaimOf}
 
 count_append : (q : Call → Bool) (xs ys : List Call) → calls_where q (xs ++ ys) ≡ calls_where q
@@ -38,9 +38,10 @@ moved plan words views after k stands idle same = record {
   met = λ g lt. ⊎_elim (λ e. inl e)
       (λ h. inr (let s = same (is_call_at g (get_or words (suc g) 0)) in omega (arith, s)))
       (k.met g lt);
-  told = λ g a h. ⊎_elim (λ e. inl e) (λ i. inr (let s = same (is_call_at g a) in omega (arith, s)))
-      (k.told g a (let s = same (is_told g a) in omega (arith, s)));
-  once = λ g lt. same (is_told g NONE_WORD) ∙ k.once g lt;
+  answered = λ g a h. ⊎_elim (λ e. inl e)
+      (λ i. inr (let s = same (is_call_at g a) in omega (arith, s)))
+      (k.answered g a (let s = same (was_answered g a) in omega (arith, s)));
+  once = λ g lt. same (was_answered g NONE_WORD) ∙ k.once g lt;
 }
 
 idle_set : (views : List ClaimView) (seat : ℕ) (w : ClaimView) → (w.stands_for ≡ 0 → w.calls ≡ [])
@@ -67,7 +68,7 @@ begins plan words positive sized full = record {
       (λ j u i. absurd (some-ne-none u (sym i))) seat v e z;
   low = λ g p h. absurd (omega arith);
   met = λ g lt. inl (full g lt);
-  told = λ g a h. absurd (omega arith);
+  answered = λ g a h. absurd (omega arith);
   once = λ g lt. let e = full g lt in let t : (get_or words (suc g) 0 == NONE_WORD) ≡ true =
       eq-eqb (get_or words (suc g) 0) NONE_WORD e in sym (ap (λ b. cond b 0 1) t);
 }
@@ -184,39 +185,40 @@ module _ (plan : Plan) (words : List ℕ) (views : List ClaimView) (seat : ℕ) 
       (⊎_elim (λ x. inl x) (λ x. inr (more (is_call_at h (get_or words (suc h) 0)) x))
       (k.met h lt)))
 
-  told_after : (h a : ℕ) → 0 < count_all (is_told h a) after
+  answered_after : (h a : ℕ) → 0 < count_all (was_answered h a) after
       → (a ≡ NONE_WORD) ⊎ (0 < count_all (is_call_at h a) after)
-  told_after h a some_there = dite (ℕ_discrete g h)
+  answered_after h a some_there = dite (ℕ_discrete g h)
       (λ (e : g ≡ h). dite (ℕ_discrete n a)
       (λ (e' : n ≡ a). subst (λ (z : ℕ). Met z a) e
       (subst (Met g) e'
       (⊎_elim (λ x. inl x) (λ x. inr (more (is_call_at g n) x)) (k.met g in_range))))
       (λ (ne : n ≢ a). older
-      (subst (λ (z : ℕ). count_all (is_told z a) after ≡ count_all (is_told z a) views) e
-      (stays (is_told g a) (apart g n a ne)))))
-      (λ (ne : g ≢ h). older (stays (is_told h a) (elsewhere g h n a ne)))
+      (subst (λ (z : ℕ). count_all (was_answered z a) after ≡ count_all (was_answered z a) views) e
+      (stays (was_answered g a) (apart g n a ne)))))
+      (λ (ne : g ≢ h). older (stays (was_answered h a) (elsewhere g h n a ne)))
     where
-      older : count_all (is_told h a) after ≡ count_all (is_told h a) views → Met h a
+      older : count_all (was_answered h a) after ≡ count_all (was_answered h a) views → Met h a
       older t = ⊎_elim (λ x. inl x) (λ x. inr (more (is_call_at h a) x))
-          (k.told h a (omega (arith, t)))
+          (k.answered h a (omega (arith, t)))
 
-  once_after : (h : ℕ) → h < plan.groups → count_all (is_told h NONE_WORD) after
+  once_after : (h : ℕ) → h < plan.groups → count_all (was_answered h NONE_WORD) after
       ≡ cond (get_or words_after (suc h) 0 == NONE_WORD) 0 1
   once_after h lt = dite (ℕ_discrete g h)
       (λ (e : g ≡ h). subst
-      (λ (z : ℕ). count_all (is_told z NONE_WORD) after
+      (λ (z : ℕ). count_all (was_answered z NONE_WORD) after
       ≡ cond (get_or words_after (suc z) 0 == NONE_WORD) 0 1) e
       (let w = word_here in let f : (get_or words_after (suc g) 0 == NONE_WORD) ≡ false = ne_eqb
       (get_or words_after (suc g) 0) NONE_WORD (λ x. omega (arith, w, x)) in
-      let r : count_all (is_told g NONE_WORD) after ≡ 1 = dite (ℕ_discrete n NONE_WORD)
-      (λ (z : n ≡ NONE_WORD). let t = grows_here (is_told g NONE_WORD) (here g n NONE_WORD z) in
+      let r : count_all (was_answered g NONE_WORD) after ≡ 1 = dite (ℕ_discrete n NONE_WORD)
+      (λ (z : n ≡ NONE_WORD). let t = grows_here (was_answered g NONE_WORD)
+      (here g n NONE_WORD z) in
       let o = k.once g in_range ∙ ap (λ b. cond b 0 1) (eq-eqb n NONE_WORD z) in
       omega (arith, t, o))
-      (λ (z : n ≢ NONE_WORD). let t = stays (is_told g NONE_WORD) (apart g n NONE_WORD z) in
+      (λ (z : n ≢ NONE_WORD). let t = stays (was_answered g NONE_WORD) (apart g n NONE_WORD z) in
       let o = k.once g in_range ∙ ap (λ b. cond b 0 1) (ne_eqb n NONE_WORD z) in
       omega (arith, t, o)) in
       r ∙ sym (ap (λ b. cond b 0 1) f)))
-      (λ (ne : g ≢ h). stays (is_told h NONE_WORD) (elsewhere g h n NONE_WORD ne) ∙ k.once h lt
+      (λ (ne : g ≢ h). stays (was_answered h NONE_WORD) (elsewhere g h n NONE_WORD ne) ∙ k.once h lt
       ∙ sym (ap (λ (y : ℕ). cond (y == NONE_WORD) 0 1) (word_else h ne)))
 
   kept_after : 0 < v.stands_for → LeastIsKept plan words_after after
@@ -227,7 +229,7 @@ module _ (plan : Plan) (words : List ℕ) (views : List ClaimView) (seat : ℕ) 
     spent = (idle_set views seat (with_call v g p n) (λ e. absurd (omega arith)) k.spent);
     low = low_after;
     met = met_after;
-    told = told_after;
+    answered = answered_after;
     once = once_after;
   }
 

@@ -7,7 +7,7 @@ use Rattle.inode_claims.specs.declared.rule.ClaimView.{ClaimView}
 use Rattle.inode_claims.specs.declared.claims.Claims.{Claims}
 use Rattle.inode_claims.specs.declared.claims.ClaimPass.{ClaimPass}
 use Rattle.inode_claims.specs.declared.winners.Winners.{Winners}
-use Rattle.inode_claims.specs.Claiming.{calls_where, is_told, IsClaimed, least_claimed}
+use Rattle.inode_claims.specs.Claiming.{calls_where, was_answered, IsClaimed, least_claimed}
 
 -- the pass was made by these claims
 abbrev pub IsPassOf : Claims → ClaimPass → Type 0
@@ -43,10 +43,10 @@ pub record Wins (groups : ℕ) (calls : List Call) (winners : Winners) : Type 0 
       → claim_word_at winners group < NONE_WORD
 
 -- of a closing pass that stands for all passes, whose calls are thus all calls
-pub record TellsAll (groups : ℕ) (calls : List Call) (winners : Winners) : Type 0 where
+pub record AnswersAll (groups : ℕ) (calls : List Call) (winners : Winners) : Type 0 where
   pub least : (group : ℕ) → group < groups → claim_word_at winners group ≡ least_claimed group calls
-  pub answered : (group answer : ℕ) → 0 < calls_where (is_told group answer) calls
+  pub answered : (group answer : ℕ) → 0 < calls_where (was_answered group answer) calls
       → (answer ≡ NONE_WORD)
       ⊎ IsClaimed group answer calls
   pub first : (group position : ℕ) → group < groups → IsClaimed group position calls
-      → calls_where (is_told group NONE_WORD) calls ≡ 1
+      → calls_where (was_answered group NONE_WORD) calls ≡ 1

@@ -32,8 +32,8 @@ abbrev pub is_call_at : ℕ → ℕ → Call → Bool
 is_call_at group position call = (call.group == group) && (call.position == position)
 
 -- a call on the group that was answered this word
-abbrev pub is_told : ℕ → ℕ → Call → Bool
-is_told group answer call = (call.group == group) && (call.answer == answer)
+abbrev pub was_answered : ℕ → ℕ → Call → Bool
+was_answered group answer call = (call.group == group) && (call.answer == answer)
 
 -- how many calls pass the test
 abbrev pub calls_where : (Call → Bool) → List Call → ℕ

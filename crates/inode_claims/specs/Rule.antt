@@ -8,7 +8,7 @@ use Rattle.walk_steps.specs.declared.machine.TheConstants.{NONE_WORD}
 use Rattle.inode_claims.specs.declared.rule.Call.{Call}
 use Rattle.inode_claims.specs.declared.rule.ClaimView.{ClaimView}
 use Rattle.inode_claims.specs.declared.rule.Plan.{Plan}
-use Rattle.inode_claims.specs.Claiming.{with_call, calls_where, is_call_at, is_told, IsClaimed}
+use Rattle.inode_claims.specs.Claiming.{with_call, calls_where, is_call_at, was_answered, IsClaimed}
 
 -- how many calls of all views pass the test
 abbrev pub count_all : (Call → Bool) → List ClaimView → ℕ
@@ -35,11 +35,12 @@ pub record LeastIsKept (plan : Plan) (words : List ℕ) (views : List ClaimView)
   pub met : (group : ℕ) → group < plan.groups → (word_of group words ≡ NONE_WORD)
       ⊎ (0 < count_all (is_call_at group (word_of group words)) views)
   -- an answer is the none-word or a position that was claimed
-  pub told : (group answer : ℕ) → 0 < count_all (is_told group answer) views → (answer ≡ NONE_WORD)
+  pub answered : (group answer : ℕ) → 0 < count_all (was_answered group answer) views
+      → (answer ≡ NONE_WORD)
       ⊎ (0 < count_all (is_call_at group answer) views)
   -- the none-word is answered once, by the step that lowers it
   pub once : (group : ℕ) → group < plan.groups
-      → count_all (is_told group NONE_WORD) views ≡ cond (word_of group words == NONE_WORD) 0 1
+      → count_all (was_answered group NONE_WORD) views ≡ cond (word_of group words == NONE_WORD) 0 1
 
 -- what the step of a claim tells its pass: the word that it found, which is at most what the pass
 -- had claimed

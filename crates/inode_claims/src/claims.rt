@@ -43,7 +43,7 @@ impl Claims {
       groups_of,
       claim_view,
       Wins,
-      TellsAll,
+      AnswersAll,
     };
 
     /// Words for so many groups, nothing claimed, and so many passes, at least one. Each stands for
@@ -71,9 +71,11 @@ impl Claims {
         passes: u32,
     ) -> Result<(Claims, Seat<u8, ClaimView>), AllocError>
         requires { 0 < passes }
-        ensures made { IfOk result (λ r. (groups_of r.0 ≡ groups) × (passes_of_claims r.0 ≡ passes)) }
+        ensures made { IfOk result (λ r.
+            (groups_of r.0 ≡ groups) × (passes_of_claims r.0 ≡ passes)) }
         ensures seat { IfOk result
-            (λ r. (r.1.table_id ≡ r.0.table.shared.table_id) × (r.1.me ≡ (fresh_claims passes, []))) }
+            (λ r. (r.1.table_id ≡ r.0.table.shared.table_id)
+            × (r.1.me ≡ (fresh_claims passes, []))) }
     {
         let count = groups as usize;
         let words = Vec::from_elem(alloc, NONE_WORD, count + 1)?;
@@ -91,9 +93,11 @@ impl Claims {
         requires some { 0 < passes }
         requires words { words.now ≡ replicate (groups + 1) NONE_WORD }
         requires room { (room.items ≡ []) × (groups ≤ vec_capacity room) }
-        ensures made { IfOk result (λ r. (groups_of r.0 ≡ groups) × (passes_of_claims r.0 ≡ passes)) }
+        ensures made { IfOk result (λ r.
+            (groups_of r.0 ≡ groups) × (passes_of_claims r.0 ≡ passes)) }
         ensures seat { IfOk result
-            (λ r. (r.1.table_id ≡ r.0.table.shared.table_id) × (r.1.me ≡ (fresh_claims passes, []))) }
+            (λ r. (r.1.table_id ≡ r.0.table.shared.table_id)
+            × (r.1.me ≡ (fresh_claims passes, []))) }
     {
         let plan = Plan { groups, passes };
         let (table, seat) = Table::of_words(alloc, words, &plan)?;
@@ -180,7 +184,7 @@ impl Claims {
         requires { IsPassOf self pass }
         ensures wins { Wins (groups_of self) (claim_view pass).calls result }
         ensures all { (claim_view pass).stands_for ≡ passes_of_claims self
-            → TellsAll (groups_of self) (claim_view pass).calls result }
+            → AnswersAll (groups_of self) (claim_view pass).calls result }
         ensures claims { result.claims ≡ min (length (claim_view pass).calls) NONE_WORD }
     {
         let Claims {

@@ -2,7 +2,7 @@
 use Rattle.std.proofs.Common.{◌≡◌, refl, ℕ, ◌&&◌, ◌||◌, Bool, true, false, not, List, Some, None}
 use Rattle.std.proofs.Common.{if◌then◌else◌}
 use Rattle.std.specs.Prelude.{is_some}
-use Rattle.relabel_core.specs.Passed.{needed, uses_digests}
+use Rattle.relabel_core.specs.Swept.{needed, uses_digests}
 use Rattle.relabel_core.specs.Walk.{Walk, digest_now, is_current, is_whole, skippable}
 
 none_if : (a i whole s dry : Bool) (digest : List ℕ) → (a || i) ≡ false

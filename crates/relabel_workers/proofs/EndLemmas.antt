@@ -23,7 +23,7 @@ use Rattle.walk_steps.proofs.ListLemmas.{hit_other, hit_same}
 use Rattle.inode_claims.specs.declared.rule.Call.{Call}
 use Rattle.inode_claims.specs.declared.rule.ClaimView.{ClaimView}
 use Rattle.inode_claims.specs.declared.winners.Winners.{Winners}
-use Rattle.inode_claims.specs.Answers.{TellsAll, Wins, winner_of, claim_word_at}
+use Rattle.inode_claims.specs.Answers.{AnswersAll, Wins, winner_of, claim_word_at}
 use Rattle.inode_claims.specs.Claiming.{IsClaimed, least_claimed}
 use Rattle.dir_queue.specs.declared.rule.QueueView.{QueueView}
 use Rattle.dir_queue.specs.Answers.{one_worker}
@@ -135,7 +135,7 @@ module _ (w : Walk) (up : ByPath w.entries) where
       (sound : Sound shape
       (record { queue = []; taken = taken ∷ []; given = given ∷ []; words = [] }))
       (wins : Wins (groups_in w.entries) calls winners)
-      (all : TellsAll (groups_in w.entries) calls winners) where
+      (all : AnswersAll (groups_in w.entries) calls winners) where
     abbrev state : WalkState
     state = record {
       queue = [];
@@ -422,7 +422,7 @@ pub closed : (w : Walk) (up : ByPath w.entries) → walk_count w < 2 ^ 32 → (g
     → (q : QueueView) (k : ClaimView) (notes : List Note) (winners : Winners)
     → IsDone w [] q.taken q.given k.calls notes → Sound given (one_worker q)
     → (groups : ℕ) → groups ≡ groups_in w.entries → Wins groups k.calls winners
-    → TellsAll groups k.calls winners → winners.claims ≡ min (length k.calls) NONE_WORD
+    → AnswersAll groups k.calls winners → winners.claims ≡ min (length k.calls) NONE_WORD
     → IsClosed w notes winners
 closed w up few given is one q k notes winners done sound groups same wins all claims =
     let law : HaveOneEnd (shape_of w.entries) = subst HaveOneEnd is one in
@@ -430,8 +430,8 @@ closed w up few given is one q k notes winners done sound groups same wins all c
     subst (λ x. Sound x (one_worker q)) is sound in
     let v : Wins (groups_in w.entries) k.calls winners =
     subst (λ n. Wins n k.calls winners) same wins in
-    let a : TellsAll (groups_in w.entries) k.calls winners =
-    subst (λ n. TellsAll n k.calls winners) same all in
+    let a : AnswersAll (groups_in w.entries) k.calls winners =
+    subst (λ n. AnswersAll n k.calls winners) same all in
     let end = law (is_job_open w) (is_wanted w) (positions k.calls)
     (record {
       queue = [];

@@ -13,11 +13,11 @@ use Rattle.tree_model.proofs.ExtentLemmas.{in_behind, in_between, in_chain, in_i
 use Rattle.tree_model.proofs.ParentLemmas.{above_before, above_in, strict_is}
 use Rattle.tree_model.proofs.JobLaws.{home_told}
 use Rattle.label_rules.specs.LookUp.{given_at, index_for}
-use Rattle.relabel_core.specs.Passed.{skip_of}
+use Rattle.relabel_core.specs.Swept.{skip_of}
 use Rattle.relabel_core.specs.Walk.{Walk, walk_count, deciding, digest_now, is_current, is_live}
 use Rattle.relabel_core.specs.Walk.{is_skipped, is_skipped_first, is_wanted, is_whole, skippable}
 use Rattle.relabel_core.specs.Walk.{skips, walked, wanted}
-use Rattle.relabel_core.specs.declared.passed.Skip.TheVariants.{Not, First, Below}
+use Rattle.relabel_core.specs.declared.swept.Skip.TheVariants.{Not, First, Below}
 use Rattle.tree_model.specs.Extents.{entry_at}
 use Rattle.relabel_workers.specs.Alone.{decided_alone, gives_alone, is_job_open, lies_open}
 

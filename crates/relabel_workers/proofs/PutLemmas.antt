@@ -13,13 +13,13 @@ use Rattle.tree_model.specs.Extents.{extent_of}
 use Rattle.tree_model.specs.Groups.{groups_in}
 use Rattle.tree_model.specs.Tree.{ByPath}
 use Rattle.relabel_core.specs.Numbers.{IsNumberPut, found_in}
-use Rattle.relabel_core.specs.Passed.{renewal}
+use Rattle.relabel_core.specs.Swept.{renewal}
 use Rattle.relabel_core.specs.Stored.{digests_in}
 use Rattle.relabel_core.specs.Walk.{Walk, walk_count, skippable, winner}
 use Rattle.relabel_core.specs.declared.noting.Noted.{Noted}
 use Rattle.relabel_core.specs.Walked.{HasWalkRoom}
-use Rattle.relabel_core.specs.declared.passed.Passed.{Passed}
-use Rattle.relabel_core.specs.declared.passed.Skip.TheVariants.{Not}
+use Rattle.relabel_core.specs.declared.swept.Swept.{Swept}
+use Rattle.relabel_core.specs.declared.swept.Skip.TheVariants.{Not}
 use Rattle.relabel_core.proofs.NotedLemmas.{winner_within}
 use Rattle.relabel_workers.specs.PutBack.{AreDigestsPut, ArePutBack, AreSkippedTo, AreSkipsPut}
 use Rattle.relabel_workers.specs.PutBack.{IsOpenNote, KeepsFirst}
@@ -28,22 +28,22 @@ use Rattle.relabel_workers.proofs.SkipLemmas.{decided_more, digests_more, digest
 use Rattle.relabel_workers.proofs.SkipLemmas.{skips_stay}
 
 module _ (w : Walk) (up : ByPath w.entries) (done : List Note) (note : Note) (noted next : Noted)
-    (passed after : Passed) (before : ArePutBack w done noted passed)
+    (swept after : Swept) (before : ArePutBack w done noted swept)
     (lies : IsOpenNote w note) (put : IsNumberPut noted.decided.items next.decided.items note.entry
     note.decided) (winners : next.winners.items ≡ noted.winners.items) where
   room : length next.winners.items ≡ groups_in w.entries
   room = ap length winners ∙ before.winners_room
 
   -- a directory that is skipped by itself
-  pub put_over : note.finding.skippable ≡ true → AreSkippedTo passed.skips.items note.entry
-      (extent_of w.entries note.entry) after.skips.items → after.made ≡ passed.made
+  pub put_over : note.finding.skippable ≡ true → AreSkippedTo swept.skips.items note.entry
+      (extent_of w.entries note.entry) after.skips.items → after.made ≡ swept.made
       → ArePutBack w (done ++ note ∷ []) next after
   put_over over skips made =
       let is : skippable w note.entry ≡ true = sym lies.noted.skips_is ∙ over in
       record {
         decided = decided_more w up done note noted.decided.items next.decided.items before.decided
             lies put;
-        skips = skips_more w up done note passed.skips.items after.skips.items before.skips lies is
+        skips = skips_more w up done note swept.skips.items after.skips.items before.skips lies is
             skips;
         digests = digests_stay w up done note after.made
             (subst (λ m. AreDigestsPut w done m) (sym made) before.digests) lies is;
@@ -51,8 +51,8 @@ module _ (w : Walk) (up : ByPath w.entries) (done : List Note) (note : Note) (no
       }
 
   -- another entry
-  pub put_by : note.finding.skippable ≡ false → after.skips.items ≡ passed.skips.items
-      → KeepsFirst passed.made after.made note.entry (renewal w note.entry)
+  pub put_by : note.finding.skippable ≡ false → after.skips.items ≡ swept.skips.items
+      → KeepsFirst swept.made after.made note.entry (renewal w note.entry)
       → ArePutBack w (done ++ note ∷ []) next after
   put_by over skips made =
       let is : skippable w note.entry ≡ false = sym lies.noted.skips_is ∙ over in
@@ -61,7 +61,7 @@ module _ (w : Walk) (up : ByPath w.entries) (done : List Note) (note : Note) (no
             lies put;
         skips = skips_stay w up done note after.skips.items
             (subst (λ s. AreSkipsPut w done s) (sym skips) before.skips) is;
-        digests = digests_more w up done note passed.made after.made before.digests made;
+        digests = digests_more w up done note swept.made after.made before.digests made;
         winners_room = room;
       }
 
@@ -72,12 +72,12 @@ few_more (Some i) n h l = omega (arith, h, l)
 
 -- ---- nothing is put back yet
 
-pub none_put : (w : Walk) (noted : Noted) (passed : Passed)
+pub none_put : (w : Walk) (noted : Noted) (swept : Swept)
     → HasWalkRoom w noted.decided.items noted.winners.items
     → ((e : ℕ) → e < walk_count w → found_in noted.decided.items e ≡ None)
-    → passed.skips.items ≡ replicate (walk_count w) Not
-    → ((e : ℕ) → digests_in passed.made e ≡ None) → ArePutBack w [] noted passed
-none_put w noted passed room none skips made = record {
+    → swept.skips.items ≡ replicate (walk_count w) Not
+    → ((e : ℕ) → digests_in swept.made e ≡ None) → ArePutBack w [] noted swept
+none_put w noted swept room none skips made = record {
   decided = record {
     room = room.each_entry;
     right = λ e l. inl (none e l);
@@ -94,15 +94,15 @@ none_put w noted passed room none skips made = record {
   winners_room = room.each_group;
 }
 
-pub all_put : (w : Walk) (notes : List Note) (noted next : Noted) (passed after : Passed) (n : ℕ)
+pub all_put : (w : Walk) (notes : List Note) (noted next : Noted) (swept after : Swept) (n : ℕ)
     → HasWalkRoom w noted.decided.items noted.winners.items
     → ((e : ℕ) → e < walk_count w → found_in noted.decided.items e ≡ None)
-    → passed.skips.items ≡ replicate n Not → n ≡ walk_count w
-    → ((e : ℕ) → digests_in passed.made e ≡ None)
-    → ((done : List Note) → ArePutBack w done noted passed
+    → swept.skips.items ≡ replicate n Not → n ≡ walk_count w
+    → ((e : ℕ) → digests_in swept.made e ≡ None)
+    → ((done : List Note) → ArePutBack w done noted swept
     → ArePutBack w (done ++ notes) next after) → ArePutBack w notes next after
-all_put w notes noted next passed after n room none skips same made put =
-    put [] (none_put w noted passed room none (skips ∙ ap (λ k. replicate k Not) same) made)
+all_put w notes noted next swept after n room none skips same made put =
+    put [] (none_put w noted swept room none (skips ∙ ap (λ k. replicate k Not) same) made)
 
 -- ---- rows
 

@@ -10,11 +10,9 @@ use Rattle.walk_steps.specs.Lists.{times}
 use Rattle.walk_steps.specs.declared.shape.Shape.{Shape}
 use Rattle.walk_steps.proofs.ListLemmas.{hit_same}
 use Rattle.inode_claims.specs.declared.claims.ClaimPass.{ClaimPass}
-use Rattle.inode_claims.specs.declared.claims.Claims.{Claims}
 use Rattle.inode_claims.specs.declared.rule.ClaimView.{ClaimView}
 use Rattle.inode_claims.specs.Claiming as claiming
 use Rattle.inode_claims.specs.Answers.{IsPassOf, claim_view}
-use Rattle.dir_queue.specs.declared.queue.DirQueue.{DirQueue}
 use Rattle.dir_queue.specs.declared.queue.QueuePass.{QueuePass}
 use Rattle.dir_queue.specs.declared.rule.QueueView.{QueueView}
 use Rattle.dir_queue.specs.Passes as passes
@@ -28,7 +26,8 @@ use Rattle.tree_model.specs.Jobs as jobs
 use Rattle.tree_model.specs.Jobs.{directories_in, entries_of_job, entry_home, job_of}
 use Rattle.relabel_core.specs.Walk.{Walk, walk_count, skippable}
 use Rattle.relabel_workers.specs.Alone.{IsNoteOf, decided_alone, gives_alone}
-use Rattle.relabel_workers.specs.Held.{AreFreshPasses, StandFor, claims_stand, queue_stands}
+use Rattle.relabel_workers.specs.Held.{AreFreshPasses, Common, HasWorked, IsReady}
+use Rattle.relabel_workers.specs.Held.{StandFor, claims_stand, queue_stands}
 use Rattle.relabel_workers.specs.Worked.{AddsCall, IsDone, given_with, is_to_be_given}
 use Rattle.relabel_workers.specs.declared.share.Share.{Share}
 use Rattle.relabel_workers.specs.declared.note.Note.{Note}
@@ -38,38 +37,41 @@ use Rattle.relabel_workers.proofs.WorkedLemmas.{not_given}
 
 -- ---- rows of passes
 
-module _ (queue : DirQueue) (claims : Claims) (qs ps : List QueuePass) (cs ds : List ClaimPass)
-    (q : QueuePass) (c : ClaimPass) (rows : AreFreshPasses queue claims qs cs)
+module _ (s : Common) (qs ps : List QueuePass) (cs ds : List ClaimPass) (q : QueuePass)
+    (c : ClaimPass) (rows : AreFreshPasses s qs cs)
     (one : qs ≡ ps ++ q ∷ []) (two : cs ≡ ds ++ c ∷ []) where
-  pub rows_left : AreFreshPasses queue claims ps ds
+  pub rows_left : AreFreshPasses s ps ds
   rows_left = record {
     paired = (let a = rows.paired in let b = ap length one in let d = ap length two in
         let e = length-append ps (q ∷ []) in let f = length-append ds (c ∷ []) in
         omega (arith, a, b, d, e, f));
-    queues = (All-pop (λ p. IsQueuePassOf queue p
-        × (queue_view p ≡ passes.fresh_queue (queue_shape queue).parents (passes_of_queue queue) 1))
+    queues = (All-pop (λ p. IsQueuePassOf s.queue p
+        × (queue_view p ≡ passes.fresh_queue (queue_shape s.queue).parents (passes_of_queue s.queue)
+        1))
         qs ps (Some q) one rows.queues).0;
-    claimers = (All-pop (λ p. IsPassOf claims p × (claim_view p ≡ claiming.fresh_claims 1)) cs ds
+    claimers = (All-pop (λ p. IsPassOf s.claims p × (claim_view p ≡ claiming.fresh_claims 1)) cs ds
         (Some c) two rows.claimers).0;
   }
 
-  pub queue_next : IsQueuePassOf queue q
-      × (queue_view q ≡ passes.fresh_queue (queue_shape queue).parents (passes_of_queue queue) 1)
+  pub queue_next : IsQueuePassOf s.queue q
+      × (queue_view q ≡ passes.fresh_queue (queue_shape s.queue).parents (passes_of_queue s.queue)
+      1)
   queue_next =
-      (All-pop (λ p. IsQueuePassOf queue p
-      × (queue_view p ≡ passes.fresh_queue (queue_shape queue).parents (passes_of_queue queue) 1))
+      (All-pop (λ p. IsQueuePassOf s.queue p
+      × (queue_view p ≡ passes.fresh_queue (queue_shape s.queue).parents (passes_of_queue s.queue)
+      1))
       qs ps (Some q) one rows.queues).1
 
-  pub claim_next : IsPassOf claims c × (claim_view c ≡ claiming.fresh_claims 1)
+  pub claim_next : IsPassOf s.claims c × (claim_view c ≡ claiming.fresh_claims 1)
   claim_next =
-      (All-pop (λ p. IsPassOf claims p × (claim_view p ≡ claiming.fresh_claims 1)) cs ds (Some c)
+      (All-pop (λ p. IsPassOf s.claims p × (claim_view p ≡ claiming.fresh_claims 1)) cs ds (Some c)
       two rows.claimers).1
 
 -- as many passes of the one kind as of the other
-pub none_or_both : (queue : DirQueue) (claims : Claims) (qs ps : List QueuePass)
-    (cs : List ClaimPass) (q : QueuePass) → AreFreshPasses queue claims qs cs → qs ≡ ps ++ q ∷ []
+pub none_or_both : (s : Common) (qs ps : List QueuePass) (cs : List ClaimPass) (q : QueuePass)
+    → AreFreshPasses s qs cs → qs ≡ ps ++ q ∷ []
     → cs ≡ [] → ⊥
-none_or_both queue claims qs ps cs q rows one two =
+none_or_both s qs ps cs q rows one two =
     let a = rows.paired in
     let b = ap length one in
     let d = ap length two in
@@ -193,6 +195,10 @@ stands_on a b c m n k x y s = record {
   queue_more = (let p = x.queue_more in let q = y.queue_more in omega (arith, p, q, s));
   claims_more = (let p = x.claims_more in let q = y.claims_more in omega (arith, p, q, s));
 }
+
+-- where a worker ends another may begin
+pub ended : {c : Common} {a b : Share} {n : ℕ} → HasWorked c a n b → IsReady c b
+ended w = record { own = w.own; done = w.done }
 
 -- the work of two that stand for themselves and for the rest of the row
 pub queue_both : {E : Type 0} (a b c d : Share) (n : ℕ) (r : Result Share E) → StandFor a 0 b

@@ -15,15 +15,15 @@ use Rattle.tree_model.specs.Jobs.{entry_home}
 use Rattle.tree_model.specs.Tree.{ByPath}
 use Rattle.tree_model.proofs.ExtentLemmas.{extent_has, extent_told, has_extent}
 use Rattle.relabel_core.specs.Numbers.{IsNumberPut, found_in, put_at}
-use Rattle.relabel_core.specs.Passed.{ArePassed, renewal, skip_of}
+use Rattle.relabel_core.specs.Swept.{AreSwept, renewal, skip_of}
 use Rattle.relabel_core.specs.Stored.{AddsDigest, digests_in}
 use Rattle.relabel_core.specs.Walk.{Walk, walk_count, deciding, is_skipped, skippable, winner}
 use Rattle.relabel_core.specs.Walked.{AreWalkAnswers}
 use Rattle.relabel_core.specs.declared.noting.Noted.{Noted}
-use Rattle.relabel_core.specs.declared.passed.Passed.{Passed}
-use Rattle.relabel_core.specs.declared.passed.Skip.{Skip}
-use Rattle.relabel_core.specs.declared.passed.Skip.TheVariants.{Not, First, Below}
-use Rattle.relabel_core.proofs.PassedLemmas.{none_renewed_if_skipped}
+use Rattle.relabel_core.specs.declared.swept.Swept.{Swept}
+use Rattle.relabel_core.specs.declared.swept.Skip.{Skip}
+use Rattle.relabel_core.specs.declared.swept.Skip.TheVariants.{Not, First, Below}
+use Rattle.relabel_core.proofs.SweptLemmas.{none_renewed_if_skipped}
 use Rattle.relabel_workers.specs.Alone.{is_job_open, noted_in}
 use Rattle.relabel_workers.specs.PutBack.{AreAllNoted, AreDecidedPut, AreDigestsPut, ArePutBack}
 use Rattle.relabel_workers.specs.PutBack.{AreSkippedTo, AreSkipsPut, IsOpenNote, KeepsFirst}
@@ -292,11 +292,11 @@ module _ (w : Walk) (up : ByPath w.entries) where
 
   -- ---- all notes
 
-  pub put_found : (notes : List Note) (noted : Noted) (passed : Passed) (winners : List ℕ)
-      → AreAllNoted w notes → ArePutBack w notes noted passed
+  pub put_found : (notes : List Note) (noted : Noted) (swept : Swept) (winners : List ℕ)
+      → AreAllNoted w notes → ArePutBack w notes noted swept
       → ((g : ℕ) → g < groups_in w.entries → found_in winners g ≡ winner w g)
       → AreWalkAnswers w noted.decided.items winners
-  put_found notes noted passed winners a p is = record {
+  put_found notes noted swept winners a p is = record {
     decided_are = λ e l. by_home e l (is_job_open w (entry_home w.entries e)) refl;
     winners_are = is;
   }
@@ -307,22 +307,22 @@ module _ (w : Walk) (up : ByPath w.entries) where
       by_home e l false h = ⊎_elim (λ none. none ∙ sym (skipped_none w e (shut_skipped w up e l h)))
           (λ right. right) (p.decided.right e l)
 
-  pub put_passed : (notes : List Note) (noted : Noted) (passed : Passed) → AreAllNoted w notes
-      → ArePutBack w notes noted passed → ArePassed w passed.skips.items passed.made
-  put_passed notes noted passed a p = record {
+  pub put_passed : (notes : List Note) (noted : Noted) (swept : Swept) → AreAllNoted w notes
+      → ArePutBack w notes noted swept → AreSwept w swept.skips.items swept.made
+  put_passed notes noted swept a p = record {
     skips_are = λ e l. by_skip e l (is_skipped w e) refl;
     made_are = λ e l. by_home e l (is_job_open w (entry_home w.entries e)) refl;
   }
     where
       by_home : (e : ℕ) → e < walk_count w → (b : Bool) → is_job_open w (entry_home w.entries e) ≡ b
-          → digests_in passed.made e ≡ renewal w e
+          → digests_in swept.made e ≡ renewal w e
       by_home e l true h = p.digests.told e l (a.whole e l h)
       by_home e l false h =
           ⊎_elim (λ none. none ∙ sym (none_renewed_if_skipped w up e (shut_skipped w up e l h)))
           (λ right. right) (p.digests.right e l)
 
       by_skip : (e : ℕ) → e < walk_count w → (b : Bool) → is_skipped w e ≡ b
-          → get_or passed.skips.items e Not ≡ skip_of w e
+          → get_or swept.skips.items e Not ≡ skip_of w e
       by_skip e l false h = ⊎_elim (λ none. none ∙ sym (not_skipped w up e l h)) (λ right. right)
           (p.skips.right e l)
       by_skip e l true h =

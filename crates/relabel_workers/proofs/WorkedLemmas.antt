@@ -232,16 +232,17 @@ entry_done w e rest taken given gives calls all notes note d is a same right = r
           home = (d.held e first).1;
         }
       ];
-  calls_are = λ g p h. elim (calls_new (gives_alone w e) (group_of w.entries e) e calls all a g p h) [
-    | inl old ↦ d.calls_are g p old
-    | inr new ↦ subst (λ x. IsRightCall w taken g x) new.2
-        (record {
-          known = (d.held e first).0;
-          gives = new.0;
-          own = new.1;
-          home = (d.held e first).1;
-        })
-  ];
+  calls_are = λ g p h.
+      elim (calls_new (gives_alone w e) (group_of w.entries e) e calls all a g p h) [
+        | inl old ↦ d.calls_are g p old
+        | inr new ↦ subst (λ x. IsRightCall w taken g x) new.2
+            (record {
+              known = (d.held e first).0;
+              gives = new.0;
+              own = new.1;
+              home = (d.held e first).1;
+            })
+      ];
   each = λ x l t. elim (d.each x l t) [
     | inl some ↦ elim (cases_eq e x) [
       | inl this ↦ inr (subst (λ y. IsHandled w gives all (noted_in (notes ++ note ∷ [])) y) this

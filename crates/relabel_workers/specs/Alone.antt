@@ -4,10 +4,10 @@ use Rattle.std.specs.Prelude.{Option, Some, None, IfSome, MatchOption, false, if
 use Rattle.tree_model.specs.Extents.{entry_at}
 use Rattle.tree_model.specs.Jobs.{job_directory}
 use Rattle.label_rules.specs.LookUp.{given_at, index_for}
-use Rattle.dir_digest.specs.Listings.{terms_in}
+use Rattle.dir_digest.specs.Listings.{basis_in}
 use Rattle.dir_digest.specs.declared.listings.Listings.{Listings}
-use Rattle.relabel_core.specs.Passed.{needed, uses_digests}
-use Rattle.relabel_core.specs.Terms.{terms_by}
+use Rattle.relabel_core.specs.Swept.{needed, uses_digests}
+use Rattle.relabel_core.specs.DigestBasis.{basis_by}
 use Rattle.relabel_core.specs.Walk.{Walk, walk_count, is_live, is_skipped, skippable}
 use Rattle.relabel_core.specs.declared.input.WalkInput.{WalkInput}
 use Rattle.relabel_workers.specs.declared.note.Note.{Note}
@@ -49,4 +49,4 @@ is_job_open w job = lies_open w (job_directory w.entries job)
 abbrev pub AreListingsFor : WalkInput → Option Listings → Type 0
 AreListingsFor input listings =
     MatchOption listings (uses_digests input.options ≡ false)
-    (λ l. terms_in l ≡ terms_by input.rules.now input.options)
+    (λ l. basis_in l ≡ basis_by input.rules.now input.options)

@@ -9,13 +9,13 @@ use Rattle.tree_model.specs.Extents.{in_extent}
 use Rattle.tree_model.specs.Groups.{groups_in}
 use Rattle.tree_model.specs.Jobs.{entry_home}
 use Rattle.relabel_core.specs.Numbers.{found_in}
-use Rattle.relabel_core.specs.Passed.{renewal, skip_of}
+use Rattle.relabel_core.specs.Swept.{renewal, skip_of}
 use Rattle.relabel_core.specs.Stored.{digests_in}
 use Rattle.relabel_core.specs.Walk.{Walk, walk_count, deciding, skippable, winner}
 use Rattle.relabel_core.specs.declared.noting.Noted.{Noted}
-use Rattle.relabel_core.specs.declared.passed.Passed.{Passed}
-use Rattle.relabel_core.specs.declared.passed.Skip.{Skip}
-use Rattle.relabel_core.specs.declared.passed.Skip.TheVariants.{Not, First, Below}
+use Rattle.relabel_core.specs.declared.swept.Swept.{Swept}
+use Rattle.relabel_core.specs.declared.swept.Skip.{Skip}
+use Rattle.relabel_core.specs.declared.swept.Skip.TheVariants.{Not, First, Below}
 use Rattle.relabel_workers.specs.Alone.{IsNoteOf, is_job_open, noted_in}
 use Rattle.relabel_workers.specs.declared.note.Note.{Note}
 
@@ -60,11 +60,11 @@ pub record AreDigestsPut (w : Walk) (notes : List Note) (made : BTreeMap ℕ (Li
   pub told : (e : ℕ) → e < walk_count w → 0 < times e (noted_in notes)
       → digests_in made e ≡ renewal w e
 
-pub record ArePutBack (w : Walk) (notes : List Note) (noted : Noted) (passed : Passed) : Type 0
+pub record ArePutBack (w : Walk) (notes : List Note) (noted : Noted) (swept : Swept) : Type 0
   where
     pub decided : AreDecidedPut w notes noted.decided.items
-    pub skips : AreSkipsPut w notes passed.skips.items
-    pub digests : AreDigestsPut w notes passed.made
+    pub skips : AreSkipsPut w notes swept.skips.items
+    pub digests : AreDigestsPut w notes swept.made
     pub winners_room : length noted.winners.items ≡ groups_in w.entries
 
 -- ---- what one note changes

@@ -11,6 +11,7 @@ mod notes;
 mod put_back;
 mod running;
 mod share;
+mod site;
 #[cfg(test)]
 mod test_worlds;
 #[cfg(test)]

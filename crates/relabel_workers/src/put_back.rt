@@ -6,7 +6,7 @@ ghost use Rattle.tree_model.specs.Extents.{extent_of};
 ghost use Rattle.tree_model.specs.Groups.{groups_in};
 ghost use Rattle.relabel_core.specs.Answer.{walk_in};
 ghost use Rattle.relabel_core.specs.Numbers.{IsNumberPut, found_in};
-ghost use Rattle.relabel_core.specs.Passed.{ArePassed, renewal};
+ghost use Rattle.relabel_core.specs.Swept.{AreSwept, renewal};
 ghost use Rattle.relabel_core.specs.Walk.{walk_count, skippable, winner};
 ghost use Rattle.relabel_core.specs.Walked.{AreWalkAnswers, HasWalkRoom, IsFit, walk_of};
 ghost use Rattle.relabel_workers.specs.Alone.{IsNoteOf};
@@ -19,61 +19,61 @@ use crate::notes::Notes;
 use dir_digest::Digest;
 use inode_claims::Winners;
 use label_base::OutOfMemory;
-use relabel_core::{Noted, Passed, Skip, WalkInput, Walked, renewed_digest};
+use relabel_core::{Noted, Skip, Swept, WalkInput, Walked, renewed_digest};
 use std::alloc::Global;
 
 // Notes of a directory that it is skipped, and of all below it before a place.
 #[tactic(auto, using(crate::proofs::SkipLemmas::first_skipped, crate::proofs::SkipLemmas::more_skipped))]
-fn skip_to(passed: &mut Passed, d: u32, end: u32)
+fn skip_to(swept: &mut Swept, d: u32, end: u32)
     requires { d < end }
-    ensures skips { AreSkippedTo passed.old.skips.items d end passed.new.skips.items }
-    ensures made { passed.new.made ≡ passed.old.made }
+    ensures skips { AreSkippedTo swept.old.skips.items d end swept.new.skips.items }
+    ensures made { swept.new.made ≡ swept.old.made }
 {
-    passed.put_skip(d, Skip::First);
+    swept.put_skip(d, Skip::First);
     'below: for e in d + 1..end {
-        passed.put_skip(e, Skip::Below);
+        swept.put_skip(e, Skip::Below);
     }
 }
 
 // Keeps the digest that a directory gets anew, if it gets one.
 #[tactic(auto, using(crate::proofs::SkipLemmas::kept_none, crate::proofs::SkipLemmas::kept_before, crate::proofs::SkipLemmas::kept_first))]
-fn keep_renewed(passed: &mut Passed, d: u32, renewed: Option<Digest>) -> Result<(), OutOfMemory>
-    ensures made { OnOk result (KeepsFirst passed.old.made passed.new.made d renewed) }
-    ensures skips { passed.new.skips.items ≡ passed.old.skips.items }
+fn keep_renewed(swept: &mut Swept, d: u32, renewed: Option<Digest>) -> Result<(), OutOfMemory>
+    ensures made { OnOk result (KeepsFirst swept.old.made swept.new.made d renewed) }
+    ensures skips { swept.new.skips.items ≡ swept.old.skips.items }
 {
     let Some(digest) = renewed else {
         return Ok(());
     };
-    if passed.renewed(d).is_some() {
+    if swept.renewed(d).is_some() {
         return Ok(());
     }
-    passed.put_renewed(d, digest)
+    swept.put_renewed(d, digest)
 }
 
 // Puts a directory back that is skipped by itself.
-fn put_skipped(input: &WalkInput<'_>, d: u32, passed: &mut Passed)
+fn put_skipped(input: &WalkInput<'_>, d: u32, swept: &mut Swept)
     requires entry { d < walk_count (walk_of input.now) }
-    ensures skips { AreSkippedTo passed.old.skips.items d (extent_of input.now.tree.now d)
-        passed.new.skips.items }
-    ensures made { passed.new.made ≡ passed.old.made }
+    ensures skips { AreSkippedTo swept.old.skips.items d (extent_of input.now.tree.now d)
+        swept.new.skips.items }
+    ensures made { swept.new.made ≡ swept.old.made }
 {
     let end = input.tree.extent(d);
-    skip_to(passed, d, end);
+    skip_to(swept, d, end);
 }
 
 // Puts back the digest that an entry gets anew.
 #[tactic(auto, using(crate::proofs::SkipLemmas::skipped_alone))]
-fn put_digest(input: &WalkInput<'_>, note: &Note, passed: &mut Passed) -> Result<(), OutOfMemory>
+fn put_digest(input: &WalkInput<'_>, note: &Note, swept: &mut Swept) -> Result<(), OutOfMemory>
     requires fit { IsFit input.now }
     requires note { IsOpenNote (walk_of input.now) note.now }
-    ensures made { OnOk result (KeepsFirst passed.old.made passed.new.made note.now.entry
+    ensures made { OnOk result (KeepsFirst swept.old.made swept.new.made note.now.entry
         (renewal (walk_of input.now) note.now.entry)) }
-    ensures skips { passed.new.skips.items ≡ passed.old.skips.items }
+    ensures skips { swept.new.skips.items ≡ swept.old.skips.items }
 {
     input.tree.rises();
     let finding = &note.finding;
     let renewed = renewed_digest(input, note.entry, finding.digest, finding.skippable);
-    keep_renewed(passed, note.entry, renewed)
+    keep_renewed(swept, note.entry, renewed)
 }
 
 // Puts back what is noted of one entry.
@@ -81,36 +81,36 @@ fn put_note(
     input: &WalkInput<'_>,
     note: &Note,
     noted: &mut Noted,
-    passed: &mut Passed,
+    swept: &mut Swept,
 ) -> Result<(), OutOfMemory>
     requires fit { IsFit input.now }
     requires note { IsOpenNote (walk_of input.now) note.now }
-    ensures put { (done : List Note) → ArePutBack (walk_of input.now) done noted.old passed.old
-        → OnOk result (ArePutBack (walk_of input.now) (done ++ note.now ∷ []) noted.new passed.new) }
+    ensures put { (done : List Note) → ArePutBack (walk_of input.now) done noted.old swept.old
+        → OnOk result (ArePutBack (walk_of input.now) (done ++ note.now ∷ []) noted.new swept.new) }
 {
     input.tree.rises();
     let _ = input.rules.rules.len();
     noted.put_decided(note.entry, note.decided);
     if note.finding.skippable {
-        put_skipped(input, note.entry, passed);
+        put_skipped(input, note.entry, swept);
         return Ok(());
     }
-    put_digest(input, note, passed)
+    put_digest(input, note, swept)
 }
 
 fn put_row(
     input: &WalkInput<'_>,
     notes: &[Note],
     noted: &mut Noted,
-    passed: &mut Passed,
+    swept: &mut Swept,
 ) -> Result<(), OutOfMemory>
     requires fit { IsFit input.now }
     requires notes { All (IsOpenNote (walk_of input.now)) notes.now }
-    ensures put { (done : List Note) → ArePutBack (walk_of input.now) done noted.old passed.old
-        → OnOk result (ArePutBack (walk_of input.now) (done ++ notes.now) noted.new passed.new) }
+    ensures put { (done : List Note) → ArePutBack (walk_of input.now) done noted.old swept.old
+        → OnOk result (ArePutBack (walk_of input.now) (done ++ notes.now) noted.new swept.new) }
 {
     'notes: for note in notes {
-        put_note(input, note, noted, passed)?;
+        put_note(input, note, noted, swept)?;
     }
     Ok(())
 }
@@ -119,16 +119,16 @@ fn put_rows(
     input: &WalkInput<'_>,
     rows: &[Vec<Note>],
     noted: &mut Noted,
-    passed: &mut Passed,
+    swept: &mut Swept,
 ) -> Result<(), OutOfMemory>
     requires fit { IsFit input.now }
     requires notes { All (IsOpenNote (walk_of input.now)) (flat_map (λ row. row.items) rows.now) }
-    ensures put { (done : List Note) → ArePutBack (walk_of input.now) done noted.old passed.old
+    ensures put { (done : List Note) → ArePutBack (walk_of input.now) done noted.old swept.old
         → OnOk result (ArePutBack (walk_of input.now) (done ++ flat_map (λ row. row.items) rows.now)
-        noted.new passed.new) }
+        noted.new swept.new) }
 {
     'rows: for row in rows {
-        put_row(input, row.as_slice(), noted, passed)?;
+        put_row(input, row.as_slice(), noted, swept)?;
     }
     Ok(())
 }
@@ -138,15 +138,15 @@ fn put_notes(
     input: &WalkInput<'_>,
     notes: &Notes,
     noted: &mut Noted,
-    passed: &mut Passed,
+    swept: &mut Swept,
 ) -> Result<(), OutOfMemory>
     requires fit { IsFit input.now }
     requires notes { All (IsOpenNote (walk_of input.now)) notes.now }
-    ensures put { (done : List Note) → ArePutBack (walk_of input.now) done noted.old passed.old
-        → OnOk result (ArePutBack (walk_of input.now) (done ++ notes.now) noted.new passed.new) }
+    ensures put { (done : List Note) → ArePutBack (walk_of input.now) done noted.old swept.old
+        → OnOk result (ArePutBack (walk_of input.now) (done ++ notes.now) noted.new swept.new) }
 {
-    put_rows(input, notes.full.as_slice(), noted, passed)?;
-    put_row(input, notes.last.as_slice(), noted, passed)
+    put_rows(input, notes.full.as_slice(), noted, swept)?;
+    put_row(input, notes.last.as_slice(), noted, swept)
 }
 
 // The winner of a group, whose position is few.
@@ -212,8 +212,8 @@ pub fn walk_of_notes<'a>(
     ensures { IfOk result (λ walked. walk_in walked ≡ walk_of input.now) }
 {
     let mut noted = none_noted(alloc, input)?;
-    let mut passed = Passed::with_room(alloc, input.tree.len())?;
-    put_notes(input, notes, &mut noted, &mut passed)?;
+    let mut swept = Swept::with_room(alloc, input.tree.len())?;
+    put_notes(input, notes, &mut noted, &mut swept)?;
     put_winners(input, winners, &mut noted);
-    Ok(Walked::of_noted(input, passed, noted))
+    Ok(Walked::of_noted(input, swept, noted))
 }

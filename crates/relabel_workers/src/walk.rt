@@ -17,6 +17,7 @@ use crate::gate::Gate;
 use crate::notes::Notes;
 use crate::put_back::walk_of_notes;
 use crate::share::Share;
+use crate::site::{Passes, Site};
 use dir_queue::DirQueue;
 use inode_claims::{Claims, Winners};
 use label_base::OutOfMemory;
@@ -76,17 +77,19 @@ fn close_all<R: Threads + Wait + Sync, G: Gate + Sync>(
 {
     let (queue, queue_passes) = DirQueue::new(rt, alloc, shape, workers)?;
     let (claims, claim_passes) = Claims::new(alloc, input.tree.groups(), workers)?;
-    let share = take_all_jobs(
+    let site = Site {
         rt,
         alloc,
         input,
-        &queue,
-        &claims,
+        queue: &queue,
+        claims: &claims,
         gate,
-        workers,
-        queue_passes,
-        claim_passes,
-    )?;
+    };
+    let passes = Passes {
+        queue: queue_passes,
+        claims: claim_passes,
+    };
+    let share = take_all_jobs(&site, workers, passes)?;
     Ok(close(input, shape, claims, share))
 }
 

@@ -1,21 +1,17 @@
-ghost use Rattle.std.specs.Prelude.{◌≡◌, [], IfNone, IfOk, OnOk};
-ghost use Rattle.dir_queue.specs.Passes.{AllIsTaken};
+ghost use Rattle.std.specs.Prelude.{◌≡◌, IfNone, IfOk, OnOk};
 ghost use Rattle.dir_queue.specs.Answers.{one_worker, passes_of_queue, queue_view, queue_shape};
-ghost use Rattle.spec_match.specs.Scratches.{IsScratchOf};
 ghost use Rattle.walk_steps.specs.Sound.{Sound};
-ghost use Rattle.relabel_core.specs.Walked.{walk_of};
 ghost use Rattle.relabel_workers.specs.Alone.{AreListingsFor};
-ghost use Rattle.relabel_workers.specs.Held.{AreDone, IsShareOf, IsSite, StandFor, queue_stands};
+ghost use Rattle.relabel_workers.specs.Held.{HasWorked, IsReady, IsSite, IsWorkerFor, common};
+ghost use Rattle.relabel_workers.specs.Held.{queue_stands};
 
 use crate::gate::Gate;
 use crate::job::do_entries;
 use crate::share::Share;
+use crate::site::{Site, Worker};
 use dir_digest::Listings;
-use dir_queue::DirQueue;
-use inode_claims::Claims;
 use label_base::OutOfMemory;
-use label_rules::Rules;
-use relabel_core::{Buffers, Options, WalkInput, buffers_for, listings_by, uses_digests};
+use relabel_core::{WalkInput, buffers_for, listings_by, uses_digests};
 use std::alloc::Global;
 use std::sync::Wait;
 use std::thread::yield_now;
@@ -23,8 +19,8 @@ use std::thread::yield_now;
 /// How often in a row a worker takes nothing before it ends.
 const MOST_EMPTY_TAKES: u32 = 4096;
 
-/// What makes the listings of directories, where digests count for the run.
-pub fn listings_for<'a>(
+// What makes the listings of directories, where digests count for the run.
+fn listings_for<'a>(
     alloc: Global,
     input: &WalkInput<'a>,
 ) -> Result<Option<Listings<'a>>, OutOfMemory>
@@ -37,72 +33,64 @@ pub fn listings_for<'a>(
     Ok(Some(listings))
 }
 
-// Takes a job and does what is to be done for its entries. It answers how many jobs were given, and
-// none if no job waits.
-pub fn step<R: Wait, G: Gate>(
-    rt: &R,
+/// What the worker of a number works by.
+pub fn worker_for<'a>(
     alloc: Global,
-    input: &WalkInput<'_>,
-    queue: &DirQueue,
-    claims: &Claims,
-    gate: &G,
-    worker: u32,
-    listings: &Option<Listings<'_>>,
-    buffers: &mut Buffers,
+    input: &WalkInput<'a>,
+    number: u32,
+) -> Result<Worker<'a>, OutOfMemory>
+    ensures { IfOk result (λ worker. IsWorkerFor input.now worker) }
+{
+    let listings = listings_for(alloc, input)?;
+    let buffers = buffers_for(alloc, input.rules)?;
+    Ok(Worker {
+        number,
+        listings,
+        buffers,
+    })
+}
+
+/// Takes a job and does what is to be done for its entries. It answers how many jobs were given,
+/// and none if no job waits.
+pub fn step<R: Wait, G: Gate>(
+    site: &Site<'_, '_, R, G>,
+    worker: &mut Worker<'_>,
     share: &mut Share,
 ) -> Result<Option<u32>, OutOfMemory>
-    requires site { IsSite input.now queue.now claims.now }
-    requires listings { AreListingsFor input.now listings.now }
-    requires own { IsScratchOf input.now.rules.now.rules buffers.old.scratch }
-    requires share { IsShareOf queue.now claims.now share.old }
-    requires done { AreDone (walk_of input.now) [] share.old }
-    ensures own { IsScratchOf input.now.rules.now.rules buffers.new.scratch }
-    ensures share { OnOk result (IsShareOf queue.now claims.now share.new) }
-    ensures done { OnOk result (AreDone (walk_of input.now) [] share.new) }
-    ensures stands { OnOk result (StandFor share.old 0 share.new) }
-    ensures sound { queue_stands share.old ≡ passes_of_queue queue.now → IfOk result (λ found.
-        IfNone found (Sound (queue_shape queue.now) (one_worker (queue_view share.new.queue)))) }
+    requires site { IsSite (common site.now) }
+    requires worker { IsWorkerFor site.now.input.now worker.old }
+    requires ready { IsReady (common site.now) share.old }
+    ensures worker { IsWorkerFor site.now.input.now worker.new }
+    ensures worked { OnOk result (HasWorked (common site.now) share.old 0 share.new) }
+    ensures sound { queue_stands share.old ≡ passes_of_queue site.now.queue.now
+        → IfOk result (λ found. IfNone found
+        (Sound (queue_shape site.now.queue.now) (one_worker (queue_view share.new.queue)))) }
 {
-    let Some(job) = queue.take(rt, &mut share.queue) else {
+    let Some(job) = site.queue.take(site.rt, &mut share.queue) else {
         return Ok(None);
     };
-    gate.enter(worker, job);
-    let given = do_entries(
-        rt, alloc, input, queue, claims, gate, worker, job, listings, buffers, share,
-    )?;
+    site.gate.enter(worker.number, job);
+    let given = do_entries(site, worker, job, share)?;
     Ok(Some(given))
 }
 
 // Takes jobs until there were none for long.
 fn work_with<R: Wait, G: Gate>(
-    rt: &R,
-    alloc: Global,
-    input: &WalkInput<'_>,
-    queue: &DirQueue,
-    claims: &Claims,
-    gate: &G,
-    worker: u32,
-    listings: &Option<Listings<'_>>,
-    buffers: &mut Buffers,
+    site: &Site<'_, '_, R, G>,
+    worker: &mut Worker<'_>,
     share: &mut Share,
 ) -> Result<(), OutOfMemory>
-    requires site { IsSite input.now queue.now claims.now }
-    requires listings { AreListingsFor input.now listings.now }
-    requires own { IsScratchOf input.now.rules.now.rules buffers.old.scratch }
-    requires share { IsShareOf queue.now claims.now share.old }
-    requires done { AreDone (walk_of input.now) [] share.old }
-    ensures share { OnOk result (IsShareOf queue.now claims.now share.new) }
-    ensures done { OnOk result (AreDone (walk_of input.now) [] share.new) }
-    ensures stands { OnOk result (StandFor share.old 0 share.new) }
+    requires site { IsSite (common site.now) }
+    requires worker { IsWorkerFor site.now.input.now worker.old }
+    requires ready { IsReady (common site.now) share.old }
+    ensures { OnOk result (HasWorked (common site.now) share.old 0 share.new) }
 {
     let mut idle = 0u32;
-    'steps: for _ in rt.forever() {
+    'steps: for _ in site.rt.forever() {
         if idle >= MOST_EMPTY_TAKES {
             return Ok(());
         }
-        let found = step(
-            rt, alloc, input, queue, claims, gate, worker, listings, buffers, share,
-        )?;
+        let found = step(site, worker, share)?;
         idle = idle_behind(idle, found);
     }
     unreachable!()
@@ -118,37 +106,17 @@ fn idle_behind(idle: u32, found: Option<u32>) -> u32 {
     idle.saturating_add(1)
 }
 
-/// What one worker does: it takes jobs, until there were none for long.
+/// What the worker of a number does: it takes jobs, until there were none for long.
 pub fn work<R: Wait, G: Gate>(
-    rt: &R,
-    alloc: Global,
-    input: &WalkInput<'_>,
-    queue: &DirQueue,
-    claims: &Claims,
-    gate: &G,
-    worker: u32,
+    site: &Site<'_, '_, R, G>,
+    number: u32,
     mut share: Share,
 ) -> Result<Share, OutOfMemory>
-    requires site { IsSite input.now queue.now claims.now }
-    requires share { IsShareOf queue.now claims.now share }
-    requires done { AreDone (walk_of input.now) [] share }
-    ensures share { IfOk result (λ after. IsShareOf queue.now claims.now after) }
-    ensures done { IfOk result (λ after. AreDone (walk_of input.now) [] after) }
-    ensures stands { IfOk result (λ after. StandFor share 0 after) }
+    requires site { IsSite (common site.now) }
+    requires ready { IsReady (common site.now) share }
+    ensures { IfOk result (λ after. HasWorked (common site.now) share 0 after) }
 {
-    let listings = listings_for(alloc, input)?;
-    let mut buffers = buffers_for(alloc, input.rules)?;
-    work_with(
-        rt,
-        alloc,
-        input,
-        queue,
-        claims,
-        gate,
-        worker,
-        &listings,
-        &mut buffers,
-        &mut share,
-    )?;
+    let mut worker = worker_for(site.alloc, site.input, number)?;
+    work_with(site, &mut worker, &mut share)?;
     Ok(share)
 }

@@ -188,7 +188,8 @@ impl Machine {
     fn make(&mut self, shape: &Shape, step: &Step) -> Result<(), OutOfMemory>
         requires valid { IsValid shape.now }
         requires allowed { is_allowed shape.now (state_of self.old) step.now ≡ true }
-        ensures { OnOk result (state_of self.new ≡ step_after shape.now (state_of self.old) step.now) }
+        ensures { OnOk result
+            (state_of self.new ≡ step_after shape.now (state_of self.old) step.now) }
     {
         match *step {
             Step::Take { worker } => self.take(worker),

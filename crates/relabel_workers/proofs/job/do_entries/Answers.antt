@@ -8,21 +8,21 @@ use Rattle.relabel_workers.proofs.job.do_entries.Goals as goal
 pub do_entry-requires-clause-entry : goal.do_entry-requires-clause-entry
 do_entry-requires-clause-entry g c =
     let h = c.entries.share in
-    (first_left (walk_of c.args.input.now) c.entries.entries c.in-Some.e c.next.new.self
+    (first_left (walk_of c.args.site.now.input.now) c.entries.entries c.in-Some.e c.next.new.self
     (queue_view h.queue) (claim_view h.claims) h.notes c.in-Some.ensures.steps
     c.entries.invariant.done).0
 
 pub do_entry-requires-clause-home : goal.do_entry-requires-clause-home
 do_entry-requires-clause-home g c =
     let h = c.entries.share in
-    (first_left (walk_of c.args.input.now) c.entries.entries c.in-Some.e c.next.new.self
+    (first_left (walk_of c.args.site.now.input.now) c.entries.entries c.in-Some.e c.next.new.self
     (queue_view h.queue) (claim_view h.claims) h.notes c.in-Some.ensures.steps
     c.entries.invariant.done).1
 
 pub do_entry-requires-clause-new : goal.do_entry-requires-clause-new
 do_entry-requires-clause-new g c =
     let h = c.entries.share in
-    (first_left (walk_of c.args.input.now) c.entries.entries c.in-Some.e c.next.new.self
+    (first_left (walk_of c.args.site.now.input.now) c.entries.entries c.in-Some.e c.next.new.self
     (queue_view h.queue) (claim_view h.claims) h.notes c.in-Some.ensures.steps
     c.entries.invariant.done).2
 
@@ -31,10 +31,11 @@ entries-preserved g c =
     let h = c.entries.share in
     let before = c.entries.invariant in
     record {
-      own = c.in_ok-one.ensures.own;
+      worker = c.in_ok-one.ensures.worker;
       share = c.in_ok-one.ensures.share;
       done = c.in_ok-one.ensures.done c.next.new.self
-          (next_done (walk_of c.args.input.now) c.entries.entries c.in-Some.e c.next.new.self
+          (next_done (walk_of c.args.site.now.input.now) c.entries.entries c.in-Some.e
+          c.next.new.self
           (queue_view h.queue) (claim_view h.claims) h.notes c.in-Some.ensures.steps before.done);
       stands = stands_on c.args.share.now h c.do_entry.new.share 0 0 0 before.stands
           c.in_ok-one.ensures.stands refl;

@@ -12,16 +12,17 @@ use Rattle.relabel_workers.proofs.job.give_job.Goals as goal
 
 pub job_of-requires-clause-directory : goal.job_of-requires-clause-directory
 job_of-requires-clause-directory g c =
-    let w = walk_of c.args.input.now in
+    let w = walk_of c.args.site.now.input.now in
     first_so (is_directory w.entries c.args.e) (not (skippable w c.args.e))
     (sym c.is_to_be_given.ensures ∙ c.if-not-is_to_be_given.false)
 
 pub offer-requires-clause-may : goal.offer-requires-clause-may
 offer-requires-clause-may g c =
-    let w = walk_of c.args.input.now in
+    let w = walk_of c.args.site.now.input.now in
     let give : is_to_be_given w c.args.e ≡ true = sym c.is_to_be_given.ensures
     ∙ c.if-not-is_to_be_given.false in
     subst (MayOffer (queue_view c.args.pass.now)) (sym c.job_of.ensures)
-    (offer_right w c.rises.ensures (queue_view c.args.pass.now) (queue_shape c.args.queue.now)
-    c.args.e c.requires.pass.parents c.requires.shape c.requires.entry give c.requires.home
+    (offer_right w c.rises.ensures (queue_view c.args.pass.now)
+    (queue_shape c.args.site.now.queue.now)
+    c.args.e c.requires.pass.parents c.requires.site.shape c.requires.entry give c.requires.home
     (c.requires.new give))

@@ -15,7 +15,7 @@ pub returns-then-note : goal.returns-then-note
 returns-then-note c = record {
   put = λ done p.
       put_over (walk_of c.args.input.now) c.requires.fit.by_path done c.args.note.now
-      c.args.noted.now c.put_decided.new.self c.args.passed.now c.put_skipped.new.passed p
+      c.args.noted.now c.put_decided.new.self c.args.swept.now c.put_skipped.new.swept p
       c.requires.note c.put_decided.ensures.decided c.put_decided.ensures.winners c.if-note.true
       c.put_skipped.ensures.skips c.put_skipped.ensures.made;
 }
@@ -24,7 +24,7 @@ pub returns : goal.returns
 returns c = record {
   put = λ done p. on_ok_weaker c.put_digest.result
       (put_by (walk_of c.args.input.now) c.requires.fit.by_path done c.args.note.now
-      c.args.noted.now c.put_decided.new.self c.args.passed.now c.put_digest.new.passed p
+      c.args.noted.now c.put_decided.new.self c.args.swept.now c.put_digest.new.swept p
       c.requires.note c.put_decided.ensures.decided c.put_decided.ensures.winners c.if-note.false
       c.put_digest.ensures.skips) c.put_digest.ensures.made;
 }

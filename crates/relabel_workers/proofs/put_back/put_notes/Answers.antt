@@ -36,7 +36,7 @@ returns c = record {
       let last = c.notes.inside.last.items in
       let full = notes_in c.as_slice.result.now in
       subst (λ xs. OnOk c.put_row.result
-      (ArePutBack (walk_of c.args.input.now) xs c.put_row.new.noted c.put_row.new.passed))
+      (ArePutBack (walk_of c.args.input.now) xs c.put_row.new.noted c.put_row.new.swept))
       (ap (λ ys. (done ++ full) ++ ys) c.as_slice-2.ensures.value ∙ append_assoc done full last
       ∙ ap (λ xs. done ++ xs) (ap (λ rows. notes_in rows ++ last) c.as_slice.ensures.value
       ∙ c.notes.view_is))

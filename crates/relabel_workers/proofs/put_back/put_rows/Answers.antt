@@ -14,7 +14,7 @@ items_of row = row.items
 pub rows-init : goal.rows-init
 rows-init c =
     λ done p. subst (λ xs. ArePutBack (walk_of c.args.input.now) xs c.args.noted.now
-    c.args.passed.now) (sym (append-nil done)) p
+    c.args.swept.now) (sym (append-nil done)) p
 
 pub put_row-requires-clause-notes : goal.put_row-requires-clause-notes
 put_row-requires-clause-notes c = subst (All (IsOpenNote (walk_of c.args.input.now)))
@@ -24,7 +24,7 @@ put_row-requires-clause-notes c = subst (All (IsOpenNote (walk_of c.args.input.n
 
 pub rows-preserved : goal.rows-preserved
 rows-preserved c = λ done p.
-    subst (λ xs. ArePutBack (walk_of c.args.input.now) xs c.put_row.new.noted c.put_row.new.passed)
+    subst (λ xs. ArePutBack (walk_of c.args.input.now) xs c.put_row.new.noted c.put_row.new.swept)
     (ap (λ ys. (done ++ flat_map items_of (take c.rows.row-index c.args.rows.now)) ++ ys)
     c.as_slice.ensures.value ∙ take_row items_of done c.args.rows.now c.rows.row-index
     c.row-item.result c.rows-test.true c.row-item.is)
@@ -34,7 +34,7 @@ rows-preserved c = λ done p.
 pub returns : goal.returns
 returns c = record {
   put = λ done p.
-      subst (λ xs. ArePutBack (walk_of c.args.input.now) xs c.rows.noted c.rows.passed)
+      subst (λ xs. ArePutBack (walk_of c.args.input.now) xs c.rows.noted c.rows.swept)
       (take_rows items_of done c.args.rows.now c.rows.row-index c.rows-test.false)
       (c.rows.invariant done p);
 }

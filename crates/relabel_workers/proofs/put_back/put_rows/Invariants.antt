@@ -6,6 +6,6 @@ use Rattle.relabel_workers.specs.declared.note.Note.{Note}
 use Rattle.relabel_workers.proofs.put_back.put_rows.Given as goal
 
 abbrev pub invariant-rows : goal.invariant-rows
-invariant-rows l = (done : List Note) → ArePutBack (walk_of l.input) done l.fn.noted l.fn.passed
+invariant-rows l = (done : List Note) → ArePutBack (walk_of l.input) done l.fn.noted l.fn.swept
     → ArePutBack (walk_of l.input) (done ++ flat_map (λ row. row.items) (take l.row-index l.rows))
-    l.noted l.passed
+    l.noted l.swept

@@ -26,12 +26,10 @@ use Rattle.relabel_workers.specs.contracts.share.Share as ShareType
 use Rattle.std.proofs.Crossing.{crosses, sync}
 use Rattle.dir_queue.proofs.Sending.{queue_sync}
 use Rattle.label_base.proofs.Sending.{row_sync}
-use Rattle.relabel_core.specs.Walked.{walk_of}
-use Rattle.relabel_workers.specs.Held.{AreDone, IsShareOf, StandFor}
-use Rattle.relabel_workers.specs.declared.share.Share.{Share}
+use Rattle.relabel_workers.specs.Held.{HasWorked, common}
 use Rattle.relabel_workers.proofs.Sending.{captures_send, claims_sync, share_send, options_sync}
 use Rattle.relabel_workers.proofs.Sending.{word_sync}
-use Rattle.relabel_workers.proofs.ShareLemmas.{claims_both, queue_both}
+use Rattle.relabel_workers.proofs.ShareLemmas.{claims_both, ended, queue_both}
 use Rattle.relabel_workers.proofs.running.+rows.Goals as goal
 
 pub run_both-join-mine-requires-send-A : goal.run_both-join-mine-requires-send-A
@@ -90,51 +88,30 @@ run_both-join-mine-requires-send-F g t c κs within =
     lent each in
     record { owned = whole.owned; leaving = (param_send 1 T whole).leaving }
 
-pub run_all-run_both-requires-clause-next_done : goal.run_all-run_both-requires-clause-next_done
-run_all-run_both-requires-clause-next_done g t c κs within =
-    c.in-Some.ensures.done (walk_of c.args.input.now)
-
 pub run_both-join_shares-requires-clause-into : goal.run_both-join_shares-requires-clause-into
-run_both-join_shares-requires-clause-into g t c =
-    let q = c.args.queue.now in let k = c.args.claims.now in let w = walk_of c.args.input.now in
-    (IfOk-at_ok (λ (after : Share). IsShareOf q k after × AreDone w [] after
-    × StandFor c.args.share 0 after) c.in_ok-mine.was c.join-mine.ensures.first).0
+run_both-join_shares-requires-clause-into g t c = ended
+    (IfOk-at_ok (HasWorked (common c.args.site.now) c.args.share 0) c.in_ok-mine.was
+    c.join-mine.ensures.first)
 
 pub run_both-join_shares-requires-clause-from : goal.run_both-join_shares-requires-clause-from
-run_both-join_shares-requires-clause-from g t c =
-    let q = c.args.queue.now in let k = c.args.claims.now in let w = walk_of c.args.input.now in
-    (IfOk-at_ok (λ (after : Share). IsShareOf q k after × AreDone w [] after
-    × StandFor c.args.next (length c.args.queue_passes) after) c.in_ok-others.was
-    c.join-mine.ensures.second).0
-
-pub run_both-returns-clause-done : goal.run_both-returns-clause-done
-run_both-returns-clause-done g t c =
-    let q = c.args.queue.now in let k = c.args.claims.now in let w = walk_of c.args.input.now in
-    let a = IfOk-at_ok (λ (after : Share). IsShareOf q k after × AreDone w [] after
-    × StandFor c.args.share 0 after) c.in_ok-mine.was c.join-mine.ensures.first in
-    let b = IfOk-at_ok (λ (after : Share). IsShareOf q k after × AreDone w [] after
-    × StandFor c.args.next (length c.args.queue_passes) after) c.in_ok-others.was
-    c.join-mine.ensures.second in
-    c.join_shares.ensures.done w a.1 b.1
+run_both-join_shares-requires-clause-from g t c = ended
+    (IfOk-at_ok (HasWorked (common c.args.site.now) c.args.next (length c.args.passes.queue))
+    c.in_ok-others.was c.join-mine.ensures.second)
 
 pub run_both-returns-clause-queue_stands : goal.run_both-returns-clause-queue_stands
 run_both-returns-clause-queue_stands g t c =
-    let q = c.args.queue.now in let k = c.args.claims.now in let w = walk_of c.args.input.now in
-    let a = IfOk-at_ok (λ (after : Share). IsShareOf q k after × AreDone w [] after
-    × StandFor c.args.share 0 after) c.in_ok-mine.was c.join-mine.ensures.first in
-    let b = IfOk-at_ok (λ (after : Share). IsShareOf q k after × AreDone w [] after
-    × StandFor c.args.next (length c.args.queue_passes) after) c.in_ok-others.was
-    c.join-mine.ensures.second in
+    let a = IfOk-at_ok (HasWorked (common c.args.site.now) c.args.share 0) c.in_ok-mine.was
+    c.join-mine.ensures.first in
+    let b = IfOk-at_ok (HasWorked (common c.args.site.now) c.args.next (length c.args.passes.queue))
+    c.in_ok-others.was c.join-mine.ensures.second in
     queue_both c.args.share c.in_ok-mine.field-0 c.args.next c.in_ok-others.field-0
-    (length c.args.queue_passes) c.join_shares.result a.2 b.2 c.join_shares.ensures.stands
+    (length c.args.passes.queue) c.join_shares.result a.stands b.stands c.join_shares.ensures.stands
 
 pub run_both-returns-clause-claims_stand : goal.run_both-returns-clause-claims_stand
 run_both-returns-clause-claims_stand g t c =
-    let q = c.args.queue.now in let k = c.args.claims.now in let w = walk_of c.args.input.now in
-    let a = IfOk-at_ok (λ (after : Share). IsShareOf q k after × AreDone w [] after
-    × StandFor c.args.share 0 after) c.in_ok-mine.was c.join-mine.ensures.first in
-    let b = IfOk-at_ok (λ (after : Share). IsShareOf q k after × AreDone w [] after
-    × StandFor c.args.next (length c.args.queue_passes) after) c.in_ok-others.was
-    c.join-mine.ensures.second in
+    let a = IfOk-at_ok (HasWorked (common c.args.site.now) c.args.share 0) c.in_ok-mine.was
+    c.join-mine.ensures.first in
+    let b = IfOk-at_ok (HasWorked (common c.args.site.now) c.args.next (length c.args.passes.queue))
+    c.in_ok-others.was c.join-mine.ensures.second in
     claims_both c.args.share c.in_ok-mine.field-0 c.args.next c.in_ok-others.field-0
-    (length c.args.queue_passes) c.join_shares.result a.2 b.2 c.join_shares.ensures.stands
+    (length c.args.passes.queue) c.join_shares.result a.stands b.stands c.join_shares.ensures.stands

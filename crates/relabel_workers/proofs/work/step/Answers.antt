@@ -6,11 +6,12 @@ use Rattle.relabel_workers.proofs.work.step.Goals as goal
 
 pub do_entries-requires-clause-job : goal.do_entries-requires-clause-job
 do_entries-requires-clause-job g c =
-    job_known c.args.input.now.tree.now (queue_shape c.args.queue.now) c.in-Some.job
+    job_known c.args.site.now.input.now.tree.now (queue_shape c.args.site.now.queue.now)
+    c.in-Some.job
     c.requires.site.shape c.in-Some.ensures.taken.1
 
 pub do_entries-requires-clause-left : goal.do_entries-requires-clause-left
 do_entries-requires-clause-left g c =
-    taken_done (walk_of c.args.input.now) c.in-Some.job (queue_view c.args.share.now.queue)
+    taken_done (walk_of c.args.site.now.input.now) c.in-Some.job (queue_view c.args.share.now.queue)
     (queue_view c.take.new.pass) (claim_view c.args.share.now.claims) c.args.share.now.notes
-    c.in-Some.ensures.taken.0 c.in-Some.ensures.taken.2 c.requires.done
+    c.in-Some.ensures.taken.0 c.in-Some.ensures.taken.2 c.requires.ready.done
