@@ -24,7 +24,7 @@ use Rattle.path_subs.proofs.PlainPaths.{plain_keeps}
 use Rattle.dir_digest.specs.Alike.{AreAlike, decided_at, decision_of}
 use Rattle.dir_digest.specs.Listing.{Line, Listing, listing_line, relevant}
 use Rattle.dir_digest.specs.ListingBytes.{listing_bytes}
-use Rattle.dir_digest.specs.Terms.{AreRead, IsReadSpec, Terms, listing_on}
+use Rattle.dir_digest.specs.Basis.{AreRead, IsReadSpec, Basis, listing_on}
 use Rattle.dir_digest.proofs.ListingLemmas.{listing_same}
 use Rattle.dir_digest.proofs.ReadLemmas.{each_filtered, read_listing}
 
@@ -116,7 +116,7 @@ last_lines asked text (s ∷ specs) o all =
     (line_fits_is asked text s all.0) (λ o. last_lines asked text specs o all.1)
 
 -- what is decided below a directory, by the lines of its listing
-told_by : (t : Terms) (asked : Asked) (d names : Path) (b : Bool) → b ≡ plain t.first t.second d
+told_by : (t : Basis) (asked : Asked) (d names : Path) (b : Bool) → b ≡ plain t.first t.second d
     → AllByRecursion IsReadSpec t.specs
     → by_specs asked (path_text (substituted t.first t.second (d ++ names))) None t.specs
     ≡ by_lines asked (path_text (substituted t.first t.second (d ++ names))) None
@@ -139,7 +139,7 @@ told_by t asked d names false e all =
     last_lines asked (path_text (substituted t.first t.second (d ++ names))) t.specs None all
 
 -- what is decided, by the listing
-told : (t : Terms) (asked : Asked) (d names : Path) → AllByRecursion IsReadSpec t.specs
+told : (t : Basis) (asked : Asked) (d names : Path) → AllByRecursion IsReadSpec t.specs
     → decided_at t asked (d ++ names)
     ≡ by_lines asked
     (path_text (substituted (listing_on t d).first (listing_on t d).second (d ++ names))) None
@@ -154,7 +154,7 @@ types_told false true types others f e n = cc
 types_told false false types others f e n = e
 
 -- equal listings of a directory decide alike at and below it
-pub listings_alike : (t u : Terms) → AreRead t → AreRead u → (d : Path)
+pub listings_alike : (t u : Basis) → AreRead t → AreRead u → (d : Path)
     → listing_on t d ≡ listing_on u d → AreAlike t u d
 listings_alike t u ht hu d e =
     let force : t.force ≡ u.force = ap (λ (l : Listing). l.force) e in
@@ -168,7 +168,7 @@ listings_alike t u ht hu d e =
           ∙ sym (told u asked d names hu.specs.1);
     }
 
-pub bytes_alike : (t u : Terms) → AreRead t → AreRead u → (d : Path) → are_names d ≡ true
+pub bytes_alike : (t u : Basis) → AreRead t → AreRead u → (d : Path) → are_names d ≡ true
     → listing_bytes (listing_on t d) ≡ listing_bytes (listing_on u d) → AreAlike t u d
 bytes_alike t u ht hu d n e =
     listings_alike t u ht hu d

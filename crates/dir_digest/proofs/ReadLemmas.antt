@@ -13,7 +13,7 @@ use Rattle.spec_match.specs.Relevant.{can_decide}
 use Rattle.dir_digest.specs.Listing.{listing_line, relevant}
 use Rattle.dir_digest.specs.ListingBytes.{AreCountable, AreTypes, IsLine, IsListing, IsNamesSub}
 use Rattle.dir_digest.proofs.NulLemmas.{reads_clean}
-use Rattle.dir_digest.specs.Terms.{AreRead, IsReadSpec, Terms, listing_on}
+use Rattle.dir_digest.specs.Basis.{AreRead, IsReadSpec, Basis, listing_on}
 
 -- ---- members of lists
 
@@ -107,7 +107,7 @@ listed_types : (force : Bool) (types : List (List ℕ)) → AreTypes false types
 listed_types true types h = refl
 listed_types false types h = h
 
-pub read_listing : (t : Terms) → AreRead t → (dir : Path) → are_names dir ≡ true
+pub read_listing : (t : Basis) → AreRead t → (dir : Path) → are_names dir ≡ true
     → IsListing (listing_on t dir)
 unfolding relevant
 read_listing t h dir n =

@@ -16,7 +16,7 @@ use Rattle.dir_digest.specs.ListingBytes.{counted, field_bytes, listing_fields, 
 use Rattle.dir_digest.specs.ListingBytes.{listing_bytes, listing_mark, mode_fields, shared_fields}
 use Rattle.dir_digest.specs.ListingBytes.{sub_fields}
 use Rattle.dir_digest.specs.Spelled.{nul_ended, text_itself, spec_bytes, specs_bytes, texts_at}
-use Rattle.dir_digest.specs.Terms.{Terms, listing_on}
+use Rattle.dir_digest.specs.Basis.{Basis, listing_on}
 
 -- fields behind others
 fields_behind : (first rest : List (List ℕ)) → field_bytes (first ++ rest) ≡ field_bytes first
@@ -110,7 +110,7 @@ found_counted path specs =
     ap₂ (λ n rest. nul_ended (decimal n) ++ rest) found.as_many found.texts_are
 
 -- the relevant specifications of a directory that isn't plain
-pub all_relevant : (t : Terms) (texts : List (List ℕ)) (dir : Path) → texts ≡ map spec_bytes t.specs
+pub all_relevant : (t : Basis) (texts : List (List ℕ)) (dir : Path) → texts ≡ map spec_bytes t.specs
     → plain t.first t.second dir ≡ false
     → nul_ended (decimal (length texts)) ++ flat_map text_itself texts ≡ specs_bytes
     (relevant t.first t.second t.specs dir)
@@ -122,7 +122,7 @@ all_relevant t texts dir e p =
     t.specs)) (sym p)
 
 -- and of one that is
-pub found_relevant : (t : Terms) (texts : List (List ℕ)) (found : List ℕ) (dir path : Path)
+pub found_relevant : (t : Basis) (texts : List (List ℕ)) (found : List ℕ) (dir path : Path)
     → texts ≡ map spec_bytes t.specs
     → plain t.first t.second dir ≡ true → path ≡ substituted t.first t.second dir
     → found ≡ relevant_at path t.specs
@@ -142,7 +142,7 @@ mode_listed true types = refl
 mode_listed false types = refl
 
 -- a listing from its pieces
-pub listing_pieces : (t : Terms) (dir path : Path) (shared : List ℕ)
+pub listing_pieces : (t : Basis) (dir path : Path) (shared : List ℕ)
     → path ≡ substituted t.first t.second dir
     → shared ≡ field_bytes (shared_fields t.force t.types t.first t.second)
     → ((nul_ended (listing_mark t.format) ++ nul_ended (path_text path)) ++ shared) ++ specs_bytes

@@ -1,8 +1,8 @@
+pub mod Alike
+pub mod Basis
+pub mod Constants
+pub mod Digest
 pub mod Listing
 pub mod ListingBytes
-pub mod Digest
-pub mod Terms
-pub mod Spelled
 pub mod Listings
-pub mod Alike
-pub mod Constants
+pub mod Spelled

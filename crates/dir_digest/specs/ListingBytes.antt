@@ -22,7 +22,7 @@ ListingFields = List (List ℕ)
 
 -- how many there are, and then the fields of each
 abbrev pub counted : {A : Type 0} → (A → ListingFields) → List A → ListingFields
-counted listing_fields xs = decimal (length xs) ∷ flat_map listing_fields xs
+counted fields_of xs = decimal (length xs) ∷ flat_map fields_of xs
 
 abbrev pub name_field : List ℕ → ListingFields
 name_field name = name ∷ []

@@ -4,7 +4,7 @@ use Rattle.std.specs.List.{flat_map}
 use Rattle.spec_reader.specs.SpecValue.{SpecValue}
 use Rattle.dir_digest.specs.Listing.{listing_line}
 use Rattle.dir_digest.specs.ListingBytes.{field_bytes, line_fields, shared_fields}
-use Rattle.dir_digest.specs.Terms.{Terms}
+use Rattle.dir_digest.specs.Basis.{Basis}
 
 -- a field, and a NUL behind it
 abbrev pub nul_ended : List ℕ → List ℕ
@@ -27,6 +27,6 @@ text_itself text = text
 
 -- all fields between that of the path and those of the specifications, and the fields of each
 -- specification
-pub record AreSpecsSpelled (t : Terms) (shared : List ℕ) (specs : List (List ℕ)) : Type 0 where
+pub record AreSpecsSpelled (t : Basis) (shared : List ℕ) (specs : List (List ℕ)) : Type 0 where
   pub shared_are : shared ≡ field_bytes (shared_fields t.force t.types t.first t.second)
   pub specs_are : specs ≡ map spec_bytes t.specs

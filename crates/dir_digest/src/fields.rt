@@ -6,10 +6,10 @@ ghost use Rattle.dir_digest.specs.ListingBytes.{counted, decision_field, field_b
 ghost use Rattle.dir_digest.specs.ListingBytes.{listing_mark, mode_fields, name_field};
 ghost use Rattle.dir_digest.specs.ListingBytes.{shared_fields, sub_fields};
 ghost use Rattle.dir_digest.specs.Spelled.{spec_bytes};
-ghost use Rattle.dir_digest.specs.Terms.{IsReadSpec, is_whole_mode};
+ghost use Rattle.dir_digest.specs.Basis.{IsReadSpec, is_whole_mode};
 
 use crate::mode::Mode;
-use context_syntax::{Context, ContextRef, TypeNames};
+use context_syntax::{Context, TypeNames};
 use find_records::Format;
 use label_base::{Bytes, EntryKind, OutOfMemory};
 use path_subs::{Sub, Subs};
@@ -128,8 +128,7 @@ fn add_context(context: &Context, to: &mut Bytes) -> Result<(), OutOfMemory>
     ensures is_one { OnOk result (IsContext context.now) }
     ensures added { OnOk result (to.new ≡ to.old ++ (context_text context.now ++ 0 ∷ [])) }
 {
-    let _user = &context.user;
-    ContextRef::whole(context).add(to)?;
+    to.push(context.as_text())?;
     to.push_byte(0)
 }
 

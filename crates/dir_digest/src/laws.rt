@@ -6,7 +6,7 @@ ghost use Rattle.dir_digest.specs.Alike.{AreAlike};
 ghost use Rattle.dir_digest.specs.Constants.{ConstantsAreStated};
 ghost use Rattle.dir_digest.specs.Listing.{Listing};
 ghost use Rattle.dir_digest.specs.ListingBytes.{IsListing, listing_bytes};
-ghost use Rattle.dir_digest.specs.Terms.{AreRead, Terms, listing_on};
+ghost use Rattle.dir_digest.specs.Basis.{AreRead, Basis, listing_on};
 
 /// A law: listings with the same bytes are the same in every field.
 #[tactic(auto, using(crate::proofs::ListingLemmas::listing_same))]
@@ -17,7 +17,7 @@ pub fn listings_tell()
 
 /// A law: the listings of directories by accepted files are such listings.
 pub fn accepted_files_give_listings()
-    ensures { (t : Terms) → AreRead t → (dir : Path) → are_names dir ≡ true
+    ensures { (t : Basis) → AreRead t → (dir : Path) → are_names dir ≡ true
         → IsListing (listing_on t dir) }
 {}
 
@@ -25,7 +25,7 @@ pub fn accepted_files_give_listings()
 /// alike, and for each entry at or below the directory the same is decided: a context, `<<none>>`
 /// or nothing. So a digest tells all that matters.
 pub fn equal_listings_decide_alike()
-    ensures { (t u : Terms) → AreRead t → AreRead u → (dir : Path) → are_names dir ≡ true
+    ensures { (t u : Basis) → AreRead t → AreRead u → (dir : Path) → are_names dir ≡ true
         → listing_bytes (listing_on t dir) ≡ listing_bytes (listing_on u dir) → AreAlike t u dir }
 {}
 

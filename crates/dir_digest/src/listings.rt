@@ -11,7 +11,7 @@ ghost use Rattle.dir_digest.specs.ListingBytes.{AreCountable, IsNamesSub, field_
 ghost use Rattle.dir_digest.specs.ListingBytes.{listing_bytes, shared_fields};
 ghost use Rattle.dir_digest.specs.Spelled.{AreSpecsSpelled, nul_ended, text_itself, spec_bytes};
 ghost use Rattle.dir_digest.specs.Spelled.{specs_bytes, texts_at};
-ghost use Rattle.dir_digest.specs.Terms.{AreRead, IsReadSpec, is_whole_mode, terms_of};
+ghost use Rattle.dir_digest.specs.Basis.{AreRead, IsReadSpec, is_whole_mode, basis_of};
 
 use crate::fields::{add_count, add_field, add_shared, add_spec, listing_mark};
 use crate::mode::Mode;
@@ -37,7 +37,7 @@ pub struct Listings<'a> {
     shared: Bytes,
     // The fields of each specification.
     specs: Row<Bytes>,
-    ghost spelled: { AreSpecsSpelled (terms_of format mode types.now subs.now rules.now) shared
+    ghost spelled: { AreSpecsSpelled (basis_of format mode types.now subs.now rules.now) shared
         specs },
 }
 
@@ -133,8 +133,8 @@ fn add_found(
 }
 
 impl<'a> Listings<'a> {
-    ghost use Rattle.dir_digest.specs.Listings.{terms_in};
-    ghost use Rattle.dir_digest.specs.Terms.{digest_on, listing_on};
+    ghost use Rattle.dir_digest.specs.Listings.{basis_in};
+    ghost use Rattle.dir_digest.specs.Basis.{digest_on, listing_on};
 
     /// Spells what all listings have in common. Whatever the types, substitutions and
     /// specifications are, their types keep what accepted files are, so that the laws on listings
@@ -148,8 +148,8 @@ impl<'a> Listings<'a> {
         rules: &'a RuleSet,
     ) -> Result<Listings<'a>, OutOfMemory>
         ensures terms { IfOk result (λ listings.
-            terms_in listings ≡ terms_of format mode types.now subs.now rules.now) }
-        ensures read { IfOk result (λ listings. AreRead (terms_in listings)) }
+            basis_in listings ≡ basis_of format mode types.now subs.now rules.now) }
+        ensures read { IfOk result (λ listings. AreRead (basis_in listings)) }
     {
         let _names = types.sorted().len();
         let shared = shared_of(alloc, mode, types, subs)?;
@@ -205,7 +205,7 @@ impl<'a> Listings<'a> {
             ≡ substituted self.now.subs.now.first self.now.subs.now.second (path_of dir.now) }
         ensures own { IsScratchOf self.now.rules.now scratch.new }
         ensures value { OnOk result (to.new
-            ≡ listing_bytes (listing_on (terms_in self.now) (path_of dir.now))) }
+            ≡ listing_bytes (listing_on (basis_in self.now) (path_of dir.now))) }
     {
         to.clear();
         add_field(listing_mark(self.format), to)?;
@@ -232,10 +232,10 @@ impl<'a> Listings<'a> {
         dir: &PathRef<'_>,
         to: &mut Bytes,
     ) -> Result<(), OutOfMemory>
-        requires { IsScratchOf (terms_in self.now).specs scratch.old }
-        ensures own { IsScratchOf (terms_in self.now).specs scratch.new }
+        requires { IsScratchOf (basis_in self.now).specs scratch.old }
+        ensures own { IsScratchOf (basis_in self.now).specs scratch.new }
         ensures value { OnOk result (to.new
-            ≡ listing_bytes (listing_on (terms_in self.now) (path_of dir.now))) }
+            ≡ listing_bytes (listing_on (basis_in self.now) (path_of dir.now))) }
     {
         match self.subs.changed(alloc, dir)? {
             None => {
@@ -256,10 +256,10 @@ impl<'a> Listings<'a> {
         dir: &PathRef<'_>,
         buffer: &mut Bytes,
     ) -> Result<Digest, OutOfMemory>
-        requires { IsScratchOf (terms_in self.now).specs scratch.old }
-        ensures own { IsScratchOf (terms_in self.now).specs scratch.new }
+        requires { IsScratchOf (basis_in self.now).specs scratch.old }
+        ensures own { IsScratchOf (basis_in self.now).specs scratch.new }
         ensures value { IfOk result (λ digest.
-            digest ≡ digest_on (terms_in self.now) (path_of dir.now)) }
+            digest ≡ digest_on (basis_in self.now) (path_of dir.now)) }
     {
         self.write(alloc, scratch, dir, buffer)?;
         Ok(Digest {

@@ -104,10 +104,10 @@ changed_seen w tree labels e own wet =
     (sym (group_over w tree labels e own))
     ∙ is_changed_is (walk_over w labels) e wet
 
-pub label_seen : (w : Walk) (tree : List Record) (labels : ℕ → Label) (g : ℕ) → w.entries ≡ tree
+pub new_label_seen : (w : Walk) (tree : List Record) (labels : ℕ → Label) (g : ℕ) → w.entries ≡ tree
     → w.options.dry ≡ false → g < groups_in tree
     → new_label (walk_over w labels) g ≡ label_by (verdict (walk_over w labels) g) (labels g)
-label_seen w tree labels g own wet l =
+new_label_seen w tree labels g own wet l =
     new_label_is (walk_over w labels) g wet
     ∙ ap (label_by (verdict (walk_over w labels) g))
     (label_is w.entries labels g (subst (λ es. g < groups_in es) (sym own) l))
@@ -124,4 +124,4 @@ after_seen w tree labels g first names given label own wet l named at is same =
     let group : group_of tree first ≡ g =
     ap (group_of tree) (at ∙ ap (λ xs. get_or xs 0 0) named ∙ i.head) ∙ i.own in
     ap₂ label_by (is ∙ ap (verdict (walk_over w labels)) group) same
-    ∙ sym (label_seen w tree labels g own wet l)
+    ∙ sym (new_label_seen w tree labels g own wet l)

@@ -18,7 +18,7 @@ use Rattle.tree_model.specs.Selection.{selected_by}
 use Rattle.tree_model.specs.declared.choice.Choice.{Choice}
 use Rattle.tree_model.proofs.GroupLemmas.{has_first}
 use Rattle.tree_model.proofs.LabelledLemmas.{mapped_at}
-use Rattle.label_rules.specs.LabelAfter.{label_told}
+use Rattle.label_rules.specs.LabelAfter.{label_seen}
 use Rattle.label_rules.specs.declared.label_after.LabelAfter.{LabelAfter}
 use Rattle.label_rules.specs.declared.rules.Rules.{Rules}
 use Rattle.relabel_core.specs.declared.options.Options.{Options}
@@ -111,29 +111,29 @@ turns_more entries s (first ∷ runs) run =
 -- ---- labels by the numbers of their groups
 
 told_at : (labels : List LabelAfter) (g : ℕ) → labels_listed labels g
-    ≡ get_or (map label_told labels) g Absent
+    ≡ get_or (map label_seen labels) g Absent
 told_at [] zero = refl
 told_at [] (suc g) = refl
 told_at (label ∷ labels) zero = refl
 told_at (label ∷ labels) (suc g) = told_at labels g
 
-pub listed_at : (labels : List LabelAfter) (f : ℕ → Label) (n g : ℕ) → map label_told labels
+pub listed_at : (labels : List LabelAfter) (f : ℕ → Label) (n g : ℕ) → map label_seen labels
     ≡ map f (all_numbers n) → g < n → labels_listed labels g ≡ f g
 listed_at labels f n g is l =
     told_at labels g ∙ ap (λ ls. get_or ls g Absent) is ∙ mapped_at f n g Absent l
 
-pub count_listed : (labels : List LabelAfter) (f : ℕ → Label) (n : ℕ) → map label_told labels
+pub count_listed : (labels : List LabelAfter) (f : ℕ → Label) (n : ℕ) → map label_seen labels
     ≡ map f (all_numbers n) → length labels ≡ n
 count_listed labels f n is =
-    sym (length-map labels label_told) ∙ ap length is ∙ length-map (all_numbers n) f
+    sym (length-map labels label_seen) ∙ ap length is ∙ length-map (all_numbers n) f
     ∙ count_numbers n
 
 pub all_listed : (labels : List LabelAfter) (f : ℕ → Label) (n : ℕ) → length labels ≡ n
-    → ((g : ℕ) → g < n → labels_listed labels g ≡ f g) → map label_told labels
+    → ((g : ℕ) → g < n → labels_listed labels g ≡ f g) → map label_seen labels
     ≡ map f (all_numbers n)
 all_listed labels f n counted each =
-    let sized = length-map labels label_told in
-    ext_get_or Absent (map label_told labels) (map f (all_numbers n))
+    let sized = length-map labels label_seen in
+    ext_get_or Absent (map label_seen labels) (map f (all_numbers n))
     (sized ∙ counted ∙ sym (count_numbers n) ∙ sym (length-map (all_numbers n) f))
     (λ g l.
     let within : g < n = omega (arith, l, sized, counted) in
@@ -166,7 +166,7 @@ keeps_labels entries runs are =
 pub kept_after : {E : Type 0} (w : Walk) (tree : List Record) (labels : ℕ → Label)
     (result : Result Taken E) → w.entries ≡ tree
     → ((e : ℕ) → is_directory tree e ≡ false → w.stored e ≡ None)
-    → IfOk result (λ taken. map label_told taken.left.labels ≡ map (new_label (walk_over w labels))
+    → IfOk result (λ taken. map label_seen taken.left.labels ≡ map (new_label (walk_over w labels))
     (all_numbers (groups_in tree)))
     → IfOk result (λ taken. digests_of taken.left.stored ≡ digest_after (walk_over w labels))
     → IfOk result (λ taken. IsStandingKept tree taken.left)
@@ -186,7 +186,7 @@ pub taken_after : {E : Type 0} (w : Walk) (tree : List Record) (s : TreeState) (
     (digests_of at.stored)
     → IfOk result (λ taken. turn_lent taken.turn ≡ turn_in (walk_over w (labels_listed at.labels)))
     → IfOk result
-    (λ taken. map label_told taken.left.labels
+    (λ taken. map label_seen taken.left.labels
     ≡ map (new_label (walk_over w (labels_listed at.labels))) (all_numbers (groups_in tree)))
     → IfOk result
     (λ taken. digests_of taken.left.stored ≡ digest_after
@@ -245,14 +245,14 @@ pub all_told : (tree : List Record) (runs : List TreeRun) (told : Rehearsed) (at
     → IsAt tree (end tree (bare_state tree) runs) at
     → rehearsed_lent told ≡ rehearsed_by tree runs
 all_told tree runs told at same turns kept now =
-    let labels_are : map label_told told.labels ≡ map (end tree (bare_state tree) runs).labels
+    let labels_are : map label_seen told.labels ≡ map (end tree (bare_state tree) runs).labels
     (all_numbers (groups_in tree)) =
-    ap (map label_told) same
+    ap (map label_seen) same
     ∙ all_listed at.labels (end tree (bare_state tree) runs).labels (groups_in tree) kept.each_group
     now.labels_are in
     λ i. record { turns = turns i; labels = labels_are i }
 
-pub first_at : (tree : List Record) (at : Standing) → map label_told at.labels ≡ map (label_in tree)
+pub first_at : (tree : List Record) (at : Standing) → map label_seen at.labels ≡ map (label_in tree)
     (all_numbers (groups_in tree))
     → digests_of at.stored ≡ no_digests → IsAt tree (bare_state tree) at
 first_at tree at labels_are none = record {
@@ -260,7 +260,7 @@ first_at tree at labels_are none = record {
   digests_are = none;
 }
 
-pub first_kept : (tree : List Record) (at : Standing) → map label_told at.labels
+pub first_kept : (tree : List Record) (at : Standing) → map label_seen at.labels
     ≡ map (label_in tree) (all_numbers (groups_in tree))
     → digests_of at.stored ≡ no_digests → IsStandingKept tree at
 first_kept tree at labels_are none = record {

@@ -42,8 +42,8 @@ use Rattle.policy_rehearsal.specs.Plan.{rehearse_plan}
 use Rattle.policy_rehearsal.specs.Rehearsal.{ChangeValue, RunsKeepLabels, TurnValue, change_to}
 use Rattle.policy_rehearsal.specs.Rehearsal.{changes_in, bare_state, rehearsed, rehearsed_by}
 use Rattle.policy_rehearsal.specs.Rehearsal.{runs_of, turn_in, turns_from}
-use Rattle.policy_rehearsal.specs.Told.{TellsKept, label_at_end, label_behind, label_changed}
-use Rattle.policy_rehearsal.specs.Told.{labels_at_end}
+use Rattle.policy_rehearsal.specs.Reported.{ReportKeeps, label_at_end, label_behind, label_changed}
+use Rattle.policy_rehearsal.specs.Reported.{labels_at_end}
 use Rattle.policy_rehearsal.specs.declared.words.RehearseWords.{RehearseWords}
 use Rattle.policy_rehearsal.proofs.StandingLemmas.{keeps_labels, same_below}
 use Rattle.policy_rehearsal.proofs.TurnLemmas.{change_there, changes_more}
@@ -280,7 +280,7 @@ told_by : (words : RehearseWords) (known : Files) (input : List ℕ) (IsReport :
     (and_then files
     (λ policies. and_then records (λ entries. Ok (rehearsal_of words policies entries))))
     (Ok ending)
-    → IsReport ending.report → TellsKept words known input IsReport
+    → IsReport ending.report → ReportKeeps words known input IsReport
 told_by words known input IsReport ending (Ok policies) (Ok entries) files_say input_says is told =
     record {
       policies = policies;
@@ -299,7 +299,7 @@ told_by words known input IsReport ending (Err cause) records files_say input_sa
 pub answer_keeps : (words : RehearseWords) (known : Files) (input : List ℕ)
     (IsReport : List ℕ → Type 0) (ending : Ending)
     → (rehearse_plan words).answer known input ≡ Ok ending → IsReport ending.report
-    → TellsKept words known input IsReport
+    → ReportKeeps words known input IsReport
 unfolding answer_by entries_for
 answer_keeps words known input IsReport ending is told =
     told_by words known input IsReport ending

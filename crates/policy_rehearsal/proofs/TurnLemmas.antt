@@ -26,7 +26,7 @@ use Rattle.tree_model.specs.Labelled.{DifferInLabels}
 use Rattle.tree_model.proofs.LabelledLemmas.{mapped_at}
 use Rattle.relabel_core.specs.Changes.{change_at, label_before}
 use Rattle.relabel_core.specs.Counts.{AreWalkCounts, count_at}
-use Rattle.relabel_core.specs.Passed.{renewal}
+use Rattle.relabel_core.specs.Swept.{renewal}
 use Rattle.relabel_core.specs.Stored.{digests_listed, digests_of}
 use Rattle.relabel_core.specs.declared.stored.Stored.{Stored}
 use Rattle.relabel_core.specs.Walk.{Walk, walk_count, digest_after, digests, has_changed_name}
@@ -36,7 +36,7 @@ use Rattle.relabel_core.proofs.CountsLemmas.{rise_is}
 use Rattle.relabel_core.proofs.NextLemmas.{none_there}
 use Rattle.relabel_runs.specs.Runs.{tree_labelled}
 use Rattle.relabel_runs.proofs.LabelledLemmas.{group_within}
-use Rattle.label_rules.specs.LabelAfter.{label_told}
+use Rattle.label_rules.specs.LabelAfter.{label_seen}
 use Rattle.label_rules.specs.declared.label_after.LabelAfter.{LabelAfter}
 use Rattle.policy_rehearsal.specs.Rehearsal.{ChangeValue, change_to, changes_in, skipped_in}
 use Rattle.policy_rehearsal.specs.Seen.{walk_over}
@@ -141,10 +141,10 @@ count_listed w = length-map (all_numbers (walk_count w)) (digest_after w)
 -- one label more
 pub listed_more : (f : ℕ → Label) (n : ℕ) (old new : List LabelAfter) (label : LabelAfter)
     → new ≡ old ++ label ∷ []
-    → map label_told old ≡ map f (all_numbers n) → label_told label ≡ f n
-    → map label_told new ≡ map f (all_numbers (n + 1))
+    → map label_seen old ≡ map f (all_numbers n) → label_seen label ≡ f n
+    → map label_seen new ≡ map f (all_numbers (n + 1))
 listed_more f n old new label more so_far is =
-    ap (map label_told) more ∙ map-append label_told old (label ∷ [])
+    ap (map label_seen) more ∙ map-append label_seen old (label ∷ [])
     ∙ ap₂ (λ front last. front ++ last ∷ []) so_far is
     ∙ sym (map-append f (all_numbers n) (n ∷ []))
     ∙ ap (λ k. map f (all_numbers k)) (sym (add-one n))
@@ -223,15 +223,15 @@ pub change_told : (w : Walk) (tree : List Record) (labels : ℕ → Label) (e : 
     (found : Option ContextRef) (to : ContextRef) (from : LabelAfter) → w.entries ≡ tree
     → e < length tree
     → option_map context_lent found ≡ change_at (walk_over w labels) e → found ≡ Some to
-    → label_told from ≡ labels (group_of tree e)
+    → label_seen from ≡ labels (group_of tree e)
     → ◌≡◌ {A = Option ChangeValue}
-    (Some (record { entry = e; from = label_told from; to = context_lent to }))
+    (Some (record { entry = e; from = label_seen from; to = context_lent to }))
     (change_to (walk_over w labels) e (change_at (walk_over w labels) e))
 change_told w tree labels e found to from own l given is now =
     let v = walk_over w labels in
     let at : Some (context_lent to) ≡ change_at v e = ap (option_map context_lent) (sym is)
     ∙ given in
-    let before : label_told from ≡ label_before v e =
+    let before : label_seen from ≡ label_before v e =
     now ∙ sym (before_over w tree labels e own l) in
     ap (λ (label : Label). Some (change_from e label (context_lent to))) before
     ∙ ap (change_to v e) at

@@ -14,7 +14,7 @@ use Rattle.tree_model.specs.Labelled.{DifferInLabels}
 use Rattle.tree_model.proofs.GroupLemmas.{has_first}
 use Rattle.tree_model.proofs.LabelledLemmas.{differ}
 use Rattle.label_rules.specs.LookUp.{given_at, index_asked}
-use Rattle.relabel_core.specs.Passed.{renewal}
+use Rattle.relabel_core.specs.Swept.{renewal}
 use Rattle.relabel_core.specs.Walk.{Walk, can_win, walk_count, deciding, digest_now, group_winner}
 use Rattle.relabel_core.specs.Walk.{is_current, is_renewed, is_skipped, is_skipped_first, skippable}
 use Rattle.relabel_core.specs.Walk.{skips, walked, wanted, winner}

@@ -6,7 +6,7 @@ use Rattle.run_endings.specs.declared.ending.Ending.{Ending}
 use Rattle.relabel_runs.specs.Runs.{TreeRun}
 use Rattle.policy_rehearsal.specs.Plan.{rehearse_plan}
 use Rattle.policy_rehearsal.specs.Rehearsal.{rehearsed_by}
-use Rattle.policy_rehearsal.specs.Told.{TellsKept, labels_at_end}
+use Rattle.policy_rehearsal.specs.Reported.{ReportKeeps, labels_at_end}
 use Rattle.policy_rehearsal.specs.declared.words.RehearseWords.{RehearseWords}
 
 -- the changes of the turns, made one after the other, leave the labels at the end
@@ -21,4 +21,4 @@ abbrev pub AnswersKeepLabels : Type 0
 AnswersKeepLabels =
     (words : RehearseWords) (known : Files) (input : List ℕ) (ending : Ending)
     → (rehearse_plan words).answer known input ≡ Ok ending
-    → TellsKept words known input (λ report. ending.report ≡ report)
+    → ReportKeeps words known input (λ report. ending.report ≡ report)

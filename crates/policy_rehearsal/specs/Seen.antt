@@ -6,7 +6,7 @@ use Rattle.context_syntax.specs.declared.label.Label.{Label}
 use Rattle.context_syntax.specs.declared.label.Label.TheVariants.{Absent}
 use Rattle.find_records.specs.Record.{Record}
 use Rattle.label_rules.specs.Decide.{VerdictValue, Keep, verdict_for}
-use Rattle.label_rules.specs.LabelAfter.{label_told}
+use Rattle.label_rules.specs.LabelAfter.{label_seen}
 use Rattle.label_rules.specs.declared.label_after.LabelAfter.{LabelAfter}
 use Rattle.tree_model.specs.Groups.{groups_in}
 use Rattle.relabel_core.specs.Answer.{walk_in}
@@ -16,7 +16,7 @@ use Rattle.policy_rehearsal.specs.declared.seen.Seen.{Seen}
 
 abbrev pub label_or_none : Option LabelAfter → Label
 label_or_none None = Absent
-label_or_none (Some label) = label_told label
+label_or_none (Some label) = label_seen label
 
 -- the labels of the groups by their numbers
 abbrev pub labels_listed : List LabelAfter → ℕ → Label

@@ -9,7 +9,7 @@ use crate::rehearsal::rehearse;
 use crate::rehearsed::Rehearsed;
 use crate::texts::add_text;
 use crate::words::RehearseWords;
-use label_base::{Bytes, OutOfMemory, Row};
+use label_base::{Bytes, OutOfMemory, PiecedText, Row};
 use label_rules::Rules;
 use relabel_core::add_absent_of;
 use run_endings::{End, Ending};
@@ -52,7 +52,7 @@ fn ending_of(
     add_absent_of(alloc, words.choice.operands.as_slice(), absent, &mut report)?;
     add_text(alloc, tree, &words.bases, rehearsed, &mut report)?;
     Ok(Ending {
-        report,
+        report: PiecedText::of(alloc, report)?,
         end: end_by(absent.len() as u32),
         saved: None,
     })

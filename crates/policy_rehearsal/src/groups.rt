@@ -1,22 +1,23 @@
 ghost use Rattle.std.specs.Prelude.{◌≡◌, IfOk, map};
+ghost use Rattle.std.specs.Option.{option_copied};
 ghost use Rattle.label_base.specs.Bounded.{all_numbers};
 ghost use Rattle.context_syntax.specs.Context.{same_context, same_option};
 ghost use Rattle.context_syntax.specs.ContextRef.{context_lent};
 ghost use Rattle.tree_model.specs.Groups.{groups_in, label_in};
 ghost use Rattle.label_rules.specs.Decide.{label_by, type_verdict, verdict_for, verdict_on};
 ghost use Rattle.label_rules.specs.Decide.{whole_verdict};
-ghost use Rattle.label_rules.specs.LabelAfter.{label_told};
+ghost use Rattle.label_rules.specs.LabelAfter.{label_seen};
 ghost use Rattle.label_rules.specs.Verdicts.{verdict_of};
 
 use context_syntax::{Context, ContextRef, TypeNames};
-use label_base::{Bytes, OutOfMemory, Row};
+use label_base::{OutOfMemory, Row};
 use label_rules::{LabelAfter, Verdict, decide};
 use std::alloc::Global;
 use tree_model::Tree;
 
 /// The labels of the groups of a tree.
 pub fn first_labels<'a>(alloc: Global, tree: &'a Tree) -> Result<Row<LabelAfter<'a>>, OutOfMemory>
-    ensures { IfOk result (λ labels. map label_told labels
+    ensures { IfOk result (λ labels. map label_seen labels
         ≡ map (label_in tree.now) (all_numbers (groups_in tree.now))) }
 {
     let mut labels = Row::with_capacity(alloc, tree.groups() as usize)?;
@@ -26,12 +27,12 @@ pub fn first_labels<'a>(alloc: Global, tree: &'a Tree) -> Result<Row<LabelAfter<
     Ok(labels)
 }
 
-fn is_same_range(range: &Option<Bytes>, other: &Option<Bytes>) -> bool
-    ensures { result ≡ same_option range.now other.now }
+fn is_same_range(range: Option<&[u8]>, other: Option<&[u8]>) -> bool
+    ensures { result ≡ same_option (option_copied range.entry) (option_copied other.entry) }
 {
     match (range, other) {
         (None, None) => true,
-        (Some(range), Some(other)) => *range == *other,
+        (Some(range), Some(other)) => range == other,
         _ => false,
     }
 }
@@ -41,10 +42,10 @@ fn is_same(current: &ContextRef<'_>, wanted: &Context) -> bool
 {
     let rest = current.rest;
     let kind = current.kind;
-    rest.user == wanted.user
-        && rest.role == wanted.role
-        && kind.kind == wanted.kind
-        && is_same_range(&rest.range, &wanted.range)
+    rest.user() == wanted.user()
+        && rest.role() == wanted.role()
+        && kind.kind() == wanted.kind()
+        && is_same_range(rest.range(), wanted.range())
 }
 
 // By force, the whole context.
@@ -62,10 +63,10 @@ fn decide_type<'a>(current: &ContextRef<'a>, wanted: &'a Context, types: &TypeNa
     ensures { verdict_of result ≡ type_verdict types.now (context_lent current.now) wanted.now }
 {
     let kind = current.kind;
-    if kind.kind == wanted.kind {
+    if kind.kind() == wanted.kind() {
         return Verdict::Keep;
     }
-    if types.has(kind.kind.as_slice()) {
+    if types.has(kind.kind()) {
         return Verdict::Customized;
     }
     Verdict::Change(ContextRef {
@@ -98,7 +99,7 @@ pub fn decide_lent<'a>(
     types: &TypeNames,
 ) -> Verdict<'a>
     ensures { verdict_of result
-        ≡ verdict_for (label_told current.now) wanted.now force types.now }
+        ≡ verdict_for (label_seen current.now) wanted.now force types.now }
 {
     match current {
         LabelAfter::Kept(label) => decide(label, wanted, force, types),
@@ -108,7 +109,7 @@ pub fn decide_lent<'a>(
 
 /// The label after a verdict.
 pub fn label_by<'a>(verdict: &Verdict<'a>, label: &LabelAfter<'a>) -> LabelAfter<'a>
-    ensures { label_told result ≡ label_by (verdict_of verdict.now) (label_told label.now) }
+    ensures { label_seen result ≡ label_by (verdict_of verdict.now) (label_seen label.now) }
 {
     match verdict {
         Verdict::Keep | Verdict::Customized => *label,

@@ -1,7 +1,7 @@
 ghost use Rattle.std.specs.Prelude.{◌≡◌, ℕ, ◌<◌, ◌+◌, ◌^◌, false, IfOk, None, length, map};
 ghost use Rattle.find_records.specs.Record.{AreOfFormat};
 ghost use Rattle.label_base.specs.Bounded.{all_numbers};
-ghost use Rattle.label_rules.specs.LabelAfter.{label_told};
+ghost use Rattle.label_rules.specs.LabelAfter.{label_seen};
 ghost use Rattle.tree_model.specs.Extents.{is_directory};
 ghost use Rattle.tree_model.specs.Groups.{groups_in};
 ghost use Rattle.tree_model.specs.Selection.{selected_by};
@@ -81,7 +81,7 @@ fn taken_from<'a>(
         → digests_of stored.now e ≡ None }
     ensures turn { IfOk result (λ taken.
         turn_lent taken.turn ≡ turn_in (walk_seen seen.now)) }
-    ensures labels { IfOk result (λ taken. map label_told taken.left.labels
+    ensures labels { IfOk result (λ taken. map label_seen taken.left.labels
         ≡ map (new_label (walk_seen seen.now)) (all_numbers (groups_in seen.now.tree.now))) }
     ensures stored { IfOk result (λ taken.
         digests_of taken.left.stored ≡ digest_after (walk_seen seen.now)) }

@@ -1,7 +1,7 @@
 ghost use Rattle.std.specs.Prelude.{◌≡◌, ◌<◌, get_or, length, option_and_then, option_map};
 ghost use Rattle.std.specs.Option.{option_copied};
 ghost use Rattle.context_syntax.specs.ContextRef.{context_lent};
-ghost use Rattle.label_rules.specs.LabelAfter.{label_told};
+ghost use Rattle.label_rules.specs.LabelAfter.{label_seen};
 ghost use Rattle.label_rules.specs.Verdicts.{verdict_of};
 ghost use Rattle.tree_model.specs.Groups.{group_of, groups_in};
 ghost use Rattle.relabel_core.specs.Answer.{walk_in};
@@ -43,7 +43,7 @@ fn is_at(found: Option<u32>, e: u32) -> bool
 pub fn label_now<'a>(seen: &Seen<'_, 'a>, g: u32) -> LabelAfter<'a>
     requires seen { IsSeen seen.now }
     requires group { g < groups_in seen.now.tree.now }
-    ensures { label_told result ≡ labels_listed seen.now.labels.now g }
+    ensures { label_seen result ≡ labels_listed seen.now.labels.now g }
 {
     let labels = seen.labels;
     *labels.get(g as usize)
@@ -79,7 +79,7 @@ fn verdict_where<'a>(
     label: &LabelAfter<'a>,
     wanted: Option<&'a Context>,
 ) -> Verdict<'a>
-    ensures { verdict_of result ≡ verdict_wanted (label_told label.now)
+    ensures { verdict_of result ≡ verdict_wanted (label_seen label.now)
         (option_copied wanted.entry) seen.now.force seen.now.rules.now.types }
 {
     match wanted {
@@ -136,7 +136,7 @@ fn number_at(numbers: &[u32], i: u32) -> u32
 pub fn label_after<'a>(seen: &Seen<'_, 'a>, g: u32) -> LabelAfter<'a>
     requires seen { IsSeen seen.now }
     requires group { g < groups_in seen.now.tree.now }
-    ensures { label_told result ≡ new_label (walk_seen seen.now) g }
+    ensures { label_seen result ≡ new_label (walk_seen seen.now) g }
 {
     let names = seen.tree.names_of(g);
     let first = number_at(names, 0);

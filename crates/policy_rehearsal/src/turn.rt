@@ -5,7 +5,7 @@ ghost use Rattle.std.specs.List.{cons_option};
 ghost use Rattle.std.specs.Option.{option_copied};
 ghost use Rattle.dir_digest.specs.Digest.{void_digest};
 ghost use Rattle.label_base.specs.Bounded.{all_numbers};
-ghost use Rattle.label_rules.specs.LabelAfter.{label_told};
+ghost use Rattle.label_rules.specs.LabelAfter.{label_seen};
 ghost use Rattle.tree_model.specs.Extents.{is_directory};
 ghost use Rattle.tree_model.specs.Groups.{groups_in};
 ghost use Rattle.relabel_core.specs.Answer.{walk_in};
@@ -96,7 +96,7 @@ pub fn labels_after<'a>(
     seen: &Seen<'_, 'a>,
 ) -> Result<Row<LabelAfter<'a>>, OutOfMemory>
     requires { IsSeen seen.now }
-    ensures { IfOk result (λ labels. map label_told labels
+    ensures { IfOk result (λ labels. map label_seen labels
         ≡ map (new_label (walk_seen seen.now)) (all_numbers (groups_in seen.now.tree.now))) }
 {
     let mut labels = Row::with_capacity(alloc, seen.tree.groups() as usize)?;

@@ -22,8 +22,8 @@ use Rattle.relabel_core.specs.Changes.{is_void, label_attr, label_attrs, label_b
 use Rattle.relabel_core.specs.Changes.{section_at, section_by, section_with, unless_stored}
 use Rattle.label_rules.specs.Decide.{given_in, VerdictValue, Keep, Customized, Change, label_by}
 use Rattle.label_rules.specs.Decide.{verdict_for, verdict_on}
-use Rattle.relabel_core.specs.DigestAfter.{digest_told, void_if}
-use Rattle.relabel_core.specs.Passed.{renewal}
+use Rattle.relabel_core.specs.DigestAfter.{digest_seen, void_if}
+use Rattle.relabel_core.specs.Swept.{renewal}
 use Rattle.relabel_core.specs.Walk.{Walk, digest_after, digest_now, group_winner, is_found_at}
 use Rattle.relabel_core.specs.Walk.{is_changed_name, is_outdated, is_renewed, label_after}
 use Rattle.relabel_core.specs.Walk.{new_label_with, path_at, verdict_where, verdict_with, wanted}
@@ -188,7 +188,7 @@ unfolding renewed_or
 after_other w d h = after_is w d
     ∙ ap (λ o. renewed_or o (if is_void w d then Some void_digest else w.stored d)) h
 
-pub told_void : (b : Bool) (stored : Option (List ℕ)) → digest_told (void_if b) stored
+pub told_void : (b : Bool) (stored : Option (List ℕ)) → digest_seen (void_if b) stored
     ≡ (if b then Some void_digest else stored)
 told_void true stored = refl
 told_void false stored = refl

@@ -1,11 +1,11 @@
-pub mod PassLemmas
+pub mod TableLemmas
 pub mod NotedLemmas
 pub mod ReportLemmas
 pub mod CountLemmas
 pub mod SelectedLemmas
 pub mod FormatLemmas
 pub mod StoredLemmas
-pub mod PassedLemmas
+pub mod SweptLemmas
 pub mod CountsLemmas
 pub mod ChangeLemmas
 pub mod DumpLemmas

@@ -12,7 +12,7 @@ use Rattle.tree_model.specs.Extents.{is_directory}
 use Rattle.tree_model.proofs.LabelledLemmas.{mapped_at}
 use Rattle.relabel_core.specs.Walk.{Walk, walk_count, digest_after, digests, has_changed_name}
 use Rattle.relabel_core.proofs.ChangeLemmas.{after_other}
-use Rattle.relabel_core.proofs.PassedLemmas.{none_of_file}
+use Rattle.relabel_core.proofs.SweptLemmas.{none_of_file}
 
 none_void : (dry changed : Bool) (stored : Option (List ℕ)) → stored ≡ None
     → (if not dry && (is_some stored && changed) then Some void_digest else stored) ≡ None

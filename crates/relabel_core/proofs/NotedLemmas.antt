@@ -8,7 +8,7 @@ use Rattle.std.specs.Prelude.{filter, is_some, is_none, nat_lt, option_and_then}
 use Rattle.std.proofs.lemmas.Bool.{cases_eq, cases_lt, le-ltb, lt-ltb}
 use Rattle.std.proofs.lemmas.List.{get_or-replicate, length-replicate}
 use Rattle.std.proofs.lemmas.List.Elements.{filter-append}
-use Rattle.relabel_core.proofs.PassLemmas.{kept}
+use Rattle.relabel_core.proofs.TableLemmas.{kept}
 use Rattle.label_base.specs.Bounded.{all_numbers, found_or, least_below}
 use Rattle.label_base.proofs.BoundedLemmas.{least_case, below_or_last}
 use Rattle.tree_model.specs.Groups.{group_of, groups_in}

@@ -12,8 +12,8 @@ use Rattle.tree_model.proofs.Sending.{selected_sync, tree_sync}
 use Rattle.relabel_core.specs.contracts.stored.Stored as Stored
 use Rattle.relabel_core.specs.contracts.input.WalkInput as WalkInput
 use Rattle.relabel_core.specs.contracts.noting.Noted as Noted
-use Rattle.relabel_core.specs.contracts.passed.Skip as Skip
-use Rattle.relabel_core.specs.contracts.passed.Passed as Passed
+use Rattle.relabel_core.specs.contracts.swept.Skip as Skip
+use Rattle.relabel_core.specs.contracts.swept.Swept as Swept
 use Rattle.relabel_core.specs.contracts.walked.Walked as Walked
 use Rattle.relabel_core.specs.contracts.digests.Digests as Digests
 
@@ -53,7 +53,7 @@ noted_field = search (sendable, crosses) depth 40
 skip_field : IsSync (Skip.the_field).row
 skip_field = search (sendable, crosses) depth 40
 
-passed_field : IsSync (Passed.the_field).row
+passed_field : IsSync (Swept.the_field).row
 passed_field = search (sendable, crosses, skip_field, BTreeMap-sync) depth 60
 
 walked_fields : (κ : NamedLft) → IsSync (Struct (shape (Walked.the_type κ)))

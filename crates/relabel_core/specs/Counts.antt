@@ -16,7 +16,7 @@ pub record AreWalkCounts (w : Walk) (n : ℕ) (counts : List ℕ) : Type 0 where
   pub sized : length counts ≡ n + 1
   pub each : (e : ℕ) → e ≤ n → count_at counts e ≡ changed_below w e
 
--- so many are counted, unless no digest can change
-pub record AreTold (w : Walk) (counts : List ℕ) : Type 0 where
+-- these are counted, unless no digest can change
+pub record AreNeededCounts (w : Walk) (counts : List ℕ) : Type 0 where
   pub counted : (d : ℕ) → w.options.dry ≡ false → is_some (w.stored d) ≡ true
       → AreWalkCounts w (walk_count w) counts

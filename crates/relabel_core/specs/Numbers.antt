@@ -3,6 +3,7 @@ use Rattle.std.specs.Prelude.{◌≡◌, ◌≢◌, ℕ, ◌<◌, Bool, true, fa
 use Rattle.std.specs.Prelude.{Option, Some, None, is_none, nat_lt, ◌==◌, ◌&&◌, if◌then◌else◌}
 use Rattle.relabel_core.specs.declared.numbers.TheConstants.{NONE}
 
+-- the index that a number stands for
 abbrev pub as_found : ℕ → Option ℕ
 as_found number = if number == NONE then None else Some number
 
@@ -10,6 +11,7 @@ as_found number = if number == NONE then None else Some number
 abbrev pub found_in : List ℕ → ℕ → Option ℕ
 found_in numbers i = as_found (get_or numbers i NONE)
 
+-- the number that stands for an index, or for none
 abbrev pub found_number : Option ℕ → ℕ
 found_number None = NONE
 found_number (Some number) = number

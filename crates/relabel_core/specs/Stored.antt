@@ -71,7 +71,7 @@ abbrev pub KeepsAmong : (old new : BTreeMap ℕ (List ℕ)) → ℕ → List Att
 KeepsAmong old new d attrs = (e : ℕ) → digests_in new e
     ≡ (if d == e then last_or (digests_in old e) (digests_among attrs) else digests_in old e)
 
--- those of these sections are kept
+-- the digests of these sections are kept
 abbrev pub KeepsFrom : (old new : BTreeMap ℕ (List ℕ)) → List Record → List Section → Type 0
 KeepsFrom old new entries sections = (e : ℕ)
     → digests_in new e ≡ last_or (digests_in old e) (digests_at sections entries e)
@@ -81,6 +81,6 @@ abbrev pub AddsDigest : (old new : BTreeMap ℕ (List ℕ)) → ℕ → Option (
 AddsDigest old new d found =
     (e : ℕ) → digests_in new e ≡ (if d == e then found else digests_in old e)
 
--- what is told of the numbers below n
+-- what stands at the numbers below n
 abbrev pub stored_before : (ℕ → Option (List ℕ)) → ℕ → ℕ → Option (List ℕ)
-stored_before told n e = if nat_lt e n then told e else None
+stored_before stored n e = if nat_lt e n then stored e else None

@@ -1,5 +1,5 @@
--- What one walk over a tree means. There is no running state: each definition speaks of one entry
--- or one group.
+-- What one walk over a tree means. There is no running state: each definition speaks of one entry,
+-- e, or of one directory, d, by its index, or of one group, g, which are the names of one inode.
 use Rattle.std.specs.Prelude.{ℕ, ◌+◌, Bool, false, not, ◌&&◌, ◌||◌, ◌==◌, List, [], ◌++◌, length}
 use Rattle.std.specs.Prelude.{filter, map, get_or, slice_get, Option, Some, None, is_some}
 use Rattle.std.specs.Prelude.{option_and_then, if◌then◌else◌}
@@ -40,6 +40,7 @@ pub record Walk : Type 0 where
   pub options : Options
   pub stored : StoredDigests
 
+-- how many entries the tree has
 abbrev pub walk_count : Walk → ℕ
 walk_count w = length w.entries
 
@@ -92,13 +93,6 @@ is_skipped_first w e =
 unfoldable pub walked : Walk → ℕ → Bool
 walked w e = is_live w e && not (is_skipped w e)
 
-abbrev pub one_if : Bool → ℕ
-one_if b = if b then 1 else 0
-
--- how many entries below n are looked at
-abbrev pub walked_below : Walk → ℕ → ℕ
-walked_below w n = length (filter (walked w) (all_numbers n))
-
 -- ---- what is decided
 
 -- the index of the specification that decides an entry
@@ -114,14 +108,6 @@ wanted w e = given_at w.rules.rules (deciding w e)
 abbrev pub is_wanted : Walk → ℕ → Bool
 is_wanted w e = is_some (wanted w e)
 
--- how many of the entries below n are decided to a context
-abbrev pub wanted_below : Walk → ℕ → ℕ
-wanted_below w n = length (filter (is_wanted w) (all_numbers n))
-
--- how many entries are
-abbrev pub count_wanted : Walk → ℕ
-count_wanted w = wanted_below w (walk_count w)
-
 -- ---- which name of a group decides
 
 -- the entry is a name of the group, and a context is decided for it
@@ -132,8 +118,9 @@ can_win w g e = (group_of w.entries e == g) && is_some (wanted w e)
 unfoldable pub winner : Walk → ℕ → Option ℕ
 winner w g = least_below (walk_count w) (can_win w g)
 
--- ---- what follows from the winner of a group, where there is one
+-- ---- what follows from the winner of a group, where there is one: `found` is its index
 
+-- the verdict on the label of a group for which this context is wanted
 abbrev pub verdict_where : Walk → ℕ → Option ContextValue → VerdictValue
 verdict_where w g None = verdicts.Keep
 verdict_where w g (Some context) =
@@ -154,6 +141,7 @@ label_where w g wants =
 abbrev pub new_label_with : Walk → ℕ → Option ℕ → Label
 new_label_with w g found = label_where w g (option_and_then (wanted w) found)
 
+-- there is an index, and it is this one
 abbrev pub is_found_at : Option ℕ → ℕ → Bool
 is_found_at None e = false
 is_found_at (Some k) e = k == e
@@ -202,15 +190,19 @@ line_with w e found = line_where w e found (deciding w e)
 
 -- ---- what the walk answers
 
+-- the winner of the group of an entry
 abbrev pub group_winner : Walk → ℕ → Option ℕ
 group_winner w e = winner w (group_of w.entries e)
 
+-- the verdict on the label of a group, by its winner
 abbrev pub verdict : Walk → ℕ → VerdictValue
 verdict w g = verdict_with w g (winner w g)
 
+-- the label of a group after the walk, by its winner
 abbrev pub new_label : Walk → ℕ → Label
 new_label w g = new_label_with w g (winner w g)
 
+-- the label of an entry after the walk
 unfoldable pub label_after : Walk → ℕ → Label
 label_after w e = label_with w e (group_winner w e)
 
@@ -226,7 +218,7 @@ is_changed w g = not (same_label (new_label w g) (label_in w.entries g))
 abbrev pub is_changed_name : Walk → ℕ → Bool
 is_changed_name w e = is_changed w (group_of w.entries e)
 
--- some entry at or below d is
+-- some entry at or below d is a name of such a group
 unfoldable pub has_changed_name : Walk → ℕ → Bool
 has_changed_name w d =
     any_below (walk_count w) (λ e. in_extent w.entries d e && is_changed_name w e)
@@ -253,6 +245,7 @@ digest_after w d =
 abbrev pub digests : Walk → List (Option (List ℕ))
 digests w = map (digest_after w) (all_numbers (walk_count w))
 
+-- the line of an entry
 unfoldable pub line : Walk → ℕ → Option MessageValue
 line w e = line_with w e (group_winner w e)
 
@@ -309,3 +302,21 @@ conflict_errors w = if w.options.strict_links then conflicts_below w (walk_count
 -- how many errors the walk met
 abbrev pub errors : Walk → ℕ
 errors w = absent_errors w + conflict_errors w
+
+-- ---- what is counted
+
+-- a test as a number
+abbrev pub one_if : Bool → ℕ
+one_if b = if b then 1 else 0
+
+-- how many entries below n are looked at
+abbrev pub walked_below : Walk → ℕ → ℕ
+walked_below w n = length (filter (walked w) (all_numbers n))
+
+-- how many of the entries below n are decided to a context
+abbrev pub wanted_below : Walk → ℕ → ℕ
+wanted_below w n = length (filter (is_wanted w) (all_numbers n))
+
+-- how many entries are decided to a context
+abbrev pub count_wanted : Walk → ℕ
+count_wanted w = wanted_below w (walk_count w)

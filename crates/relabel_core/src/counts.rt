@@ -1,6 +1,6 @@
 ghost use Rattle.std.specs.Prelude.{◌≡◌, IfOk, length};
 ghost use Rattle.relabel_core.specs.Answer.{walk_in};
-ghost use Rattle.relabel_core.specs.Counts.{AreWalkCounts, AreTold, count_at};
+ghost use Rattle.relabel_core.specs.Counts.{AreWalkCounts, AreNeededCounts, count_at};
 
 use crate::walked::Walked;
 use label_base::OutOfMemory;
@@ -25,7 +25,7 @@ fn count_changed(alloc: Global, walked: &Walked<'_>) -> Result<Vec<u32>, OutOfMe
 /// For each entry, and for the end, how many entries before it are names of a group whose label
 /// changes; nothing where no digest can change.
 pub fn count_if_stored(alloc: Global, walked: &Walked<'_>) -> Result<Vec<u32>, OutOfMemory>
-    ensures { IfOk result (λ counts. AreTold (walk_in walked.now) counts.items) }
+    ensures { IfOk result (λ counts. AreNeededCounts (walk_in walked.now) counts.items) }
 {
     if walked.input.options.dry {
         return Ok(Vec::new(alloc));

@@ -1,9 +1,9 @@
 ghost use Rattle.std.specs.Prelude.{◌≡◌, ◌<◌, IfOk};
-ghost use Rattle.dir_digest.specs.Listings.{terms_in};
-ghost use Rattle.dir_digest.specs.Terms.{is_whole_mode};
+ghost use Rattle.dir_digest.specs.Listings.{basis_in};
+ghost use Rattle.dir_digest.specs.Basis.{is_whole_mode};
 ghost use Rattle.spec_match.specs.Scratches.{IsScratchOf};
 ghost use Rattle.relabel_core.specs.Formats.{HaveLinks};
-ghost use Rattle.relabel_core.specs.Terms.{terms_by};
+ghost use Rattle.relabel_core.specs.DigestBasis.{basis_by};
 ghost use Rattle.relabel_core.specs.Walk.{walk_count, digest_now};
 ghost use Rattle.relabel_core.specs.Walked.{walk_of};
 
@@ -49,7 +49,7 @@ pub fn listings_by<'a>(
     options: &Options,
 ) -> Result<Listings<'a>, OutOfMemory>
     ensures { IfOk result (λ listings.
-        terms_in listings ≡ terms_by rules.now options.now) }
+        basis_in listings ≡ basis_by rules.now options.now) }
 {
     let mode = mode_for(options.force);
     Listings::new(
@@ -74,7 +74,7 @@ pub fn digest_of(
 ) -> Result<Digest, OutOfMemory>
     requires entry { d < walk_count (walk_of input.now) }
     requires format { HaveLinks input.now.options.format input.now.tree.now }
-    requires listings { terms_in listings.now ≡ terms_by input.now.rules.now input.now.options }
+    requires listings { basis_in listings.now ≡ basis_by input.now.rules.now input.now.options }
     requires own { IsScratchOf input.now.rules.now.rules buffers.old.scratch }
     ensures own { IsScratchOf input.now.rules.now.rules buffers.new.scratch }
     ensures digest { IfOk result (λ digest. digest ≡ digest_now (walk_of input.now) d) }

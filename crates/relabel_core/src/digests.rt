@@ -1,6 +1,6 @@
 ghost use Rattle.std.specs.Prelude.{◌≡◌};
 ghost use Rattle.relabel_core.specs.Answer.{walk_in};
-ghost use Rattle.relabel_core.specs.Counts.{AreTold};
+ghost use Rattle.relabel_core.specs.Counts.{AreNeededCounts};
 
 use crate::after::{DigestAfter, digest_after, digest_change};
 use crate::counts::{count_at, count_if_stored};
@@ -17,13 +17,13 @@ pub struct Digests<'w, 'a> {
     // For each entry, and for the end, how many entries before it are names of a group whose label
     // changes. It is empty where no digest can change.
     counts: Vec<u32>,
-    ghost told: { AreTold (walk_in walked.now) counts.items },
+    ghost told: { AreNeededCounts (walk_in walked.now) counts.items },
 }
 
 impl<'w, 'a> Digests<'w, 'a> {
     ghost use Rattle.std.specs.Prelude.{◌<◌, false, is_some, true};
     ghost use Rattle.relabel_core.specs.Changes.{digest_change, digest_changes};
-    ghost use Rattle.relabel_core.specs.DigestAfter.{digest_told};
+    ghost use Rattle.relabel_core.specs.DigestAfter.{digest_seen};
     ghost use Rattle.relabel_core.specs.Digests.{walk_before};
     ghost use Rattle.relabel_core.specs.Walk.{walk_count, digest_after, has_changed_name};
 
@@ -58,7 +58,7 @@ impl<'w, 'a> Digests<'w, 'a> {
     /// [`Options::dry`]: crate::Options::dry
     pub fn at(&self, d: u32) -> DigestAfter
         requires { d < walk_count (walk_before self.now) }
-        ensures { digest_told result ((walk_before self.now).stored d)
+        ensures { digest_seen result ((walk_before self.now).stored d)
             ≡ digest_after (walk_before self.now) d }
     {
         let walked = self.walked;
@@ -86,7 +86,7 @@ impl<'w, 'a> Digests<'w, 'a> {
 impl<'a> Walked<'a> {
     ghost use Rattle.std.specs.Prelude.{◌<◌, IfOk};
     ghost use Rattle.relabel_core.specs.Digests.{walk_before};
-    ghost use Rattle.relabel_core.specs.Passed.{renewal};
+    ghost use Rattle.relabel_core.specs.Swept.{renewal};
     ghost use Rattle.relabel_core.specs.Walk.{walk_count};
 
     /// The digest that was made anew for an entry, if one was.
@@ -97,7 +97,7 @@ impl<'a> Walked<'a> {
         if !is_directory(self.input.tree, d) {
             return None;
         }
-        self.passed.renewed(d)
+        self.swept.renewed(d)
     }
 
     /// The digests of the directories after the walk. Where one is stored at all, this goes once

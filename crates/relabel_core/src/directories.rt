@@ -1,57 +1,57 @@
 ghost use Rattle.std.specs.Prelude.{◌≡◌, ◌+◌, ◌<◌, ◌≤◌, IfOk, None, OnOk, false, true};
-ghost use Rattle.dir_digest.specs.Listings.{terms_in};
+ghost use Rattle.dir_digest.specs.Listings.{basis_in};
 ghost use Rattle.spec_match.specs.Scratches.{IsScratchOf};
-ghost use Rattle.relabel_core.specs.Passed.{ArePassed, ArePassing, needed};
+ghost use Rattle.relabel_core.specs.Swept.{AreSwept, AreSweeping, needed};
 ghost use Rattle.relabel_core.specs.Stored.{AddsDigest, digests_in};
-ghost use Rattle.relabel_core.specs.Terms.{terms_by};
+ghost use Rattle.relabel_core.specs.DigestBasis.{basis_by};
 ghost use Rattle.relabel_core.specs.Walk.{walk_count, skippable};
 ghost use Rattle.relabel_core.specs.Walked.{IsFit, walk_of};
 
 use crate::digesting::{Buffers, listings_by};
 use crate::finding::{find_directory, renewed_digest, uses_digests};
 use crate::input::WalkInput;
-use crate::passed::{Passed, Skip};
+use crate::swept::{Skip, Swept};
 use dir_digest::{Digest, Listings};
 use label_base::OutOfMemory;
 use std::alloc::Global;
 use std::collections::BTreeMap;
 
 // An entry below a skipped directory.
-fn pass_below(
+fn sweep_below(
     input: &WalkInput<'_>,
     e: u32,
     end: u32,
-    passed: &mut Passed,
+    swept: &mut Swept,
 ) -> Result<u32, OutOfMemory>
     requires fit { IsFit input.now }
     requires entry { e < walk_count (walk_of input.now) }
     requires below { e < end }
-    requires passed { ArePassing (walk_of input.now) e end
-        passed.old.skips.items passed.old.made }
-    ensures { IfOk result (λ end. ArePassing (walk_of input.now) (e + 1) end
-        passed.new.skips.items passed.new.made) }
+    requires swept { AreSweeping (walk_of input.now) e end
+        swept.old.skips.items swept.old.made }
+    ensures { IfOk result (λ end. AreSweeping (walk_of input.now) (e + 1) end
+        swept.new.skips.items swept.new.made) }
 {
-    passed.skips.push(Skip::Below)?;
+    swept.skips.push(Skip::Below)?;
     Ok(end)
 }
 
 // A directory that is skipped, with all below it.
-fn pass_over(
+fn sweep_skipped(
     input: &WalkInput<'_>,
     e: u32,
     end: u32,
-    passed: &mut Passed,
+    swept: &mut Swept,
 ) -> Result<u32, OutOfMemory>
     requires fit { IsFit input.now }
     requires entry { e < walk_count (walk_of input.now) }
     requires outside { end ≤ e }
     requires over { skippable (walk_of input.now) e ≡ true }
-    requires passed { ArePassing (walk_of input.now) e end
-        passed.old.skips.items passed.old.made }
-    ensures { IfOk result (λ end. ArePassing (walk_of input.now) (e + 1) end
-        passed.new.skips.items passed.new.made) }
+    requires swept { AreSweeping (walk_of input.now) e end
+        swept.old.skips.items swept.old.made }
+    ensures { IfOk result (λ end. AreSweeping (walk_of input.now) (e + 1) end
+        swept.new.skips.items swept.new.made) }
 {
-    passed.skips.push(Skip::First)?;
+    swept.skips.push(Skip::First)?;
     Ok(input.tree.extent(e))
 }
 
@@ -74,99 +74,99 @@ fn keep_renewed(
 }
 
 // An entry that isn't skipped.
-fn pass_by(
+fn sweep_unskipped(
     input: &WalkInput<'_>,
     e: u32,
     end: u32,
     found: Option<Digest>,
-    passed: &mut Passed,
+    swept: &mut Swept,
 ) -> Result<u32, OutOfMemory>
     requires fit { IsFit input.now }
     requires entry { e < walk_count (walk_of input.now) }
     requires outside { end ≤ e }
     requires over { skippable (walk_of input.now) e ≡ false }
     requires found { found ≡ needed (walk_of input.now) e }
-    requires passed { ArePassing (walk_of input.now) e end
-        passed.old.skips.items passed.old.made }
-    ensures { IfOk result (λ end. ArePassing (walk_of input.now) (e + 1) end
-        passed.new.skips.items passed.new.made) }
+    requires swept { AreSweeping (walk_of input.now) e end
+        swept.old.skips.items swept.old.made }
+    ensures { IfOk result (λ end. AreSweeping (walk_of input.now) (e + 1) end
+        swept.new.skips.items swept.new.made) }
 {
     let renewed = renewed_digest(input, e, found, false);
-    keep_renewed(e, renewed, &mut passed.made)?;
-    passed.skips.push(Skip::Not)?;
+    keep_renewed(e, renewed, &mut swept.made)?;
+    swept.skips.push(Skip::Not)?;
     Ok(end)
 }
 
 // Finds whether one entry more is skipped, and makes its digest where anything depends on it. It
 // answers where the extent of the last directory that is skipped ends.
-fn pass_entry(
+fn sweep_entry(
     alloc: Global,
     input: &WalkInput<'_>,
     e: u32,
     end: u32,
     listings: &Listings<'_>,
     buffers: &mut Buffers,
-    passed: &mut Passed,
+    swept: &mut Swept,
 ) -> Result<u32, OutOfMemory>
     requires fit { IsFit input.now }
     requires entry { e < walk_count (walk_of input.now) }
-    requires listings { terms_in listings.now ≡ terms_by input.now.rules.now input.now.options }
+    requires listings { basis_in listings.now ≡ basis_by input.now.rules.now input.now.options }
     requires own { IsScratchOf input.now.rules.now.rules buffers.old.scratch }
-    requires passed { ArePassing (walk_of input.now) e end
-        passed.old.skips.items passed.old.made }
+    requires swept { AreSweeping (walk_of input.now) e end
+        swept.old.skips.items swept.old.made }
     ensures own { IsScratchOf input.now.rules.now.rules buffers.new.scratch }
-    ensures passed { IfOk result (λ end. ArePassing (walk_of input.now) (e + 1) end
-        passed.new.skips.items passed.new.made) }
+    ensures swept { IfOk result (λ end. AreSweeping (walk_of input.now) (e + 1) end
+        swept.new.skips.items swept.new.made) }
 {
     if e < end {
-        return pass_below(input, e, end, passed);
+        return sweep_below(input, e, end, swept);
     }
     let found = find_directory(alloc, input, e, listings, buffers)?;
     if found.skippable {
-        return pass_over(input, e, end, passed);
+        return sweep_skipped(input, e, end, swept);
     }
-    pass_by(input, e, end, found.digest, passed)
+    sweep_unskipped(input, e, end, found.digest, swept)
 }
 
-fn pass_all(
+fn sweep_all(
     alloc: Global,
     input: &WalkInput<'_>,
     listings: &Listings<'_>,
     buffers: &mut Buffers,
-) -> Result<Passed, OutOfMemory>
+) -> Result<Swept, OutOfMemory>
     requires fit { IsFit input.now }
-    requires listings { terms_in listings.now ≡ terms_by input.now.rules.now input.now.options }
+    requires listings { basis_in listings.now ≡ basis_by input.now.rules.now input.now.options }
     requires own { IsScratchOf input.now.rules.now.rules buffers.old.scratch }
     ensures own { IsScratchOf input.now.rules.now.rules buffers.new.scratch }
-    ensures passed { IfOk result (λ passed.
-        ArePassed (walk_of input.now) passed.skips.items passed.made) }
+    ensures swept { IfOk result (λ swept.
+        AreSwept (walk_of input.now) swept.skips.items swept.made) }
 {
-    let mut passed = Passed::none(alloc);
+    let mut swept = Swept::none(alloc);
     let mut end = 0;
     'entries: for e in 0..input.tree.len() {
-        end = pass_entry(alloc, input, e, end, listings, buffers, &mut passed)?;
+        end = sweep_entry(alloc, input, e, end, listings, buffers, &mut swept)?;
     }
-    Ok(passed)
+    Ok(swept)
 }
 
 /// Goes over the directories of a tree before any entry is looked up: finds which ones are skipped
 /// with all below them, and makes the digests that change. No digest is made below a directory that
 /// is skipped, nor for one with a name of its inodes elsewhere or with an entry that isn't asked
 /// for.
-pub fn pass_directories(
+pub fn sweep_directories(
     alloc: Global,
     input: &WalkInput<'_>,
     buffers: &mut Buffers,
-) -> Result<Passed, OutOfMemory>
+) -> Result<Swept, OutOfMemory>
     requires fit { IsFit input.now }
     requires own { IsScratchOf input.now.rules.now.rules buffers.old.scratch }
     ensures own { IsScratchOf input.now.rules.now.rules buffers.new.scratch }
-    ensures passed { IfOk result (λ passed.
-        ArePassed (walk_of input.now) passed.skips.items passed.made) }
+    ensures swept { IfOk result (λ swept.
+        AreSwept (walk_of input.now) swept.skips.items swept.made) }
 {
     if !uses_digests(&input.options) {
-        return Ok(Passed::none(alloc));
+        return Ok(Swept::none(alloc));
     }
     let listings = listings_by(alloc, input.rules, &input.options)?;
-    pass_all(alloc, input, &listings, buffers)
+    sweep_all(alloc, input, &listings, buffers)
 }

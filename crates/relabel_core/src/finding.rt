@@ -1,10 +1,10 @@
 ghost use Rattle.std.specs.Prelude.{◌≡◌, ◌<◌, ◌&&◌, IfOk, not};
 ghost use Rattle.std.specs.Option.{option_copied};
-ghost use Rattle.dir_digest.specs.Listings.{terms_in};
+ghost use Rattle.dir_digest.specs.Listings.{basis_in};
 ghost use Rattle.spec_match.specs.Scratches.{IsScratchOf};
-ghost use Rattle.relabel_core.specs.Passed.{is_needed, may_skip, meets, needed, renewal, renews};
-ghost use Rattle.relabel_core.specs.Passed.{uses_digests};
-ghost use Rattle.relabel_core.specs.Terms.{terms_by};
+ghost use Rattle.relabel_core.specs.Swept.{is_needed, may_skip, meets, needed, renewal, renews};
+ghost use Rattle.relabel_core.specs.Swept.{uses_digests};
+ghost use Rattle.relabel_core.specs.DigestBasis.{basis_by};
 ghost use Rattle.relabel_core.specs.Walk.{walk_count, is_current, is_skipped, is_whole, skippable};
 ghost use Rattle.relabel_core.specs.Walk.{skips};
 ghost use Rattle.relabel_core.specs.Walked.{IsFit, walk_of};
@@ -71,7 +71,7 @@ fn is_needed(input: &WalkInput<'_>, d: u32) -> bool
     may_skip(input, d) || renews(&input.options)
 }
 
-#[tactic(auto, unfolding(crate::specs::Passed::needed))]
+#[tactic(auto, unfolding(crate::specs::Swept::needed))]
 fn digest_if_needed(
     alloc: Global,
     input: &WalkInput<'_>,
@@ -81,7 +81,7 @@ fn digest_if_needed(
 ) -> Result<Option<Digest>, OutOfMemory>
     requires fit { IsFit input.now }
     requires entry { d < walk_count (walk_of input.now) }
-    requires listings { terms_in listings.now ≡ terms_by input.now.rules.now input.now.options }
+    requires listings { basis_in listings.now ≡ basis_by input.now.rules.now input.now.options }
     requires own { IsScratchOf input.now.rules.now.rules buffers.old.scratch }
     ensures own { IsScratchOf input.now.rules.now.rules buffers.new.scratch }
     ensures found { IfOk result (λ found. found ≡ needed (walk_of input.now) d) }
@@ -116,7 +116,7 @@ fn meets(input: &WalkInput<'_>, d: u32, found: &Option<Digest>) -> bool
 
 /// Finds the digest of an entry where anything depends on it, and whether the entry is a directory
 /// that may be passed over. It depends on this entry alone, so entries may come in any order.
-#[tactic(auto, using(crate::proofs::PassedLemmas::met_is))]
+#[tactic(auto, using(crate::proofs::SweptLemmas::met_is))]
 pub fn find_directory(
     alloc: Global,
     input: &WalkInput<'_>,
@@ -126,7 +126,7 @@ pub fn find_directory(
 ) -> Result<Finding, OutOfMemory>
     requires fit { IsFit input.now }
     requires entry { d < walk_count (walk_of input.now) }
-    requires listings { terms_in listings.now ≡ terms_by input.now.rules.now input.now.options }
+    requires listings { basis_in listings.now ≡ basis_by input.now.rules.now input.now.options }
     requires own { IsScratchOf input.now.rules.now.rules buffers.old.scratch }
     ensures own { IsScratchOf input.now.rules.now.rules buffers.new.scratch }
     ensures digest { IfOk result (λ found. found.digest ≡ needed (walk_of input.now) d) }

@@ -1,7 +1,7 @@
 ghost use Rattle.std.specs.Prelude.{◌≡◌, ◌<◌, IfSome, option_and_then, option_map};
 ghost use Rattle.std.specs.Option.{option_copied};
 ghost use Rattle.context_syntax.specs.ContextRef.{context_lent};
-ghost use Rattle.label_rules.specs.LabelAfter.{label_told};
+ghost use Rattle.label_rules.specs.LabelAfter.{label_seen};
 ghost use Rattle.label_rules.specs.Verdicts.{verdict_of};
 ghost use Rattle.tree_model.specs.Groups.{group_of, groups_in, label_in};
 ghost use Rattle.relabel_core.specs.Changes.{context_change};
@@ -11,7 +11,7 @@ ghost use Rattle.relabel_core.specs.Walked.{IsFit, walk_of};
 
 use crate::deciding::is_walked;
 use crate::input::WalkInput;
-use crate::passed::{Skip, does_skip, is_first};
+use crate::swept::{Skip, does_skip, is_first};
 use context_syntax::{Context, ContextRef, Label};
 use file_paths::PathRef;
 use label_rules::{
@@ -55,7 +55,7 @@ pub fn group_verdict<'a>(input: &WalkInput<'a>, g: u32, wanted: Option<&'a Conte
 /// The label after a walk of a group for which this context is wanted.
 pub fn group_label<'a>(input: &WalkInput<'a>, g: u32, wanted: Option<&'a Context>) -> LabelAfter<'a>
     requires { g < groups_in input.now.tree.now }
-    ensures { label_told result ≡ label_where (walk_of input.now) g (option_copied wanted.entry) }
+    ensures { label_seen result ≡ label_where (walk_of input.now) g (option_copied wanted.entry) }
 {
     let label = input.tree.label(g);
     if input.options.dry {
@@ -209,7 +209,7 @@ impl<'a> Known<'a> {
 
     // Its label after the walk, by the winner of its group.
     fn own_label(&self) -> LabelAfter<'a>
-        ensures { label_told result
+        ensures { label_seen result
             ≡ label_with (walk_known self.now) self.now.index self.now.winner }
     {
         if is_at(self.winner, self.index) {
@@ -221,7 +221,7 @@ impl<'a> Known<'a> {
     /// Its label after the walk: that of its group, which changes at the group's winner.
     #[tactic(auto, unfolding(crate::specs::Walk::label_after))]
     pub fn label(&self) -> LabelAfter<'a>
-        ensures { label_told result ≡ label_after (walk_known self.now) (index_known self.now) }
+        ensures { label_seen result ≡ label_after (walk_known self.now) (index_known self.now) }
     {
         self.own_label()
     }

@@ -2,8 +2,8 @@ ghost use Rattle.std.specs.Prelude.{◌≡◌, ℕ, ◌<◌, IfOk, None, Some, f
 ghost use Rattle.label_base.specs.Bounded.{all_numbers};
 ghost use Rattle.tree_model.specs.Groups.{groups_in};
 ghost use Rattle.relabel_core.specs.Answer.{walk_in};
-ghost use Rattle.label_rules.specs.LabelAfter.{label_told};
-ghost use Rattle.relabel_core.specs.DigestAfter.{digest_told};
+ghost use Rattle.label_rules.specs.LabelAfter.{label_seen};
+ghost use Rattle.relabel_core.specs.DigestAfter.{digest_seen};
 ghost use Rattle.relabel_core.specs.Digests.{walk_before};
 ghost use Rattle.relabel_core.specs.Walk.{walk_count, digest_after, digests, new_label};
 ghost use Rattle.tree_model.specs.Extents.{is_directory};
@@ -20,7 +20,7 @@ use std::alloc::Global;
 
 /// A label of its own, in place of one that is lent.
 pub fn label_of(alloc: Global, label: &LabelAfter<'_>) -> Result<Label, OutOfMemory>
-    ensures { IfOk result (λ copied. copied ≡ label_told label.now) }
+    ensures { IfOk result (λ copied. copied ≡ label_seen label.now) }
 {
     match label {
         LabelAfter::Kept(label) => label.copy(alloc),
@@ -66,7 +66,7 @@ fn digest_of(
     stored: Option<&[u8]>,
 ) -> Result<Option<Bytes>, OutOfMemory>
     ensures { IfOk result (λ digest.
-        digest ≡ digest_told after.now (option_copied stored.entry)) }
+        digest ≡ digest_seen after.now (option_copied stored.entry)) }
 {
     match after {
         DigestAfter::Stays => stored_copy(alloc, stored),

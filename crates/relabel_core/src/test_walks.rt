@@ -208,7 +208,7 @@ fn kind_of(digest: &DigestAfter) -> Digest {
     }
 }
 
-fn digest_told(
+fn digest_seen(
     alloc: Global,
     walked: &Walked<'_>,
     e: u32,
@@ -246,7 +246,7 @@ fn all_told(
     e: u32,
     noted: (Option<u32>, Option<u32>),
 ) -> Result<Answered, OutOfMemory> {
-    let digest = digest_told(alloc, walked, e)?;
+    let digest = digest_seen(alloc, walked, e)?;
     let groups = count_labels(alloc, walked)?;
     let digests = count_digests(alloc, walked)?;
     Ok(Answered {

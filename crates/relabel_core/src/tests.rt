@@ -1,5 +1,5 @@
 use crate::test_walks::{Digest, Given, NOTHING, PLAIN, Told, answer};
-use crate::{Options, Passed, Skip, does_skip, is_first, one_pass_is_walk};
+use crate::{Options, Skip, Swept, does_skip, is_first, table_walk_is_walk};
 use label_base::{Bytes, OutOfMemory};
 use std::alloc::Global;
 use std::test::Fail;
@@ -170,7 +170,7 @@ fn counted(alloc: Global, given: &Given<'_>) -> Result<((usize, usize), u32, u32
 
 #[test]
 fn entries_are_told_one_by_one(rt: HostRuntime) -> Result<(), Fail> {
-    one_pass_is_walk();
+    table_walk_is_walk();
     let of_entry = Told {
         winner: Some(1),
         deciding: Some(2),
@@ -217,11 +217,11 @@ fn what_is_put_at_a_position_is_there(rt: HostRuntime) -> Result<(), Fail> {
 
 // What is found of an entry of which it is noted.
 fn passed_at(alloc: Global) -> Result<(bool, bool, bool), OutOfMemory> {
-    let mut passed = Passed::with_room(alloc, 2)?;
-    passed.put_skip(1, Skip::First);
-    passed.put_renewed(1, dir_digest::Digest::VOID)?;
-    let skip = passed.skip(1);
-    Ok((does_skip(skip), is_first(skip), passed.renewed(1).is_some()))
+    let mut swept = Swept::with_room(alloc, 2)?;
+    swept.put_skip(1, Skip::First);
+    swept.put_renewed(1, dir_digest::Digest::VOID)?;
+    let skip = swept.skip(1);
+    Ok((does_skip(skip), is_first(skip), swept.renewed(1).is_some()))
 }
 
 #[test]

@@ -1,13 +1,13 @@
 ghost use Rattle.std.specs.Prelude.{◌≡◌, ◌<◌, IfSome, option_and_then, option_map};
 ghost use Rattle.std.specs.Option.{option_copied};
-ghost use Rattle.relabel_core.specs.Passed.{ArePassed};
+ghost use Rattle.relabel_core.specs.Swept.{AreSwept};
 ghost use Rattle.relabel_core.specs.Walked.{AreWalkAnswers, IsFit, walk_of};
 
 use crate::deciding::is_walked;
 use crate::input::WalkInput;
 use crate::known::{Known, group_label};
 use crate::noting::Noted;
-use crate::passed::{Passed, is_skipped};
+use crate::swept::{Swept, is_skipped};
 use context_syntax::{Context, ContextRef};
 use file_paths::PathRef;
 use label_rules::{LabelAfter, does_give, given_at};
@@ -20,9 +20,9 @@ use report_text::Message;
 pub struct Walked<'a> {
     pub(crate) input: WalkInput<'a>,
     pub(crate) noted: Noted,
-    pub(crate) passed: Passed,
+    pub(crate) swept: Swept,
     ghost fit: { IsFit input },
-    ghost were_passed: { ArePassed (walk_of input) passed.skips.items passed.made },
+    ghost were_swept: { AreSwept (walk_of input) swept.skips.items swept.made },
     ghost found: { AreWalkAnswers (walk_of input) noted.decided.items noted.winners.items },
 }
 
@@ -32,7 +32,7 @@ impl Drop for Walked<'_> {
         let Walked {
             input: _,
             noted: _,
-            passed: _,
+            swept: _,
         } = self;
     }
 }
@@ -45,7 +45,7 @@ impl<'a> Walked<'a> {
     ghost use Rattle.relabel_core.specs.Answer.{walk_in};
     ghost use Rattle.relabel_core.specs.Changes.{change_at};
     ghost use Rattle.relabel_core.specs.KnownEntry.{index_known, walk_known};
-    ghost use Rattle.label_rules.specs.LabelAfter.{label_told};
+    ghost use Rattle.label_rules.specs.LabelAfter.{label_seen};
     ghost use Rattle.relabel_core.specs.Walk.{
       walk_count,
       count_wanted,
@@ -66,16 +66,16 @@ impl<'a> Walked<'a> {
 
     /// The answer of a walk of which this is found, each at its position: which entries are skipped
     /// and which digests are made anew, what decides each entry, and the winner of each group.
-    pub fn of_noted(input: &WalkInput<'a>, passed: Passed, noted: Noted) -> Walked<'a>
+    pub fn of_noted(input: &WalkInput<'a>, swept: Swept, noted: Noted) -> Walked<'a>
         requires fit { IsFit input.now }
-        requires passed { ArePassed (walk_of input.now) passed.skips.items passed.made }
+        requires swept { AreSwept (walk_of input.now) swept.skips.items swept.made }
         requires found { AreWalkAnswers (walk_of input.now) noted.decided.items noted.winners.items }
         ensures { walk_in result ≡ walk_of input.now }
     {
         Walked {
             input: *input,
             noted,
-            passed,
+            swept,
         }
     }
 
@@ -107,7 +107,7 @@ impl<'a> Walked<'a> {
         requires { e < walk_count (walk_in self.now) }
         ensures { result ≡ walked (walk_in self.now) e }
     {
-        is_walked(&self.input, e, is_skipped(&self.input, &self.passed, e))
+        is_walked(&self.input, e, is_skipped(&self.input, &self.swept, e))
     }
 
     /// Whether an entry is a directory that is skipped, and below no other such one.
@@ -173,7 +173,7 @@ impl<'a> Walked<'a> {
         Known::new(
             &self.input,
             e,
-            self.passed.skip(e),
+            self.swept.skip(e),
             self.deciding(e),
             winner,
             self.winning(winner),
@@ -223,7 +223,7 @@ impl<'a> Walked<'a> {
     /// The label of a group after the walk.
     pub fn new_label(&self, g: u32) -> LabelAfter<'a>
         requires { g < groups_in (walk_in self.now).entries }
-        ensures { label_told result ≡ new_label (walk_in self.now) g }
+        ensures { label_seen result ≡ new_label (walk_in self.now) g }
     {
         group_label(&self.input, g, self.wanted_by(self.winner_in(g)))
     }
@@ -248,7 +248,7 @@ impl<'a> Walked<'a> {
     /// winner.
     pub fn label_at(&self, e: u32) -> LabelAfter<'a>
         requires { e < walk_count (walk_in self.now) }
-        ensures { label_told result ≡ label_after (walk_in self.now) e }
+        ensures { label_seen result ≡ label_after (walk_in self.now) e }
     {
         self.known(e).label()
     }

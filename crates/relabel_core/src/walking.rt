@@ -1,16 +1,16 @@
 ghost use Rattle.std.specs.Prelude.{◌≡◌, ◌+◌, ◌≤◌, IfOk, length};
 ghost use Rattle.spec_match.specs.Scratches.{IsScratchOf};
-ghost use Rattle.relabel_core.specs.Passed.{ArePassed};
+ghost use Rattle.relabel_core.specs.Swept.{AreSwept};
 ghost use Rattle.relabel_core.specs.Walk.{walked_below};
 ghost use Rattle.relabel_core.specs.Walked.{AreWalkAnswers, IsFit, walk_of};
 ghost use Rattle.relabel_core.specs.Answer.{walk_in};
 
 use crate::deciding::decide_entry;
 use crate::digesting::{Buffers, buffers_for};
-use crate::directories::pass_directories;
+use crate::directories::sweep_directories;
 use crate::input::WalkInput;
 use crate::noting::{Noted, note_entry};
-use crate::passed::{Passed, is_skipped};
+use crate::swept::{Swept, is_skipped};
 use crate::walked::Walked;
 use label_base::{OutOfMemory, Steps};
 use spec_match::Scratch;
@@ -20,12 +20,12 @@ use std::sync::ledger::Ledger;
 fn note_entries<L: Ledger>(
     alloc: Global,
     input: &WalkInput<'_>,
-    passed: &Passed,
+    swept: &Swept,
     scratch: &mut Scratch,
     steps: &mut Steps<L>,
 ) -> Result<Noted, OutOfMemory>
     requires fit { IsFit input.now }
-    requires passed { ArePassed (walk_of input.now) passed.now.skips.items passed.now.made }
+    requires swept { AreSwept (walk_of input.now) swept.now.skips.items swept.now.made }
     requires own { IsScratchOf input.now.rules.now.rules scratch.old }
     ensures found { IfOk result (λ noted.
         AreWalkAnswers (walk_of input.now) noted.decided.items noted.winners.items) }
@@ -34,7 +34,7 @@ fn note_entries<L: Ledger>(
 {
     let mut noted = Noted::none(alloc, input)?;
     'entries: for e in 0..input.tree.len() {
-        let skipped = is_skipped(input, passed, e);
+        let skipped = is_skipped(input, swept, e);
         let found = decide_entry(alloc, input, e, skipped, scratch, steps)?;
         note_entry(input, e, found, &mut noted);
     }
@@ -54,9 +54,9 @@ fn walk_within<'a, L: Ledger>(
     ensures count { steps.new
         ≤ steps.old + walked_below (walk_of input.now) (length input.now.tree.now) }
 {
-    let passed = pass_directories(alloc, input, buffers)?;
-    let noted = note_entries(alloc, input, &passed, &mut buffers.scratch, steps)?;
-    Ok(Walked::of_noted(input, passed, noted))
+    let swept = sweep_directories(alloc, input, buffers)?;
+    let noted = note_entries(alloc, input, &swept, &mut buffers.scratch, steps)?;
+    Ok(Walked::of_noted(input, swept, noted))
 }
 
 /// Walks over a tree: finds the directories that are skipped, looks each other entry up that the

@@ -12,7 +12,7 @@ use Rattle.tool_runs.specs.Outside.{Outside}
 use Rattle.tool_runs.specs.Plan.{Plan, answer_in, input_in, planned}
 use Rattle.tool_runs.specs.Run.{EndsAsMeant, Reports, Run, WritesAndSaves}
 use Rattle.policy_rehearsal.specs.Plan.{rehearse_plan}
-use Rattle.policy_rehearsal.specs.Told.{TellsKept, TellsKeptLabels}
+use Rattle.policy_rehearsal.specs.Reported.{ReportKeeps, ReportKeepsLabels}
 use Rattle.policy_rehearsal.specs.Words.{rehearse_words}
 use Rattle.policy_rehearsal.specs.declared.words.RehearseWords.{RehearseWords}
 use Rattle.policy_rehearsal.proofs.ToldLemmas.{answer_keeps}
@@ -58,7 +58,7 @@ module _ {S I : Type 0} (before after : Outside S I) where
 
   module _ (words : RehearseWords) (known : Files) (bytes : List ℕ) where
     abbrev Kept : Type 0
-    Kept = TellsKept words known bytes IsReport
+    Kept = ReportKeeps words known bytes IsReport
 
     abbrev EndsSo : Cause → Type 0
     EndsSo cause = EndsAsMeant ((rehearse_plan words).answer known bytes)
@@ -88,7 +88,7 @@ module _ {S I : Type 0} (before after : Outside S I) where
     both words (Some known) (Some bytes) kind ends = ended words known bytes cause kind ends
 
     abbrev KeptLabels : RehearseWords → Type 0
-    KeptLabels words = TellsKeptLabels words before.store.files before.input.left
+    KeptLabels words = ReportKeepsLabels words before.store.files before.input.left
         before.sink.written after.sink.written cause
 
     -- the end that is meant, by what is asked

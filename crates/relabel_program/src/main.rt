@@ -11,6 +11,7 @@ mod audit_tests;
 mod digest_tests;
 #[cfg(test)]
 mod failing_tests;
+mod laws;
 #[cfg(test)]
 mod realistic_tests;
 mod runs;

@@ -17,7 +17,7 @@ ghost use Rattle.path_lookups.specs.Words.{lookup_words};
 ghost use Rattle.home_contexts.specs.Asked.{homes_words};
 ghost use Rattle.home_contexts.specs.Plan.{homes_plan};
 ghost use Rattle.policy_rehearsal.specs.Plan.{rehearse_plan};
-ghost use Rattle.policy_rehearsal.specs.Told.{TellsKeptLabels};
+ghost use Rattle.policy_rehearsal.specs.Reported.{ReportKeepsLabels};
 ghost use Rattle.policy_rehearsal.specs.Words.{rehearse_words};
 ghost use Rattle.sample_tree.specs.Plan.{sample_plan};
 ghost use Rattle.sample_tree.specs.Words.{sample_words};
@@ -316,7 +316,7 @@ pub fn plain<S: Store, I: Source, O: Sink>(
         (I.faults input.old)
         result.cause }
     ensures keeps { IfSome (rehearse_asked (word_texts words.now)) (λ asked.
-        TellsKeptLabels asked (S.files store.old) (I.left input.old) (O.written out.old)
+        ReportKeepsLabels asked (S.files store.old) (I.left input.old) (O.written out.old)
         (O.written out.new) result.cause) }
 {
     run_asked(alloc, words, store, input, out)
@@ -462,7 +462,7 @@ pub fn top<R: Threads + Wait + Sync, S: Store, I: Source, O: Sink>(
         (I.faults input.old)
         result.cause }
     ensures keeps { IfSome (rehearse_asked (word_texts words.now)) (λ asked.
-        TellsKeptLabels asked (S.files store.old) (I.left input.old) (O.written out.old)
+        ReportKeepsLabels asked (S.files store.old) (I.left input.old) (O.written out.old)
         (O.written out.new) result.cause) }
 {
     run_asked_by(rt, alloc, words, cores, store, input, out)

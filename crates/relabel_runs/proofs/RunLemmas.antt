@@ -14,7 +14,7 @@ use Rattle.label_base.specs.declared.kind.Asked.TheVariants.{Of}
 use Rattle.label_base.specs.declared.kind.EntryKind.TheVariants.{Directory}
 use Rattle.context_syntax.specs.LabelEqual.{label_decides}
 use Rattle.dir_digest.specs.Alike.{AreAlike}
-use Rattle.dir_digest.specs.Terms.{AreRead}
+use Rattle.dir_digest.specs.Basis.{AreRead}
 use Rattle.dir_digest.proofs.AlikeLemmas.{bytes_alike}
 use Rattle.find_records.specs.Record.{Record}
 use Rattle.tree_model.specs.Extents.{is_directory}
@@ -31,7 +31,7 @@ use Rattle.relabel_core.specs.Walked.{walk_for}
 use Rattle.relabel_core.specs.declared.walked.Walked.{Walked}
 use Rattle.relabel_runs.specs.Laws.{IsNow, KeepsLabels, NoneSkipped, OneMoreRunKeepsLabels}
 use Rattle.relabel_runs.specs.Laws.{SkippingKeepsLabels}
-use Rattle.relabel_runs.specs.Premises.{AreTreeRuns, HasTreeRun, IsDigested, run_terms}
+use Rattle.relabel_runs.specs.Premises.{AreTreeRuns, HasTreeRun, IsDigested, run_basis}
 use Rattle.relabel_runs.specs.Runs.{IsBareState, TreeRun, TreeState, state_after, end, end_off}
 use Rattle.relabel_runs.specs.Runs.{tree_labelled, not_skipping, records_read_as, walk_at}
 use Rattle.relabel_runs.proofs.DecideLemmas.{given_alike, given_settles}
@@ -189,7 +189,7 @@ run_settles entries run label new wanted e = given_settles run.options.force run
     new wanted e
 
 decided_alike : (entries : List Record) (a b : TreeRun) (d e : ℕ)
-    → AreAlike (run_terms a) (run_terms b) (path_in entries d)
+    → AreAlike (run_basis a) (run_basis b) (path_in entries d)
     → at_or_below (path_in entries e) (path_in entries d) ≡ true
     → (run_in entries a).decision e ≡ (run_in entries b).decision e
 decided_alike entries a b d e alike inside =
@@ -205,11 +205,11 @@ decided_alike entries a b d e alike inside =
     ∙ ap (λ p. as_decision (context_for b.rules p kind)) (sym front)
 
 runs_agree : (entries : List Record) (a b : TreeRun) (d : ℕ) → are_names (path_in entries d) ≡ true
-    → AreRead (run_terms a) → AreRead (run_terms b)
+    → AreRead (run_basis a) → AreRead (run_basis b)
     → (run_in entries a).listing d ≡ (run_in entries b).listing d
     → skipping.Agree (tree_of entries) (run_in entries a) (run_in entries b) d
 runs_agree entries a b d named ra rb e =
-    let alike = bytes_alike (run_terms a) (run_terms b) ra rb (path_in entries d) named e in
+    let alike = bytes_alike (run_basis a) (run_basis b) ra rb (path_in entries d) named e in
     record {
       decision = λ x l i. decided_alike entries a b d x alike i;
       decide = λ label wanted. given_alike a.options.force b.options.force a.rules.types

@@ -13,7 +13,7 @@ use Rattle.spec_reader.specs.SpecValue.{SpecValue}
 use Rattle.spec_match.specs.LastMatch.{fits, last_index, last_match}
 use Rattle.dir_digest.specs.Alike.{decided_at, decision_of}
 use Rattle.relabel_core.specs.declared.options.Options.{Options}
-use Rattle.relabel_core.specs.Terms.{terms_by}
+use Rattle.relabel_core.specs.DigestBasis.{basis_by}
 use Rattle.label_rules.specs.LookUp.{context_in, given_by, index_asked}
 use Rattle.label_rules.specs.declared.rules.Rules.{Rules}
 use Rattle.relabel_runs.proofs.WalkLemmas.{context_for}
@@ -67,7 +67,7 @@ given_of (Some s) = refl
 
 pub context_told : (rules : Rules) (options : Options) (path : Path) (kind : EntryKind)
     → context_for rules path kind ≡ option_and_then context_in
-    (decided_at (terms_by rules options) (Of kind) path)
+    (decided_at (basis_by rules options) (Of kind) path)
 unfolding index_asked decided_at
 context_told rules options path kind =
     let text = path_text (substituted rules.subs.first rules.subs.second path) in

@@ -15,7 +15,7 @@ use Rattle.context_syntax.specs.declared.label.Label.{Label}
 use Rattle.spec_reader.specs.SpecValue.{SpecValue}
 use Rattle.dir_digest.specs.Digest.{digest_at, void_digest}
 use Rattle.dir_digest.specs.ListingBytes.{listing_bytes}
-use Rattle.dir_digest.specs.Terms.{listing_on}
+use Rattle.dir_digest.specs.Basis.{listing_on}
 use Rattle.find_records.specs.Record.{Record}
 use Rattle.tree_model.specs.Extents.{entry_at, in_extent, is_directory}
 use Rattle.tree_model.specs.Groups.{closed_at, group_of, label_in}
@@ -24,7 +24,7 @@ use Rattle.relabel_core.specs.declared.options.Options.{Options}
 use Rattle.skip_runs.specs.Relabel as runs
 use Rattle.skip_runs.specs.Relabel.{Decision, Nothing, Give, Kinds, WalkedTree}
 use Rattle.label_rules.specs.Decide.{label_by, verdict_for}
-use Rattle.relabel_core.specs.Terms.{terms_by}
+use Rattle.relabel_core.specs.DigestBasis.{basis_by}
 use Rattle.relabel_core.specs.Walk.{Walk, can_win, walk_count, deciding, digest_after, digest_now}
 use Rattle.relabel_core.specs.Walk.{has_changed_name, is_changed, is_current, is_outdated}
 use Rattle.relabel_core.specs.Walk.{is_renewed, is_skipped, new_label, skippable, verdict_where}
@@ -73,7 +73,7 @@ run_by path kind live closed rules options =
       closed = closed;
       decision = λ e. as_decision (context_for rules (path e) (kind e));
       decide = λ label wanted. given (verdict_for label wanted options.force rules.types);
-      listing = λ d. listing_bytes (listing_on (terms_by rules options) (path d));
+      listing = λ d. listing_bytes (listing_on (basis_by rules options) (path d));
       dry = options.dry;
       skips = options.digests;
       renews = options.ignore_digests;

@@ -9,7 +9,7 @@ use Rattle.find_records.specs.declared.format.Format.TheVariants.{One}
 use Rattle.find_records.specs.Grammar.{records_of}
 use Rattle.find_records.proofs.RunGrammar.{run_means}
 use Rattle.tree_model.specs.Entries as tree
-use Rattle.tree_model.specs.Entries.{conflict, doubled, tree_of, unless_doubled}
+use Rattle.tree_model.specs.Entries.{contradicts, doubled, tree_of, unless_doubled}
 use Rattle.tree_model.specs.Numbered.{numbered_from}
 use Rattle.tree_model.proofs.DoubledLemmas.{doubled_right}
 use Rattle.tree_model.proofs.Members.{Has}
@@ -31,7 +31,7 @@ placed_in (r ∷ rs) found all has =
     elim has [ inl same ↦ subst IsPlaced same all.0 | inr behind ↦ placed_in rs found all.1 behind ]
 
 -- records that their paths tell don't contradict each other
-peaceful : (a b : Record) → IsPlaced a → IsPlaced b → conflict a b ≡ true → ⊥
+peaceful : (a b : Record) → IsPlaced a → IsPlaced b → contradicts a b ≡ true → ⊥
 peaceful a b placed other clash =
     let same : a ≡ b = sym placed ∙ ap placed_at (conflict_path a b clash) ∙ other in
     true≢false (sym clash ∙ conflict_at a b b b same refl ∙ conflict_itself b)

@@ -16,7 +16,7 @@ ghost use Rattle.sample_tree.specs.Walks.{sample_ending, walk_after};
 
 use crate::choice::{sample_choice, sample_options};
 use crate::summary::Summary;
-use label_base::{OutOfMemory, Steps};
+use label_base::{OutOfMemory, PiecedText, Steps};
 use label_rules::Rules;
 use relabel_core::{Stored, WalkInput, Walked, next_digests, next_labels, walk, walk_input};
 use report_text::Message;
@@ -287,7 +287,7 @@ pub fn sample_ending(alloc: Global, rules: &Rules, tree: &Tree) -> Result<Ending
 {
     let summary = summarize(alloc, rules, tree)?;
     Ok(Ending {
-        report: summary.text(alloc)?,
+        report: PiecedText::of(alloc, summary.text(alloc)?)?,
         end: End::Done,
         saved: None,
     })

@@ -1,6 +1,6 @@
 -- How many workers there are, and for which trees.
 use Rattle.std.specs.Prelude.{ℕ, ◌/◌, ◌==◌, nat_lt, if◌then◌else◌}
-use Rattle.relabel_core.specs.Passed.{uses_digests}
+use Rattle.relabel_core.specs.Swept.{uses_digests}
 use Rattle.relabel_core.specs.declared.options.Options.{Options}
 use Rattle.tree_relabelling.specs.declared.letters.TheConstants.{MOST_WORKERS}
 use Rattle.threaded_relabelling.specs.declared.counts.TheConstants.{FEWEST, FEWEST_WITH_DIGESTS}

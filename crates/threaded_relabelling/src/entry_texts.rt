@@ -6,7 +6,7 @@ ghost use Rattle.relabel_core.specs.Changes.{changes};
 ghost use Rattle.relabel_core.specs.Digests.{walk_before};
 ghost use Rattle.relabel_core.specs.Walk.{entry_lines};
 
-use label_base::{Bytes, OutOfMemory};
+use label_base::{Bytes, OutOfMemory, PiecedText};
 use relabel_core::{Digests, Walked};
 use std::alloc::Global;
 use std::thread::Threads;
@@ -73,8 +73,8 @@ pub fn add_lines<R: Threads + Sync>(
     alloc: Global,
     walked: &Walked<'_>,
     workers: u32,
-    to: Bytes,
-) -> Result<Bytes, OutOfMemory>
+    to: PiecedText,
+) -> Result<PiecedText, OutOfMemory>
     ensures { IfOk result (λ made. made ≡ to ++ report_of (entry_lines (walk_in walked.now))) }
 {
     add_texts(rt, alloc, &Lines { walked }, walked.len(), workers, to)
@@ -86,8 +86,8 @@ pub fn add_sections<R: Threads + Sync>(
     alloc: Global,
     digests: &Digests<'_, '_>,
     workers: u32,
-    to: Bytes,
-) -> Result<Bytes, OutOfMemory>
+    to: PiecedText,
+) -> Result<PiecedText, OutOfMemory>
     ensures { IfOk result (λ made. made ≡ to ++ dump_text (changes (walk_before digests.now))) }
 {
     let count = digests.walked().len();

@@ -9,13 +9,12 @@ ghost use Rattle.relabel_core.specs.Walk.{messages};
 ghost use Rattle.relabel_core.specs.Walked.{IsFit, walk_of};
 
 use crate::entry_texts::{add_lines, add_sections};
-use label_base::{Bytes, OutOfMemory};
+use label_base::{Bytes, OutOfMemory, PiecedText};
 use relabel_core::{WalkInput, Walked, uses_digests};
 use relabel_workers::{OpenGate, walk_threads};
 use std::alloc::Global;
 use std::sync::Wait;
 use std::thread::Threads;
-use threaded_texts::text_for;
 use tree_relabelling::{OneWorker, Walker};
 
 /// So many workers, of whom one alone works where a tree has too few entries.
@@ -81,13 +80,16 @@ fn report_by<R: Threads + Sync>(
     alloc: Global,
     walked: &Walked<'_>,
     workers: u32,
-) -> Result<Bytes, OutOfMemory>
+) -> Result<PiecedText, OutOfMemory>
     ensures { IfOk result (λ report. report ≡ report_of (messages (walk_in walked.now))) }
 {
-    let mut before = text_for(alloc, walked.len());
-    walked.add_absent(alloc, &mut before)?;
+    let mut absent = Bytes::new(alloc);
+    walked.add_absent(alloc, &mut absent)?;
+    let before = PiecedText::of(alloc, absent)?;
     let mut report = add_lines(rt, alloc, walked, workers, before)?;
-    walked.add_unmatched(alloc, &mut report)?;
+    let mut unmatched = Bytes::new(alloc);
+    walked.add_unmatched(alloc, &mut unmatched)?;
+    report.push(unmatched)?;
     Ok(report)
 }
 
@@ -97,12 +99,12 @@ fn dump_by<R: Threads + Sync>(
     alloc: Global,
     walked: &Walked<'_>,
     workers: u32,
-) -> Result<Bytes, OutOfMemory>
+) -> Result<PiecedText, OutOfMemory>
     ensures { IfOk result (λ dump. dump ≡ dump_text (changes (walk_in walked.now))) }
 {
     let digests = walked.digests(alloc)?;
-    let room = text_for(alloc, walked.len());
-    let dump = add_sections(rt, alloc, &digests, workers, room)?;
+    let empty = PiecedText::of(alloc, Bytes::new(alloc))?;
+    let dump = add_sections(rt, alloc, &digests, workers, empty)?;
     Ok(dump)
 }
 
@@ -122,11 +124,11 @@ impl<'r, R: Threads + Wait + Sync> Walker for Workers<'r, R> {
         walk_shared(self.rt, alloc, input, workers)
     }
 
-    fn report(&self, alloc: Global, walked: &Walked<'_>) -> Result<Bytes, OutOfMemory> {
+    fn report(&self, alloc: Global, walked: &Walked<'_>) -> Result<PiecedText, OutOfMemory> {
         report_by(self.rt, alloc, walked, self.count_for(walked.len()))
     }
 
-    fn dump(&self, alloc: Global, walked: &Walked<'_>) -> Result<Bytes, OutOfMemory> {
+    fn dump(&self, alloc: Global, walked: &Walked<'_>) -> Result<PiecedText, OutOfMemory> {
         dump_by(self.rt, alloc, walked, self.count_for(walked.len()))
     }
 }

@@ -1,4 +1,4 @@
--- Which runs have all entries of the groups in them.
+-- Which extents have all entries of the groups in them.
 use Rattle.std.proofs.Common.{◌≡◌, ◌∙◌, ap, sym, refl, subst, ℕ, zero, suc, ◌+◌, ◌<◌, ◌≤◌, ◌==◌}
 use Rattle.std.proofs.Common.{min, max, Bool, true, false, cond, List, length, set, replicate}
 use Rattle.std.proofs.Common.{get_or, arith, ◌⊎◌, inl, inr, get_or-set_same, get_or-set_other}
@@ -12,12 +12,14 @@ use Rattle.std.specs.Cmp.{both_ways}
 use Rattle.label_base.specs.Bounded.{all_below, implies}
 use Rattle.label_base.proofs.BoundedLemmas.{all_at, all_from, implies_at}
 use Rattle.tree_model.specs.GroupLists.{next_at}
-use Rattle.tree_model.specs.RunLists.{in_run, closed_run, name_after, last_below, last_at}
-use Rattle.tree_model.specs.RunLists.{last_name, AreLasts, IsLeastIn, IsGreatestIn, AreLow, AreHigh}
-use Rattle.tree_model.specs.RunLists.{AreClosed, AreGroupRuns}
+use Rattle.tree_model.specs.ExtentEnds.{within_extent, closed_extent, first_of_group, last_below}
+use Rattle.tree_model.specs.ExtentEnds.{last_at}
+use Rattle.tree_model.specs.ExtentEnds.{last_name, AreLasts, IsLeastIn, IsGreatestIn, AreLow}
+use Rattle.tree_model.specs.ExtentEnds.{AreHigh}
+use Rattle.tree_model.specs.ExtentEnds.{AreClosed, AreGroupExtents}
 use Rattle.tree_model.proofs.NameLemmas.{next_is}
 
--- one more run
+-- one more extent
 pub least_more : (f : ℕ → ℕ) (a b c v w : ℕ) → IsLeastIn f a b v → IsLeastIn f b c w
     → IsLeastIn f a c (min v w)
 least_more f a b c v w r s = elim (cases_lt v w) [
@@ -62,31 +64,34 @@ greatest_more f a b c v w r s = elim (cases_lt w v) [
       }))
 ]
 
--- the next run behind those that were passed
-module _ (groups ends first last : List ℕ) (e c : ℕ) (runs : AreGroupRuns groups ends first last)
+-- the next extent behind those that were closed
+module _ (groups ends first last : List ℕ) (e c : ℕ)
+    (extents : AreGroupExtents groups ends first last)
     (within : e < length groups) (behind : e < c) (more : c < get_or ends e 0) where
-  run_within : c < length groups
-  run_within = let w = runs.ends_are.within e (omega (arith, within, runs.paired)) in
-      omega (arith, w, more, runs.paired)
+  extent_within : c < length groups
+  extent_within = let w = extents.ends_are.within e (omega (arith, within, extents.paired)) in
+      omega (arith, w, more, extents.paired)
 
-  pub run_behind : e < get_or ends c 0
-  run_behind = let w = runs.ends_are.behind c (omega (arith, run_within, runs.paired)) in
+  pub extent_behind : e < get_or ends c 0
+  extent_behind = let w =
+      extents.ends_are.behind c (omega (arith, extent_within, extents.paired)) in
       omega (arith, w, behind)
 
-  pub run_smaller : c < get_or ends c 0
-  run_smaller = runs.ends_are.behind c (omega (arith, run_within, runs.paired))
+  pub extent_smaller : c < get_or ends c 0
+  extent_smaller = extents.ends_are.behind c (omega (arith, extent_within, extents.paired))
 
-  pub run_upto : get_or ends c 0 ≤ get_or ends e 0
-  run_upto = runs.ends_are.nested e c (omega (arith, within, runs.paired)) (omega (arith, behind))
+  pub extent_upto : get_or ends c 0 ≤ get_or ends e 0
+  extent_upto = extents.ends_are.nested e c (omega (arith, within, extents.paired))
+      (omega (arith, behind))
       more
 
   pub least_step : (low : List ℕ) (least new : ℕ) → AreLow groups ends (e + 1) low
-      → IsLeastIn (name_after groups) e c least → new ≡ min least (get_or low c 0)
-      → IsLeastIn (name_after groups) e (get_or ends c 0) new
+      → IsLeastIn (first_of_group groups) e c least → new ≡ min least (get_or low c 0)
+      → IsLeastIn (first_of_group groups) e (get_or ends c 0) new
   least_step low least new r h n =
-      subst (λ v. IsLeastIn (name_after groups) e (get_or ends c 0) v) (sym n)
-      (least_more (name_after groups) e c (get_or ends c 0) least (get_or low c 0) h
-      (r.least c (omega (arith, behind)) run_within))
+      subst (λ v. IsLeastIn (first_of_group groups) e (get_or ends c 0) v) (sym n)
+      (least_more (first_of_group groups) e c (get_or ends c 0) least (get_or low c 0) h
+      (r.least c (omega (arith, behind)) extent_within))
 
   pub greatest_step : (high : List ℕ) (greatest new : ℕ) → AreHigh groups ends (e + 1) high
       → IsGreatestIn (last_name groups) e c greatest → new ≡ max greatest (get_or high c 0)
@@ -94,7 +99,7 @@ module _ (groups ends first last : List ℕ) (e c : ℕ) (runs : AreGroupRuns gr
   greatest_step high greatest new r h n =
       subst (λ v. IsGreatestIn (last_name groups) e (get_or ends c 0) v) (sym n)
       (greatest_more (last_name groups) e c (get_or ends c 0) greatest (get_or high c 0) h
-      (r.greatest c (omega (arith, behind)) run_within))
+      (r.greatest c (omega (arith, behind)) extent_within))
 
 -- the last entry of a group
 pub lasts_none : (groups : List ℕ) (count : ℕ) → AreLasts groups 0 (replicate count 0)
@@ -163,7 +168,7 @@ last_told groups x k l h = last_is groups (length groups) (get_or groups k 0) x 
 
 -- what the first entry is
 first_high : (groups : List ℕ) (x k : ℕ) → x < length groups → get_or groups x 0 ≡ get_or groups k 0
-    → name_after groups k ≤ x
+    → first_of_group groups k ≤ x
 first_high groups x k l h =
     let g = get_or groups k 0 in
     let r = next_is groups 0 g (omega arith) in
@@ -173,57 +178,61 @@ first_high groups x k l h =
       | inr ge ↦ ge
     ]
 
-first_own : (groups : List ℕ) (k : ℕ) → k < length groups → (name_after groups k < length groups)
-    × (get_or groups (name_after groups k) 0 ≡ get_or groups k 0)
+first_own : (groups : List ℕ) (k : ℕ) → k < length groups
+    → (first_of_group groups k < length groups)
+    × (get_or groups (first_of_group groups k) 0 ≡ get_or groups k 0)
 first_own groups k l =
-    let low : name_after groups k ≤ k = first_high groups k k l refl in
-    let within : name_after groups k < length groups = omega (arith, low, l) in
+    let low : first_of_group groups k ≤ k = first_high groups k k l refl in
+    let within : first_of_group groups k < length groups = omega (arith, low, l) in
     (within, (next_is groups 0 (get_or groups k 0) (omega arith)).found within)
 
 pub implied : (a b : Bool) → (a ≡ true → b ≡ true) → implies a b ≡ true
 implied true b f = f refl
 implied false b f = refl
 
--- an entry of a run
-pub run_parts : (ends : List ℕ) (d e : ℕ) → in_run ends d e ≡ true → (d ≤ e) × (e < get_or ends d 0)
+-- an entry of an extent
+pub run_parts : (ends : List ℕ) (d e : ℕ) → within_extent ends d e ≡ true → (d ≤ e)
+    × (e < get_or ends d 0)
 run_parts ends d e h = let p = and_parts (nat_le d e) (nat_lt e (get_or ends d 0)) h in
     (leb-true d e p.0, ltb-true e (get_or ends d 0) p.1)
 
-pub run_from : (ends : List ℕ) (d e : ℕ) → d ≤ e → e < get_or ends d 0 → in_run ends d e ≡ true
+pub run_from : (ends : List ℕ) (d e : ℕ) → d ≤ e → e < get_or ends d 0 → within_extent ends d e
+    ≡ true
 run_from ends d e l h = and_from (nat_le d e) (nat_lt e (get_or ends d 0)) (le-leb d e l)
     (lt-ltb e (get_or ends d 0) h)
 
 module _ (groups ends : List ℕ) (d least greatest : ℕ) (within : get_or ends d 0 ≤ length groups)
-    (low : IsLeastIn (name_after groups) d (get_or ends d 0) least)
+    (low : IsLeastIn (first_of_group groups) d (get_or ends d 0) least)
     (high : IsGreatestIn (last_name groups) d (get_or ends d 0) greatest) where
   end : ℕ
   end = get_or ends d 0
 
-  -- where the run is closed, its groups begin and end in it
-  closed_at_both : (e x : ℕ) → closed_run groups ends d ≡ true → d ≤ e → e < end → x < length groups
+  -- where the extent is closed, its groups begin and end in it
+  closed_at_both : (e x : ℕ) → closed_extent groups ends d ≡ true → d ≤ e → e < end
+      → x < length groups
       → get_or groups x 0 ≡ get_or groups e 0 → (d ≤ x) × (x < end)
   unfolding end
   closed_at_both e x h l m w same =
-      let here = implies_at (in_run ends d e)
+      let here = implies_at (within_extent ends d e)
       (all_below (length groups)
-      (λ x. implies (get_or groups x 0 == get_or groups e 0) (in_run ends d x)))
+      (λ x. implies (get_or groups x 0 == get_or groups e 0) (within_extent ends d x)))
       (all_at (length groups)
-      (λ e. implies (in_run ends d e)
+      (λ e. implies (within_extent ends d e)
       (all_below (length groups)
-      (λ x. implies (get_or groups x 0 == get_or groups e 0) (in_run ends d x)))) e h
+      (λ x. implies (get_or groups x 0 == get_or groups e 0) (within_extent ends d x)))) e h
       (omega (arith, m, within)))
       (run_from ends d e l m) in
-      let there = implies_at (get_or groups x 0 == get_or groups e 0) (in_run ends d x)
+      let there = implies_at (get_or groups x 0 == get_or groups e 0) (within_extent ends d x)
       (all_at (length groups)
-      (λ x. implies (get_or groups x 0 == get_or groups e 0) (in_run ends d x)) x here w)
+      (λ x. implies (get_or groups x 0 == get_or groups e 0) (within_extent ends d x)) x here w)
       (eq-eqb (get_or groups x 0) (get_or groups e 0) same) in
       run_parts ends d x there
 
-  flag_from : closed_run groups ends d ≡ true → (nat_le d least && nat_lt greatest end) ≡ true
+  flag_from : closed_extent groups ends d ≡ true → (nat_le d least && nat_lt greatest end) ≡ true
   unfolding end
   flag_from h =
       let a = first_own groups low.place (omega (arith, low.upto, within)) in
-      let below = closed_at_both low.place (name_after groups low.place) h low.from low.upto a.0
+      let below = closed_at_both low.place (first_of_group groups low.place) h low.from low.upto a.0
       a.1 in
       let z = last_told groups high.place high.place (omega (arith, high.upto, within)) refl in
       let above = closed_at_both high.place (last_name groups high.place) h high.from high.upto
@@ -233,7 +242,7 @@ module _ (groups ends : List ℕ) (d least greatest : ℕ) (within : get_or ends
       (lt-ltb greatest end (omega (arith, above.1, high.met)))
 
   closed_entry : d ≤ least → greatest < end → (e x : ℕ) → d ≤ e → e < end → x < length groups
-      → get_or groups x 0 ≡ get_or groups e 0 → in_run ends d x ≡ true
+      → get_or groups x 0 ≡ get_or groups e 0 → within_extent ends d x ≡ true
   unfolding end
   closed_entry p q e x l m w same =
       let a = first_high groups x e w same in
@@ -242,47 +251,49 @@ module _ (groups ends : List ℕ) (d least greatest : ℕ) (within : get_or ends
       let z = high.high e l m in
       run_from ends d x (omega (arith, p, a, b)) (omega (arith, q, y.high, z))
 
-  from_flag : (nat_le d least && nat_lt greatest end) ≡ true → closed_run groups ends d ≡ true
+  from_flag : (nat_le d least && nat_lt greatest end) ≡ true → closed_extent groups ends d ≡ true
   unfolding end
   from_flag h =
       let p = and_parts (nat_le d least) (nat_lt greatest end) h in
       let starts = leb-true d least p.0 in
       let stops = ltb-true greatest end p.1 in
       all_from (length groups)
-      (λ e. implies (in_run ends d e)
+      (λ e. implies (within_extent ends d e)
       (all_below (length groups)
-      (λ x. implies (get_or groups x 0 == get_or groups e 0) (in_run ends d x))))
-      (λ e w. implied (in_run ends d e)
+      (λ x. implies (get_or groups x 0 == get_or groups e 0) (within_extent ends d x))))
+      (λ e w. implied (within_extent ends d e)
       (all_below (length groups)
-      (λ x. implies (get_or groups x 0 == get_or groups e 0) (in_run ends d x)))
+      (λ x. implies (get_or groups x 0 == get_or groups e 0) (within_extent ends d x)))
       (λ there. let i = run_parts ends d e there in
       all_from (length groups)
-      (λ x. implies (get_or groups x 0 == get_or groups e 0) (in_run ends d x))
-      (λ x v. implied (get_or groups x 0 == get_or groups e 0) (in_run ends d x)
+      (λ x. implies (get_or groups x 0 == get_or groups e 0) (within_extent ends d x))
+      (λ x v. implied (get_or groups x 0 == get_or groups e 0) (within_extent ends d x)
       (λ same. closed_entry starts stops e x i.0 i.1 v
       (eqb-true (get_or groups x 0) (get_or groups e 0) same)))))
 
-  pub flag_is : (nat_le d least && nat_lt greatest (get_or ends d 0)) ≡ closed_run groups ends d
+  pub flag_is : (nat_le d least && nat_lt greatest (get_or ends d 0)) ≡ closed_extent groups ends d
   unfolding end
-  flag_is = both_ways (nat_le d least && nat_lt greatest end) (closed_run groups ends d) from_flag
+  flag_is = both_ways (nat_le d least && nat_lt greatest end) (closed_extent groups ends d)
+      from_flag
       flag_from
 
--- one more run passed
+-- one more extent closed
 low_case : (groups ends low : List ℕ) (e least k : ℕ) → e < length groups
-    → IsLeastIn (name_after groups) e (get_or ends e 0) least → AreLow groups ends (e + 1) low
+    → IsLeastIn (first_of_group groups) e (get_or ends e 0) least → AreLow groups ends (e + 1) low
     → e ≤ k → k < length groups → (k ≡ e) ⊎ (k ≡ e → ⊥)
-    → IsLeastIn (name_after groups) k (get_or ends k 0) (get_or (set low e least) k 0)
+    → IsLeastIn (first_of_group groups) k (get_or ends k 0) (get_or (set low e least) k 0)
 low_case groups ends low e least k l h r from upto (inl same) =
-    subst (λ i. IsLeastIn (name_after groups) i (get_or ends i 0) (get_or (set low e least) i 0))
+    subst (λ i. IsLeastIn (first_of_group groups) i (get_or ends i 0)
+    (get_or (set low e least) i 0))
     (sym same)
-    (subst (λ v. IsLeastIn (name_after groups) e (get_or ends e 0) v)
+    (subst (λ v. IsLeastIn (first_of_group groups) e (get_or ends e 0) v)
     (sym (get_or-set_same low e least 0 (omega (arith, l, r.sized)))) h)
 low_case groups ends low e least k l h r from upto (inr other) =
-    subst (λ v. IsLeastIn (name_after groups) k (get_or ends k 0) v)
+    subst (λ v. IsLeastIn (first_of_group groups) k (get_or ends k 0) v)
     (sym (get_or-set_other low e k least 0 other)) (r.least k (omega (arith, from, other)) upto)
 
 pub low_put : (groups ends low : List ℕ) (e least : ℕ) → e < length groups
-    → IsLeastIn (name_after groups) e (get_or ends e 0) least → AreLow groups ends (e + 1) low
+    → IsLeastIn (first_of_group groups) e (get_or ends e 0) least → AreLow groups ends (e + 1) low
     → AreLow groups ends e (set low e least)
 low_put groups ends low e least l h r = record {
   sized = length-set low e least ∙ r.sized;
@@ -313,26 +324,27 @@ high_put groups ends high e greatest l h r = record {
 }
 
 closed_case : (groups ends : List ℕ) (closed : List Bool) (e k : ℕ) (flag : Bool)
-    → e < length groups → flag ≡ closed_run groups ends e → AreClosed groups ends (e + 1) closed
+    → e < length groups → flag ≡ closed_extent groups ends e → AreClosed groups ends (e + 1) closed
     → e ≤ k → k < length groups → (k ≡ e) ⊎ (k ≡ e → ⊥) → get_or (set closed e flag) k false
-    ≡ closed_run groups ends k
+    ≡ closed_extent groups ends k
 closed_case groups ends closed e k flag l h r from upto (inl same) =
-    subst (λ i. get_or (set closed e flag) i false ≡ closed_run groups ends i) (sym same)
+    subst (λ i. get_or (set closed e flag) i false ≡ closed_extent groups ends i) (sym same)
     (get_or-set_same closed e flag false (omega (arith, l, r.sized)) ∙ h)
 closed_case groups ends closed e k flag l h r from upto (inr other) =
     get_or-set_other closed e k flag false other ∙ r.flags k (omega (arith, from, other)) upto
 
 pub closed_put : (groups ends first last : List ℕ) (closed : List Bool) (e least greatest : ℕ)
-    (flag : Bool) → AreGroupRuns groups ends first last → e < length groups
-    → IsLeastIn (name_after groups) e (get_or ends e 0) least
+    (flag : Bool) → AreGroupExtents groups ends first last → e < length groups
+    → IsLeastIn (first_of_group groups) e (get_or ends e 0) least
     → IsGreatestIn (last_name groups) e (get_or ends e 0) greatest
     → flag ≡ (nat_le e least && nat_lt greatest (get_or ends e 0))
     → AreClosed groups ends (e + 1) closed → AreClosed groups ends e (set closed e flag)
-closed_put groups ends first last closed e least greatest flag runs l low high h r =
+closed_put groups ends first last closed e least greatest flag extents l low high h r =
     let within : get_or ends e 0 ≤ length groups =
-    (let w = runs.ends_are.within e (omega (arith, l, runs.paired)) in
-    omega (arith, w, runs.paired)) in
-    let own : flag ≡ closed_run groups ends e = h ∙ flag_is groups ends e least greatest within low
+    (let w = extents.ends_are.within e (omega (arith, l, extents.paired)) in
+    omega (arith, w, extents.paired)) in
+    let own : flag ≡ closed_extent groups ends e = h ∙ flag_is groups ends e least greatest within
+    low
     high in
     record {
       sized = length-set closed e flag ∙ r.sized;
@@ -340,7 +352,7 @@ closed_put groups ends first last closed e least greatest flag runs l low high h
           (cases_eq k e);
     }
 
--- nothing passed
+-- nothing closed
 pub low_none : (groups ends : List ℕ) → AreLow groups ends (length groups)
     (replicate (length groups) 0)
 low_none groups ends =

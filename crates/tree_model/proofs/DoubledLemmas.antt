@@ -5,11 +5,11 @@ use Rattle.std.proofs.Common.{inr}
 use Rattle.std.specs.Prelude.{Some, None}
 use Rattle.std.specs.List.{list_any}
 use Rattle.std.proofs.lemmas.Bool.{true≢false, false_from_ne_true}
-use Rattle.tree_model.proofs.RunLemmas.{by_place}
+use Rattle.tree_model.proofs.HeadLemmas.{by_place}
 use Rattle.file_paths.specs.Path.{Path}
 use Rattle.find_records.specs.Record.{Record}
 use Rattle.tree_model.specs.Numbered.{Numbered, numbered_from}
-use Rattle.tree_model.specs.Entries.{conflict, same_path, first_from, doubled_after, doubled}
+use Rattle.tree_model.specs.Entries.{contradicts, same_path, first_from, doubled_after, doubled}
 use Rattle.tree_model.proofs.Members.{Has, has_push, any_has, none_has}
 use Rattle.tree_model.proofs.SameLemmas.{conflict_path, conflict_back, conflict_itself, conflict_at}
 use Rattle.tree_model.proofs.SameLemmas.{path_exact, path_same, peace_same}
@@ -17,9 +17,9 @@ use Rattle.tree_model.proofs.Verdicts.{Verdict, IsDoubled}
 use Rattle.tree_model.proofs.NumberedLemmas.{in_low, in_high, in_item, item_in, in_front_or_behind}
 use Rattle.tree_model.proofs.NumberedLemmas.{left, middle}
 
--- no two are in conflict
+-- no two contradict each other
 abbrev pub Calm : List Record → Type 0
-Calm records = (a b : Record) → Has records a → Has records b → conflict a b ≡ false
+Calm records = (a b : Record) → Has records a → Has records b → contradicts a b ≡ false
 
 -- the first record with a path
 pub record First (n : ℕ) (path : Path) (records : List Record) (h : Numbered) : Type 0 where
@@ -66,12 +66,13 @@ first_is n path [] y hy e = absurd hy
 first_is n path (r ∷ rs) y hy e = by_first (same_path r.path path) n path r rs refl y hy e
     (λ z hz f. first_is (n + 1) path rs z hz f)
 
-by_back : (a b : Record) → conflict b a ≡ false → conflict a b ≡ false
-by_back a b h = false_from_ne_true (conflict a b) (λ t. true≢false (sym (conflict_back a b t) ∙ h))
+by_back : (a b : Record) → contradicts b a ≡ false → contradicts a b ≡ false
+by_back a b h =
+    false_from_ne_true (contradicts a b) (λ t. true≢false (sym (conflict_back a b t) ∙ h))
 
 module _ (earlier : List Record) (r : Record) (rs : List Record) (calm : Calm earlier) where
-  -- a record in conflict with an earlier one
-  second_here : (y : Record) → Has earlier y → conflict r y ≡ true
+  -- a record that contradicts an earlier one
+  second_here : (y : Record) → Has earlier y → contradicts r y ≡ true
       → IsDoubled (numbered_from 1 (earlier ++ r ∷ rs)) (first_from 1 r.path earlier)
       (length earlier + 1)
   second_here y hy k =
@@ -106,15 +107,15 @@ module _ (earlier : List Record) (r : Record) (rs : List Record) (calm : Calm ea
         ];
       }
 
-  calm_more : list_any (conflict r) earlier ≡ false → Calm (earlier ++ r ∷ [])
+  calm_more : list_any (contradicts r) earlier ≡ false → Calm (earlier ++ r ∷ [])
   calm_more n = λ a b ha hb. elim (has_push earlier r a ha) [
     | inl ta ↦ elim (has_push earlier r b hb) [
       | inl tb ↦ calm a b ta tb
       | inr q ↦ by_back a b (conflict_at b a r a (sym q) refl
-          ∙ none_has (conflict r) earlier a n ta)
+          ∙ none_has (contradicts r) earlier a n ta)
     ]
     | inr p ↦ elim (has_push earlier r b hb) [
-      | inl tb ↦ conflict_at a b r b (sym p) refl ∙ none_has (conflict r) earlier b n tb
+      | inl tb ↦ conflict_at a b r b (sym p) refl ∙ none_has (contradicts r) earlier b n tb
       | inr q ↦ conflict_at a b r r (sym p) (sym q) ∙ conflict_itself r
     ]
   ]
@@ -130,10 +131,10 @@ doubled_after_right : (rest earlier : List Record) → Calm earlier
     → Verdict (numbered_from 1 (earlier ++ rest)) (doubled_after earlier rest)
 doubled_after_right [] earlier calm = calm_verdict earlier calm
 doubled_after_right (r ∷ rs) earlier calm =
-    by_place (list_any (conflict r) earlier) (numbered_from 1 (earlier ++ r ∷ rs))
+    by_place (list_any (contradicts r) earlier) (numbered_from 1 (earlier ++ r ∷ rs))
     (Some (first_from 1 r.path earlier, length earlier + 1))
     (doubled_after (earlier ++ r ∷ []) rs)
-    (λ t. let y = any_has (conflict r) earlier t in second_here earlier r rs calm y.0 y.1 y.2)
+    (λ t. let y = any_has (contradicts r) earlier t in second_here earlier r rs calm y.0 y.1 y.2)
     (λ f. subst (λ l. Verdict (numbered_from 1 l) (doubled_after (earlier ++ r ∷ []) rs))
     (append_assoc earlier (r ∷ []) rs)
     (doubled_after_right rs (earlier ++ r ∷ []) (calm_more earlier r rs calm f)))
@@ -142,7 +143,7 @@ pub doubled_right : (records : List Record) → Verdict (numbered_from 1 records
 unfolding doubled
 doubled_right records = doubled_after_right records [] (λ a b ha hb. absurd ha)
 
--- records that are not doubled have no conflict
+-- records that are not doubled contradict none
 pub calm_from : (records : List Record) → doubled records ≡ None → Calm records
 calm_from records e = λ a b ha hb.
     let p = item_in 1 records a ha in

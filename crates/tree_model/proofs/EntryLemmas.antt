@@ -17,11 +17,11 @@ use Rattle.file_paths.specs.Path.{Path, path_cmp}
 use Rattle.find_records.specs.Record.{Record}
 use Rattle.tree_model.specs.Numbered.{Numbered, numbered_cmp, numbered_from, numbered_record}
 use Rattle.tree_model.specs.Entries.{entry_placed, entered, entries_of, doubled}
-use Rattle.tree_model.specs.Runs.{same_place}
+use Rattle.tree_model.specs.Doubled.{same_place}
 use Rattle.tree_model.proofs.Members.{Has, has_map, from_map, has_from_contains, contains_from_has}
 use Rattle.tree_model.proofs.SameLemmas.{path_exact, peace_same, same_path_is}
 use Rattle.tree_model.proofs.NumberedLemmas.{in_item, item_in}
-use Rattle.tree_model.proofs.RunLemmas.{path_total, then_first}
+use Rattle.tree_model.proofs.HeadLemmas.{path_total, then_first}
 use Rattle.tree_model.proofs.DoubledLemmas.{Calm, calm_from}
 use Rattle.tree_model.proofs.SortedLemmas.{has_moved}
 

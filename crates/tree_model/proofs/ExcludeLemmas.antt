@@ -16,7 +16,7 @@ use Rattle.tree_model.specs.Tree.{ByPath, IsFrom}
 use Rattle.tree_model.proofs.AboveLemmas.{below_chain, below_itself, between, not_before}
 use Rattle.tree_model.proofs.ExtentLemmas.{extent_has, extent_told}
 use Rattle.tree_model.proofs.MarkLemmas.{cleared_all, cleared_more, cleared_none}
-use Rattle.tree_model.proofs.RunLemmas.{path_total}
+use Rattle.tree_model.proofs.HeadLemmas.{path_total}
 use Rattle.tree_model.proofs.SameLemmas.{path_exact, same_path_is}
 
 -- a path that isn't before another is that one, or the other is before it
@@ -61,7 +61,7 @@ module _ (entries : List Record) (up : ByPath entries) (ends : List ℕ)
         (and_parts (nat_lt c (length entries)) (is_under c) test).1)
         r (omega (arith, under_more)) s
 
-  -- an entry that isn't below ends the run
+  -- an entry that isn't below ends the extent
   no_more : (c e : ℕ) → (path_cmp (entry_at entries c).path path ≡ Less → ⊥) → is_under c ≡ false
       → c < e → e < length entries → is_under e ≡ true → ⊥
   no_more c e h out a l t =

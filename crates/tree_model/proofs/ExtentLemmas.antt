@@ -47,7 +47,7 @@ module _ (entries : List Record) (up : ByPath entries) where
     | inr ge ↦ ge
   ]
 
-  -- extents are runs
+  -- extents are those by their ends
   pub in_between : (d x e : ℕ) → d ≤ x → x ≤ e → e < length entries → in_extent entries d e ≡ true
       → in_extent entries d x ≡ true
   in_between d x e a b l h = elim (same_or_less d x a) [

@@ -18,7 +18,7 @@ use Rattle.tree_model.specs.Extents.{entry_at}
 use Rattle.tree_model.specs.Search.{IsBetween, stands_at}
 use Rattle.tree_model.specs.Tree.{find_in, is_entry_at, ByPath, IsFrom}
 use Rattle.tree_model.proofs.SameLemmas.{path_exact, same_path_is}
-use Rattle.tree_model.proofs.RunLemmas.{path_total}
+use Rattle.tree_model.proofs.HeadLemmas.{path_total}
 
 position_at : (p : Record → Bool) (xs : List Record) (i : ℕ) → position_or_len p xs ≡ i
     → i < length xs → position p xs ≡ Some i

@@ -19,7 +19,7 @@ use Rattle.tree_model.specs.Tree.{ByPath, find_in, is_entry_at}
 use Rattle.tree_model.proofs.AboveLemmas.{below_itself, not_before, rest_below, same_head}
 use Rattle.tree_model.proofs.ExtentLemmas.{rise}
 use Rattle.tree_model.proofs.FindLemmas.{found_where}
-use Rattle.tree_model.proofs.RunLemmas.{path_total}
+use Rattle.tree_model.proofs.HeadLemmas.{path_total}
 use Rattle.tree_model.proofs.SameLemmas.{path_exact, path_same}
 
 -- the nearest directory that the path lies below
@@ -149,11 +149,12 @@ module _ (entries : List Record) (up : ByPath entries) where
   longer_if : (top : Path) (k : ℕ) → directory_in top entries ≡ None → k < length entries
       → is_directory entries k ≡ true → at_or_below top (entry_at entries k).path ≡ true
       → nat_lt (length (entry_at entries k).path) (length top) ≡ true
-  longer_if top k none l dir below = elim (cases_lt (length (entry_at entries k).path) (length top)) [
-    | inl lt ↦ lt-ltb (length (entry_at entries k).path) (length top) lt
-    | inr ge ↦ (let found = directory_found top k l
-        (same_length top (entry_at entries k).path below ge) dir in absurd cc)
-  ]
+  longer_if top k none l dir below =
+      elim (cases_lt (length (entry_at entries k).path) (length top)) [
+        | inl lt ↦ lt-ltb (length (entry_at entries k).path) (length top) lt
+        | inr ge ↦ (let found = directory_found top k l
+            (same_length top (entry_at entries k).path below ge) dir in absurd cc)
+      ]
 
   all_three : (dir below less : Bool) → (dir ≡ true → below ≡ true → less ≡ true)
       → (dir && below) ≡ (dir && (below && less))

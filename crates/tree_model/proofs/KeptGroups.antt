@@ -12,9 +12,9 @@ use Rattle.tree_model.specs.GroupLists.{names_below}
 use Rattle.tree_model.specs.Groups.{group_of, groups_in, label_at, label_in, names_in}
 use Rattle.tree_model.specs.Kept.{ListsGroups}
 use Rattle.tree_model.specs.Links.{inode_of}
-use Rattle.tree_model.specs.RunLists.{AreClosed}
+use Rattle.tree_model.specs.ExtentEnds.{AreClosed}
 use Rattle.tree_model.specs.Tree.{ByPath}
-use Rattle.tree_model.proofs.ExtentRuns.{closed_is}
+use Rattle.tree_model.proofs.ExtentsByEnds.{closed_is}
 use Rattle.tree_model.proofs.GroupLemmas.{count_groups, group_at, group_inside, groups_of}
 use Rattle.tree_model.proofs.GroupLemmas.{has_first, names_are}
 use Rattle.tree_model.proofs.KnownLemmas.{entry_is}

@@ -1,7 +1,7 @@
 pub mod DoubledLemmas
 pub mod Members
 pub mod NumberedLemmas
-pub mod RunLemmas
+pub mod HeadLemmas
 pub mod SameLemmas
 pub mod Verdicts
 pub mod SortedLemmas
@@ -15,12 +15,13 @@ pub mod CountedLemmas
 pub mod FormatLemmas
 pub mod Sending
 pub mod MarkLemmas
-pub mod ExtentRuns
+pub mod ExtentsByEnds
 pub mod ExcludeLemmas
 pub mod SelectLemmas
 pub mod DeadLemmas
 pub mod KeptGroups
 pub mod JobLemmas
+pub mod NextLemmas
 pub mod JobLaws
 pub mod HeldLemmas
 pub mod NameLemmas
@@ -33,7 +34,7 @@ pub mod InOrderLemmas
 pub mod KnownLemmas
 pub mod UpLemmas
 pub mod PlaceLemmas
-pub mod PassLemmas
+pub mod DoubledSoFar
 pub mod KeptLemmas
 pub mod ParentLemmas
 pub mod GroupLaws

@@ -1,4 +1,4 @@
--- The entries that stay with one in its run, marked in one pass.
+-- The entries that stay with one in its extent, marked in one sweep.
 use Rattle.std.proofs.Common.{◌≡◌, ◌∙◌, ap, sym, refl, subst, ℕ, ◌+◌, ◌<◌, ◌≤◌, ◌==◌, ◌||◌, Bool}
 use Rattle.std.proofs.Common.{true, false, not, List, length, set, get_or, arith, ◌⊎◌, inl, inr}
 use Rattle.std.proofs.Common.{get_or-set_same, get_or-set_other, length-set}
@@ -9,7 +9,7 @@ use Rattle.label_base.specs.Bounded.{implies}
 use Rattle.label_base.proofs.BoundedLemmas.{all_at, all_from, implies_at}
 use Rattle.tree_model.specs.LiveLists.{IsFilled, AreMarkedLive, IsMarkedTo, IsCleared, IsClearedTo}
 use Rattle.tree_model.specs.LiveLists.{stays_in}
-use Rattle.tree_model.specs.RunLists.{AreEnds, in_run}
+use Rattle.tree_model.specs.ExtentEnds.{AreEnds, within_extent}
 use Rattle.tree_model.proofs.ClosedLemmas.{run_parts, run_from, implied}
 
 pub or_true : (b : Bool) → (b || true) ≡ true
@@ -28,18 +28,20 @@ pub and_false : (b : Bool) → (b && false) ≡ false
 and_false true = refl
 and_false false = refl
 
--- what stands before or behind a run is not in it
-pub before_run : (ends : List ℕ) (d e : ℕ) → e < d → in_run ends d e ≡ false
-before_run ends d e l = false_from_ne_true (in_run ends d e) (λ h. let p = run_parts ends d e h in
+-- what stands before or behind an extent is not in it
+pub before_run : (ends : List ℕ) (d e : ℕ) → e < d → within_extent ends d e ≡ false
+before_run ends d e l =
+    false_from_ne_true (within_extent ends d e) (λ h. let p = run_parts ends d e h in
     omega (arith, p.0, l))
 
-pub behind_run : (ends : List ℕ) (d e : ℕ) → get_or ends d 0 ≤ e → in_run ends d e ≡ false
-behind_run ends d e l = false_from_ne_true (in_run ends d e) (λ h. let p = run_parts ends d e h in
+pub behind_run : (ends : List ℕ) (d e : ℕ) → get_or ends d 0 ≤ e → within_extent ends d e ≡ false
+behind_run ends d e l =
+    false_from_ne_true (within_extent ends d e) (λ h. let p = run_parts ends d e h in
     omega (arith, p.1, l))
 
 module _ (ends : List ℕ) (f : ℕ → ℕ) (o : ℕ) where
   passes : ℕ → Bool
-  passes e = in_run ends o e && stays_in ends f o e
+  passes e = within_extent ends o e && stays_in ends f o e
 
   pub marked_none : (start : List Bool) → IsMarkedTo ends f o o start start
   marked_none start = record {
@@ -60,9 +62,10 @@ module _ (ends : List ℕ) (f : ℕ → ℕ) (o : ℕ) where
 
     stays_here : f c ≡ f o → stays_in ends f o c ≡ true
     stays_here same =
-        all_from (length ends) (λ a. implies (in_run ends o a && in_run ends a c) (f a == f o))
-        (λ a l. implied (in_run ends o a && in_run ends a c) (f a == f o)
-        (λ h. let p = and_parts (in_run ends o a) (in_run ends a c) h in
+        all_from (length ends) (λ a. implies (within_extent ends o a && within_extent ends a c)
+        (f a == f o))
+        (λ a l. implied (within_extent ends o a && within_extent ends a c) (f a == f o)
+        (λ h. let p = and_parts (within_extent ends o a) (within_extent ends a c) h in
         let q = run_parts ends o a p.0 in
         let s = run_parts ends a c p.1 in
         elim (cases_lt a c) [
@@ -72,13 +75,13 @@ module _ (ends : List ℕ) (f : ℕ → ℕ) (o : ℕ) where
 
     same_before : (e : ℕ) → f c ≡ f o → e < c + 1 → e < length start → (e ≡ c) ⊎ (e ≡ c → ⊥)
         → get_or (set old c true) e false
-        ≡ (get_or start e false || (in_run ends o e && stays_in ends f o e))
+        ≡ (get_or start e false || (within_extent ends o e && stays_in ends f o e))
     same_before e same l m (inl here) =
         subst (λ i. get_or (set old c true) i false
-        ≡ (get_or start i false || (in_run ends o i && stays_in ends f o i))) (sym here)
+        ≡ (get_or start i false || (within_extent ends o i && stays_in ends f o i))) (sym here)
         (get_or-set_same old c true false (omega (arith, r.sized, sized, inside))
         ∙ sym (ap (λ b. get_or start c false || b)
-        (and_from (in_run ends o c) (stays_in ends f o c) (run_from ends o c from upto)
+        (and_from (within_extent ends o c) (stays_in ends f o c) (run_from ends o c from upto)
         (stays_here same)) ∙ or_true (get_or start c false)))
     same_before e same l m (inr other) = get_or-set_other old c e true false other
         ∙ r.before e (omega (arith, l, other)) m
@@ -99,21 +102,22 @@ module _ (ends : List ℕ) (f : ℕ → ℕ) (o : ℕ) where
     leaves : (e : ℕ) → (f c ≡ f o → ⊥) → c ≤ e → e < get_or ends c 0 → stays_in ends f o e ≡ false
     leaves e other l m = false_from_ne_true (stays_in ends f o e) (λ h.
         let i = all_at (length ends)
-        (λ a. implies (in_run ends o a && in_run ends a e) (f a == f o)) c h inside in
-        let t = implies_at (in_run ends o c && in_run ends c e) (f c == f o) i
-        (and_from (in_run ends o c) (in_run ends c e) (run_from ends o c from upto)
+        (λ a. implies (within_extent ends o a && within_extent ends a e) (f a == f o)) c h inside in
+        let t = implies_at (within_extent ends o c && within_extent ends c e) (f c == f o) i
+        (and_from (within_extent ends o c) (within_extent ends c e) (run_from ends o c from upto)
         (run_from ends c e l m)) in
         other (eqb-true (f c) (f o) t))
 
-    -- an entry that leaves, with all in its run
+    -- an entry that leaves, with all in its extent
     pub marked_skip : (f c ≡ f o → ⊥) → IsMarkedTo ends f o (get_or ends c 0) start old
     marked_skip other = record {
       sized = r.sized;
       before = λ e l m. elim (cases_lt e c) [
         | inl lt ↦ r.before e lt m
         | inr ge ↦ r.behind e ge m
-            ∙ sym (ap (λ b. get_or start e false || (in_run ends o e && b)) (leaves e other ge l)
-            ∙ ap (λ b. get_or start e false || b) (and_false (in_run ends o e))
+            ∙ sym (ap (λ b. get_or start e false || (within_extent ends o e && b))
+            (leaves e other ge l)
+            ∙ ap (λ b. get_or start e false || b) (and_false (within_extent ends o e))
             ∙ or_false (get_or start e false))
       ];
       behind = λ e l m. (let b = ends_are.behind c inside in r.behind e (omega (arith, l, b)) m);
@@ -123,9 +127,9 @@ module _ (ends : List ℕ) (f : ℕ → ℕ) (o : ℕ) where
       ];
     }
 
-  -- all of the run
+  -- all of the extent
   pub marked_all : (start new : List Bool) → IsMarkedTo ends f o (get_or ends o 0) start new
-      → AreMarkedLive (λ e. in_run ends o e && stays_in ends f o e) start new
+      → AreMarkedLive (λ e. within_extent ends o e && stays_in ends f o e) start new
   marked_all start new r = record {
     sized = r.sized;
     marks = λ e m. elim (cases_lt e (get_or ends o 0)) [
@@ -145,9 +149,9 @@ marked_as p q old new r h =
       marks = λ e l. r.marks e l ∙ ap (λ b. get_or old e false || b) (h e l);
     }
 
--- a run that is filled
+-- an extent that is filled
 pub filled_marks : (ends : List ℕ) (o : ℕ) (old new : List Bool)
-    → IsFilled o (get_or ends o 0) true old new → AreMarkedLive (in_run ends o) old new
+    → IsFilled o (get_or ends o 0) true old new → AreMarkedLive (within_extent ends o) old new
 filled_marks ends o old new r = record {
   sized = r.sized;
   marks = λ e m. elim (cases_lt e o) [
@@ -191,7 +195,7 @@ cleared_none p c old h = record {
   behind = λ e l m. refl;
 }
 
--- a run cleared
+-- an extent cleared
 pub cleared_more : (p : ℕ → Bool) (c end : ℕ) (start old new : List Bool)
     → ((e : ℕ) → c ≤ e → e < end → p e ≡ true) → IsClearedTo p c start old → c ≤ end
     → IsFilled c end false old new → IsClearedTo p end start new

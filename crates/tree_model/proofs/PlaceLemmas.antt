@@ -10,7 +10,7 @@ use Rattle.std.proofs.lemmas.List.Kept.{Contains-from_dedup}
 use Rattle.std.proofs.lemmas.List.Sorted.{IsPermutation-sym}
 use Rattle.find_records.specs.Record.{Record}
 use Rattle.tree_model.specs.Numbered.{Numbered, numbered_from, numbered_record, place_of}
-use Rattle.tree_model.specs.Runs.{same_place}
+use Rattle.tree_model.specs.Doubled.{same_place}
 use Rattle.find_records.specs.Places.{ArePlaces, no_record, records_at}
 use Rattle.tree_model.proofs.Members.{Has, has_from_contains, contains_from_has}
 use Rattle.tree_model.proofs.NumberedLemmas.{in_low, in_high, numbered_more}

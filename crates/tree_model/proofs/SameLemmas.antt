@@ -19,7 +19,7 @@ use Rattle.context_syntax.specs.Label.{same_label}
 use Rattle.context_syntax.specs.declared.label.Label.{Label}
 use Rattle.context_syntax.specs.declared.label.Label.TheVariants.{Absent, Odd, Is}
 use Rattle.find_records.specs.Record.{Record}
-use Rattle.tree_model.specs.Entries.{same_links, same_path, same_record, conflict}
+use Rattle.tree_model.specs.Entries.{same_links, same_path, same_record, contradicts}
 
 pub path_exact : (a b : Path) → same_path a b ≡ true → a ≡ b
 path_exact a b h = (pointwise_decides bytes_decides a b).0 h
@@ -143,31 +143,32 @@ record_same a =
     (eq-eqb (kind_number a.kind) (kind_number a.kind) refl)) (links_same a.links))
     (label_same a.label)) (path_same a.path a.path refl)
 
-pub conflict_itself : (a : Record) → conflict a a ≡ false
+pub conflict_itself : (a : Record) → contradicts a a ≡ false
 conflict_itself a = rw (record_same a, path_same a.path a.path refl) refl
 
 apart : (v w : Bool) → (v ≡ true → ⊥) → (v && w) ≡ false
 apart true w h = absurd (h refl)
 apart false w h = refl
 
--- records of two paths are no conflict
-pub conflict_apart : (a b : Record) → (a.path ≡ b.path → ⊥) → conflict a b ≡ false
+-- records of two paths don't contradict each other
+pub conflict_apart : (a b : Record) → (a.path ≡ b.path → ⊥) → contradicts a b ≡ false
 conflict_apart a b h = apart (same_path a.path b.path) (not (same_record a b))
     (λ t. h (path_exact a.path b.path t))
 
-pub conflict_at : (a b c d : Record) → a ≡ c → b ≡ d → conflict a b ≡ conflict c d
-conflict_at a b c d e f = λ i. conflict (e i) (f i)
+pub conflict_at : (a b c d : Record) → a ≡ c → b ≡ d → contradicts a b ≡ contradicts c d
+conflict_at a b c d e f = λ i. contradicts (e i) (f i)
 
--- what a conflict says
-pub conflict_path : (a b : Record) → conflict a b ≡ true → a.path ≡ b.path
+-- what records say that contradict each other
+pub conflict_path : (a b : Record) → contradicts a b ≡ true → a.path ≡ b.path
 conflict_path a b h =
     path_exact a.path b.path (and_parts (same_path a.path b.path) (not (same_record a b)) h).0
 
-pub conflict_differs : (a b : Record) → conflict a b ≡ true → same_record a b ≡ false
+pub conflict_differs : (a b : Record) → contradicts a b ≡ true → same_record a b ≡ false
 conflict_differs a b h =
     not-true (same_record a b) (and_parts (same_path a.path b.path) (not (same_record a b)) h).1
 
-pub conflict_from : (a b : Record) → a.path ≡ b.path → same_record a b ≡ false → conflict a b ≡ true
+pub conflict_from : (a b : Record) → a.path ≡ b.path → same_record a b ≡ false
+    → contradicts a b ≡ true
 conflict_from a b p d = and_from (same_path a.path b.path) (not (same_record a b))
     (path_same a.path b.path p) (not_from_false (same_record a b) d)
 
@@ -175,7 +176,7 @@ pub differs_back : (a b : Record) → same_record a b ≡ false → same_record 
 differs_back a b d = false_from_ne_true (same_record b a) (λ t. let e = record_exact b a t in
     let s : same_record a b ≡ true = subst (λ z. same_record z b ≡ true) e (record_same b) in cc)
 
-pub conflict_back : (a b : Record) → conflict a b ≡ true → conflict b a ≡ true
+pub conflict_back : (a b : Record) → contradicts a b ≡ true → contradicts b a ≡ true
 conflict_back a b h = conflict_from b a (sym (conflict_path a b h))
     (differs_back a b (conflict_differs a b h))
 
@@ -184,8 +185,8 @@ no_conflict true true p h = refl
 no_conflict true false p h = cc
 no_conflict false w p h = cc
 
--- records of one path without a conflict are the same
-pub peace_same : (a b : Record) → a.path ≡ b.path → conflict a b ≡ false → a ≡ b
+-- records of one path that don't contradict each other are the same
+pub peace_same : (a b : Record) → a.path ≡ b.path → contradicts a b ≡ false → a ≡ b
 peace_same a b p h =
     record_exact a b
     (no_conflict (same_path a.path b.path) (same_record a b) (path_same a.path b.path p) h)

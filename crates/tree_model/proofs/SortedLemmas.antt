@@ -8,10 +8,10 @@ use Rattle.std.proofs.lemmas.List.Sorted.{IsPermutation-sym, length_permutation}
 use Rattle.find_records.specs.Record.{Record}
 use Rattle.tree_model.specs.Numbered.{Numbered, numbered_cmp, numbered_total, numbered_from}
 use Rattle.tree_model.specs.Entries.{doubled}
-use Rattle.tree_model.specs.Runs.{doubled_in}
+use Rattle.tree_model.specs.Doubled.{doubled_in}
 use Rattle.tree_model.proofs.Members.{Has, has_from_contains, contains_from_has}
 use Rattle.tree_model.proofs.NumberedLemmas.{one_each, length_numbered}
-use Rattle.tree_model.proofs.RunLemmas.{Ordered, doubled_in_right, same_elements}
+use Rattle.tree_model.proofs.HeadLemmas.{Ordered, doubled_in_right, same_elements}
 use Rattle.tree_model.proofs.Verdicts.{verdict_moves, verdict_one}
 use Rattle.tree_model.proofs.DoubledLemmas.{doubled_right}
 

@@ -13,7 +13,7 @@ use Rattle.std.proofs.lemmas.Map.Steps.{length-le_from_distinct_below}
 use Rattle.std.proofs.lemmas.List.{get_or_default}
 use Rattle.file_paths.specs.Path.{path_cmp}
 use Rattle.find_records.specs.Record.{Record}
-use Rattle.tree_model.specs.Entries.{conflict, doubled, entries_of, tree_of, unless_doubled}
+use Rattle.tree_model.specs.Entries.{contradicts, doubled, entries_of, tree_of, unless_doubled}
 use Rattle.tree_model.specs.Entries.{same_path}
 use Rattle.tree_model.specs.Numbered.{numbered_from}
 use Rattle.find_records.specs.Places.{ArePlaces, no_record, records_at}
@@ -23,7 +23,7 @@ use Rattle.tree_model.proofs.SameLemmas.{conflict_at, conflict_itself, path_exac
 use Rattle.tree_model.proofs.NumberedLemmas.{in_item, one_each}
 use Rattle.tree_model.proofs.DoubledLemmas.{calm_from, doubled_right}
 use Rattle.tree_model.proofs.Verdicts.{Peace, verdict_one}
-use Rattle.tree_model.proofs.RunLemmas.{path_total}
+use Rattle.tree_model.proofs.HeadLemmas.{path_total}
 use Rattle.tree_model.proofs.EntryLemmas.{Rising, not_less_itself, rising_one, entries_rising}
 use Rattle.tree_model.proofs.EntryLemmas.{from_entries, to_entries}
 use Rattle.tree_model.specs.Extents.{entry_at}
@@ -168,7 +168,7 @@ module _ (records : List Record) where
     ]
 
     calm_by : (v : Bool) (a b : Record) → same_path a.path b.path ≡ v → Has records a
-        → Has records b → conflict a b ≡ false
+        → Has records b → contradicts a b ≡ false
     calm_by true a b e ha hb =
         let same = rising_same (records_at records ps) a b (goes_rising ps up) (entry_has a ha)
         (entry_has b hb) (path_exact a.path b.path e) in

@@ -3,7 +3,7 @@ use Rattle.std.proofs.Common.{◌≡◌, ◌∙◌, ap, sym, refl, ℕ, ◌≤�
 use Rattle.std.specs.Prelude.{Option, Some, None}
 use Rattle.std.proofs.lemmas.Bool.{true≢false}
 use Rattle.tree_model.specs.Numbered.{Numbered}
-use Rattle.tree_model.specs.Entries.{conflict}
+use Rattle.tree_model.specs.Entries.{contradicts}
 use Rattle.tree_model.proofs.Members.{Has}
 use Rattle.tree_model.proofs.SameLemmas.{conflict_at, conflict_path}
 
@@ -17,13 +17,13 @@ pub record IsDoubled (all : List Numbered) (first second : ℕ) : Type 0 where
   pub head_is : head.number ≡ first
   pub other_is : other.number ≡ second
   pub upto : first ≤ second
-  pub clashes : conflict head.item other.item ≡ true
-  pub least : (a b : Numbered) (n : ℕ) → Has all a → Has all b → conflict a.item b.item ≡ true
+  pub clashes : contradicts head.item other.item ≡ true
+  pub least : (a b : Numbered) (n : ℕ) → Has all a → Has all b → contradicts a.item b.item ≡ true
       → a.number ≤ n → b.number ≤ n → second ≤ n
   pub lowest : (a : Numbered) → Has all a → a.item.path ≡ other.item.path → first ≤ a.number
 
 abbrev pub Peace : List Numbered → Type 0
-Peace all = (a b : Numbered) → Has all a → Has all b → conflict a.item b.item ≡ false
+Peace all = (a b : Numbered) → Has all a → Has all b → contradicts a.item b.item ≡ false
 
 abbrev pub Verdict : List Numbered → Option (ℕ × ℕ) → Type 0
 Verdict all None = Peace all

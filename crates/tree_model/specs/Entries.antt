@@ -26,8 +26,8 @@ same_record a b =
     && same_links a.links b.links && same_label a.label b.label && same_path a.path b.path
 
 -- one path, and another kind, device, inode, link count or label
-abbrev pub conflict : Record → Record → Bool
-conflict a b = same_path a.path b.path && not (same_record a b)
+abbrev pub contradicts : Record → Record → Bool
+contradicts a b = same_path a.path b.path && not (same_record a b)
 
 -- the number of the first record with the path, where the records are numbered from n
 abbrev pub first_from : ℕ → Path → List Record → ℕ
@@ -39,7 +39,7 @@ first_from n path (r ∷ rs) = if same_path r.path path then n else first_from (
 abbrev pub doubled_after : List Record → List Record → Option (ℕ × ℕ)
 doubled_after earlier [] = None
 doubled_after earlier (r ∷ rs) =
-    if list_any (conflict r) earlier then Some (first_from 1 r.path earlier, length earlier + 1)
+    if list_any (contradicts r) earlier then Some (first_from 1 r.path earlier, length earlier + 1)
     else doubled_after (earlier ++ r ∷ []) rs
 
 unfoldable pub doubled : List Record → Option (ℕ × ℕ)

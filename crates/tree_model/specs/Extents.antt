@@ -51,13 +51,13 @@ pub record EndsFrom (first : ℕ) (entries : List Record) (ends : List ℕ) : Ty
   pub each : (e : ℕ) → first ≤ e → e < length entries → get_or ends e 0 ≡ extent_of entries e
 
 -- the parent that a word tells
-abbrev pub parent_told : ℕ → Option ℕ
-parent_told word = if word == NO_PARENT then None else Some word
+abbrev pub parent_read : ℕ → Option ℕ
+parent_read word = if word == NO_PARENT then None else Some word
 
 -- a word for each entry before the last one, which tells its parent
 pub record ParentsTo (last : ℕ) (entries : List Record) (parents : List ℕ) : Type 0 where
   pub count : length parents ≡ last
-  pub each : (e : ℕ) → e < last → parent_told (get_or parents e 0) ≡ parent_of entries e
+  pub each : (e : ℕ) → e < last → parent_read (get_or parents e 0) ≡ parent_of entries e
 
 -- the index before
 abbrev pub before : ℕ → Option ℕ

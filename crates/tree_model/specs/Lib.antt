@@ -1,7 +1,7 @@
 pub mod Counted
 pub mod Entries
 pub mod Numbered
-pub mod Runs
+pub mod Doubled
 pub mod Tree
 pub mod Laws
 pub mod Links
@@ -12,7 +12,7 @@ pub mod Up
 pub mod Groups
 pub mod GroupLists
 pub mod Firsts
-pub mod RunLists
+pub mod ExtentEnds
 pub mod Kept
 pub mod Selection
 pub mod Jobs

@@ -2,7 +2,7 @@
 use Rattle.std.specs.Prelude.{◌≡◌, ℕ, suc, ◌-◌, ◌<◌, ◌≤◌, ◌==◌, ◌&&◌, ◌||◌, Bool, true, false, not}
 use Rattle.std.specs.Prelude.{List, [], ◌∷◌, ◌++◌, length, replicate, get_or}
 use Rattle.label_base.specs.Bounded.{all_below, implies}
-use Rattle.tree_model.specs.RunLists.{in_run}
+use Rattle.tree_model.specs.ExtentEnds.{within_extent}
 
 -- the flags from one place up to another are this one, and the others stay
 pub record IsFilled (from to : ℕ) (flag : Bool) (old new : List Bool) : Type 0 where
@@ -22,17 +22,18 @@ pub record IsCleared (passes : ℕ → Bool) (old new : List Bool) : Type 0 wher
   pub clears : (e : ℕ) → e < length old
       → get_or new e false ≡ (get_or old e false && not (passes e))
 
--- every entry from o down to e has what f gives for o, among entries in runs
+-- every entry from o down to e has what f gives for o, among entries in extents
 abbrev pub stays_in : List ℕ → (ℕ → ℕ) → ℕ → ℕ → Bool
 stays_in ends f o e =
-    all_below (length ends) (λ a. implies (in_run ends o a && in_run ends a e) (f a == f o))
+    all_below (length ends) (λ a. implies (within_extent ends o a && within_extent ends a e)
+    (f a == f o))
 
--- the flags before c of the entries from o down that stay with o are set, and no entry whose run
+-- the flags before c of the entries from o down that stay with o are set, and no entry whose extent
 -- has c leaves o
 pub record IsMarkedTo (ends : List ℕ) (f : ℕ → ℕ) (o c : ℕ) (old new : List Bool) : Type 0 where
   pub sized : length new ≡ length old
   pub before : (e : ℕ) → e < c → e < length old
-      → get_or new e false ≡ (get_or old e false || (in_run ends o e && stays_in ends f o e))
+      → get_or new e false ≡ (get_or old e false || (within_extent ends o e && stays_in ends f o e))
   pub behind : (e : ℕ) → c ≤ e → e < length old → get_or new e false ≡ get_or old e false
   pub clear : (a : ℕ) → o ≤ a → a < c → c < get_or ends a 0 → f a ≡ f o
 

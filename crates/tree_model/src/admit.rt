@@ -1,7 +1,7 @@
 ghost use Rattle.std.specs.Prelude.{◌≡◌, ◌==◌, ◌&&◌, ◌<◌, ◌≤◌, List, Bool, length, get_or};
 ghost use Rattle.tree_model.specs.Extents.{EndsFrom, entry_at};
 ghost use Rattle.tree_model.specs.LiveLists.{AreMarkedLive, IsMarkedTo, stays_in};
-ghost use Rattle.tree_model.specs.RunLists.{AreEnds, in_run};
+ghost use Rattle.tree_model.specs.ExtentEnds.{AreEnds, within_extent};
 ghost use Rattle.tree_model.specs.Selection.{admits};
 ghost use Rattle.tree_model.specs.Tree.{ByPath};
 
@@ -19,8 +19,8 @@ fn is_same_device(sorted: &Sorted, a: u32, b: u32) -> bool
     sorted.entry(a).device == sorted.entry(b).device
 }
 
-// Marks an entry in the run of o that has o's device, and passes over the run of another one: which
-// entry is next.
+// Marks an entry in the extent of o that has o's device, and passes over the extent of another one:
+// which entry is next.
 fn mark_or_skip(sorted: &Sorted, ends: &[u32], live: &mut Vec<bool>, o: u32, c: u32) -> u32
     requires ends { AreEnds ends.now }
     requires count { length ends.now ≡ length sorted.now }
@@ -50,7 +50,8 @@ fn mark_device(sorted: &Sorted, ends: &[u32], live: &mut Vec<bool>, o: u32)
     requires flags { length live.old.items ≡ length sorted.now }
     requires within { o < length sorted.now }
     ensures { AreMarkedLive
-        (λ e. in_run ends.now o e && stays_in ends.now (λ a. (entry_at sorted.now a).device) o e)
+        (λ e. within_extent ends.now o e && stays_in ends.now (λ a. (entry_at sorted.now a).device)
+        o e)
         live.old.items live.new.items }
 {
     let end = ends[o as usize];
@@ -60,13 +61,13 @@ fn mark_device(sorted: &Sorted, ends: &[u32], live: &mut Vec<bool>, o: u32)
     }
 }
 
-// Marks all entries in the run of o.
+// Marks all entries in the extent of o.
 #[tactic(auto, using(crate::proofs::MarkLemmas::filled_marks))]
-fn mark_run(ends: &[u32], live: &mut Vec<bool>, o: u32)
+fn mark_extent(ends: &[u32], live: &mut Vec<bool>, o: u32)
     requires ends { AreEnds ends.now }
     requires flags { length live.old.items ≡ length ends.now }
     requires within { o < length ends.now }
-    ensures { AreMarkedLive (in_run ends.now o) live.old.items live.new.items }
+    ensures { AreMarkedLive (within_extent ends.now o) live.old.items live.new.items }
 {
     fill(live, o, ends[o as usize], true);
 }
@@ -97,5 +98,5 @@ pub fn mark_operand(sorted: &Sorted, ends: &[u32], live: &mut Vec<bool>, choice:
         mark_device(sorted, ends, live, o);
         return;
     }
-    mark_run(ends, live, o);
+    mark_extent(ends, live, o);
 }

@@ -3,7 +3,7 @@ ghost use Rattle.std.specs.List.{dedup};
 ghost use Rattle.label_base.specs.Answers.{Answers};
 ghost use Rattle.tree_model.specs.Entries.{doubled, entries_of, tree_of};
 ghost use Rattle.tree_model.specs.Numbered.{numbered_record, numbered_from, place_of};
-ghost use Rattle.tree_model.specs.Runs.{same_place, noted, doubled_in};
+ghost use Rattle.tree_model.specs.Doubled.{same_place, doubled_with, doubled_in};
 ghost use Rattle.find_records.specs.Places.{ArePlaces, records_at};
 ghost use Rattle.tree_model.specs.Tree.{tree_cause};
 ghost use Rattle.tree_model.specs.Up.{goes_up, is_next, steps_up};
@@ -42,7 +42,7 @@ fn number_all(alloc: Global, records: &Records) -> Result<Vec<Numbered<'_>>, Out
 
 // The numbers with the least second one, after one more record of the path of the head.
 fn note(head: &Numbered<'_>, x: &Numbered<'_>, best: Option<Numbers>) -> Option<Numbers>
-    ensures { result ≡ noted head.now x.now best }
+    ensures { result ≡ doubled_with head.now x.now best }
 {
     if is_same_record(&head.entry(), &x.entry()) {
         return best;
@@ -62,7 +62,7 @@ fn place_of(numbered: &Numbered<'_>) -> u32
 
 // Takes the place of the first record of each path, and notes the doubled records, among records
 // that stand in order.
-#[tactic(auto, unfolding(crate::specs::Runs::doubled_in))]
+#[tactic(auto, unfolding(crate::specs::Doubled::doubled_in))]
 fn first_of_each(alloc: Global, sorted: &[Numbered<'_>]) -> Result<Firsts, OutOfMemory>
     ensures places { IfOk result (λ firsts.
         firsts.places.items ≡ map place_of (dedup same_place sorted.now)) }
@@ -90,7 +90,7 @@ fn first_of_each(alloc: Global, sorted: &[Numbered<'_>]) -> Result<Firsts, OutOf
 }
 
 // The records with their numbers, in order.
-#[tactic(auto, using(crate::proofs::SortedLemmas::doubled_is, crate::proofs::EntryLemmas::entries_are, crate::proofs::SortedLemmas::count_is, crate::proofs::PassLemmas::few_firsts, crate::proofs::PlaceLemmas::places_are, crate::proofs::PlaceLemmas::places_within))]
+#[tactic(auto, using(crate::proofs::SortedLemmas::doubled_is, crate::proofs::EntryLemmas::entries_are, crate::proofs::SortedLemmas::count_is, crate::proofs::DoubledSoFar::few_firsts, crate::proofs::PlaceLemmas::places_are, crate::proofs::PlaceLemmas::places_within))]
 fn sort_records(alloc: Global, records: &Records) -> Result<Vec<Numbered<'_>>, OutOfMemory>
     requires { length records.now < 2 ^ 32 }
     ensures doubled { IfOk result (λ sorted. doubled_in sorted.items ≡ doubled records.now) }

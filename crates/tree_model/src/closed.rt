@@ -1,19 +1,20 @@
 ghost use Rattle.std.specs.Prelude.{◌≡◌, ◌+◌, ◌<◌, ◌^◌, ◌&&◌, nat_le, nat_lt, false, length};
 ghost use Rattle.std.specs.Prelude.{get_or, IfOk};
 ghost use Rattle.tree_model.specs.GroupLists.{AreGroups, AreGroupHeads};
-ghost use Rattle.tree_model.specs.RunLists.{AreClosed, AreEnds, AreHigh, AreLasts, AreLow};
-ghost use Rattle.tree_model.specs.RunLists.{AreGroupRuns, IsGreatestIn, IsLeastIn, name_after};
-ghost use Rattle.tree_model.specs.RunLists.{last_name};
+ghost use Rattle.tree_model.specs.ExtentEnds.{AreClosed, AreEnds, AreHigh, AreLasts, AreLow};
+ghost use Rattle.tree_model.specs.ExtentEnds.{AreGroupExtents, IsGreatestIn, IsLeastIn};
+ghost use Rattle.tree_model.specs.ExtentEnds.{first_of_group};
+ghost use Rattle.tree_model.specs.ExtentEnds.{last_name};
 
 use label_base::OutOfMemory;
 use std::alloc::Global;
 
-// Groups in runs of entries.
+// Groups in extents of entries.
 #[derive(Clone, Copy)]
-struct Runs<'a> {
+struct GroupExtents<'a> {
     // The group of each entry.
     groups: &'a [u32],
-    // The place behind the run of each entry.
+    // The place behind the extent of each entry.
     ends: &'a [u32],
     // The first and the last entry of each group.
     first: &'a [u32],
@@ -47,89 +48,93 @@ fn last_names(alloc: Global, groups: &[u32], count: u32) -> Result<Vec<u32>, Out
     Ok(last)
 }
 
-// The least first entry of the groups in the run of an entry.
-fn least_in(runs: &Runs<'_>, low: &[u32], e: u32) -> u32
-    requires runs { AreGroupRuns runs.now.groups.now runs.now.ends.now
-        runs.now.first.now runs.now.last.now }
-    requires within { e < length runs.now.groups.now }
-    requires low { AreLow runs.now.groups.now runs.now.ends.now (e + 1) low.now }
-    ensures { IsLeastIn (name_after runs.now.groups.now) e (get_or runs.now.ends.now e 0) result }
+// The least first entry of the groups in the extent of an entry.
+fn least_in(extents: &GroupExtents<'_>, low: &[u32], e: u32) -> u32
+    requires extents { AreGroupExtents extents.now.groups.now extents.now.ends.now
+        extents.now.first.now extents.now.last.now }
+    requires within { e < length extents.now.groups.now }
+    requires low { AreLow extents.now.groups.now extents.now.ends.now (e + 1) low.now }
+    ensures { IsLeastIn (first_of_group extents.now.groups.now) e (get_or extents.now.ends.now e 0)
+        result }
 {
-    let end = runs.ends[e as usize];
-    let mut least = runs.first[runs.groups[e as usize] as usize];
+    let end = extents.ends[e as usize];
+    let mut least = extents.first[extents.groups[e as usize] as usize];
     let mut c = e + 1;
-    'runs: while c < end {
+    'extents: while c < end {
         least = least.min(low[c as usize]);
-        c = runs.ends[c as usize];
+        c = extents.ends[c as usize];
     }
     least
 }
 
-// The greatest last entry of the groups in the run of an entry.
-fn greatest_in(runs: &Runs<'_>, high: &[u32], e: u32) -> u32
-    requires runs { AreGroupRuns runs.now.groups.now runs.now.ends.now
-        runs.now.first.now runs.now.last.now }
-    requires within { e < length runs.now.groups.now }
-    requires high { AreHigh runs.now.groups.now runs.now.ends.now (e + 1) high.now }
-    ensures { IsGreatestIn (last_name runs.now.groups.now) e (get_or runs.now.ends.now e 0) result }
+// The greatest last entry of the groups in the extent of an entry.
+fn greatest_in(extents: &GroupExtents<'_>, high: &[u32], e: u32) -> u32
+    requires extents { AreGroupExtents extents.now.groups.now extents.now.ends.now
+        extents.now.first.now extents.now.last.now }
+    requires within { e < length extents.now.groups.now }
+    requires high { AreHigh extents.now.groups.now extents.now.ends.now (e + 1) high.now }
+    ensures { IsGreatestIn (last_name extents.now.groups.now) e (get_or extents.now.ends.now e 0)
+        result }
 {
-    let end = runs.ends[e as usize];
-    let mut greatest = runs.last[runs.groups[e as usize] as usize];
+    let end = extents.ends[e as usize];
+    let mut greatest = extents.last[extents.groups[e as usize] as usize];
     let mut c = e + 1;
-    'runs: while c < end {
+    'extents: while c < end {
         greatest = greatest.max(high[c as usize]);
-        c = runs.ends[c as usize];
+        c = extents.ends[c as usize];
     }
     greatest
 }
 
-// Whether what goes from the least to the greatest entry is within a run.
+// Whether what goes from the least to the greatest entry is within an extent.
 fn is_inside(e: u32, end: u32, least: u32, greatest: u32) -> bool
     ensures { result ≡ (nat_le e least && nat_lt greatest end) }
 {
     e <= least && greatest < end
 }
 
-// Which runs were passed, from the last one on.
+// Which extents were closed, from the last one on.
 #[derive(Drop)]
-struct Passed {
+struct ClosedSoFar {
     low: Vec<u32>,
     high: Vec<u32>,
     closed: Vec<bool>,
 }
 
-// Passes the run of an entry.
+// Closes the extent of an entry.
 #[tactic(auto, using(crate::proofs::ClosedLemmas::low_put, crate::proofs::ClosedLemmas::high_put))]
-fn pass_run(runs: &Runs<'_>, passed: &mut Passed, e: u32)
-    requires runs { AreGroupRuns runs.now.groups.now runs.now.ends.now
-        runs.now.first.now runs.now.last.now }
-    requires within { e < length runs.now.groups.now }
-    requires low { AreLow runs.now.groups.now runs.now.ends.now (e + 1) passed.old.low.items }
-    requires high { AreHigh runs.now.groups.now runs.now.ends.now (e + 1) passed.old.high.items }
-    requires closed { AreClosed runs.now.groups.now runs.now.ends.now (e + 1)
-        passed.old.closed.items }
-    ensures low { AreLow runs.now.groups.now runs.now.ends.now e passed.new.low.items }
-    ensures high { AreHigh runs.now.groups.now runs.now.ends.now e passed.new.high.items }
-    ensures closed { AreClosed runs.now.groups.now runs.now.ends.now e passed.new.closed.items }
+fn close_extent(extents: &GroupExtents<'_>, so_far: &mut ClosedSoFar, e: u32)
+    requires extents { AreGroupExtents extents.now.groups.now extents.now.ends.now
+        extents.now.first.now extents.now.last.now }
+    requires within { e < length extents.now.groups.now }
+    requires low { AreLow extents.now.groups.now extents.now.ends.now (e + 1) so_far.old.low.items }
+    requires high { AreHigh extents.now.groups.now extents.now.ends.now (e + 1)
+        so_far.old.high.items }
+    requires closed { AreClosed extents.now.groups.now extents.now.ends.now (e + 1)
+        so_far.old.closed.items }
+    ensures low { AreLow extents.now.groups.now extents.now.ends.now e so_far.new.low.items }
+    ensures high { AreHigh extents.now.groups.now extents.now.ends.now e so_far.new.high.items }
+    ensures closed { AreClosed extents.now.groups.now extents.now.ends.now e
+        so_far.new.closed.items }
 {
-    let least = least_in(runs, passed.low.as_slice(), e);
-    let greatest = greatest_in(runs, passed.high.as_slice(), e);
-    let flag = is_inside(e, runs.ends[e as usize], least, greatest);
-    passed.low[e as usize] = least;
-    passed.high[e as usize] = greatest;
-    passed.closed[e as usize] = flag;
+    let least = least_in(extents, so_far.low.as_slice(), e);
+    let greatest = greatest_in(extents, so_far.high.as_slice(), e);
+    let flag = is_inside(e, extents.ends[e as usize], least, greatest);
+    so_far.low[e as usize] = least;
+    so_far.high[e as usize] = greatest;
+    so_far.closed[e as usize] = flag;
 }
 
-// Which runs have all entries of the groups in them.
+// Which extents have all entries of the groups in them.
 #[tactic(auto, using(crate::proofs::ClosedLemmas::low_none, crate::proofs::ClosedLemmas::high_none, crate::proofs::ClosedLemmas::closed_none))]
-fn closed_runs(alloc: Global, runs: &Runs<'_>) -> Result<Vec<bool>, OutOfMemory>
-    requires { AreGroupRuns runs.now.groups.now runs.now.ends.now
-        runs.now.first.now runs.now.last.now }
+fn closed_extents(alloc: Global, extents: &GroupExtents<'_>) -> Result<Vec<bool>, OutOfMemory>
+    requires { AreGroupExtents extents.now.groups.now extents.now.ends.now
+        extents.now.first.now extents.now.last.now }
     ensures { IfOk result (λ closed.
-        AreClosed runs.now.groups.now runs.now.ends.now 0 closed.items) }
+        AreClosed extents.now.groups.now extents.now.ends.now 0 closed.items) }
 {
-    let count = runs.groups.len();
-    let mut passed = Passed {
+    let count = extents.groups.len();
+    let mut so_far = ClosedSoFar {
         low: vec![in alloc; 0u32; count]?,
         high: vec![in alloc; 0u32; count]?,
         closed: vec![in alloc; false; count]?,
@@ -137,12 +142,12 @@ fn closed_runs(alloc: Global, runs: &Runs<'_>) -> Result<Vec<bool>, OutOfMemory>
     let mut place = count as u32;
     'entries: while place > 0 {
         place -= 1;
-        pass_run(runs, &mut passed, place);
+        close_extent(extents, &mut so_far, place);
     }
-    Ok(passed.closed)
+    Ok(so_far.closed)
 }
 
-// The same, with the runs as slices.
+// The same, with the extents as slices.
 fn closed_in(
     alloc: Global,
     groups: &[u32],
@@ -150,19 +155,19 @@ fn closed_in(
     first: &[u32],
     last: &[u32],
 ) -> Result<Vec<bool>, OutOfMemory>
-    requires { AreGroupRuns groups.now ends.now first.now last.now }
+    requires { AreGroupExtents groups.now ends.now first.now last.now }
     ensures { IfOk result (λ closed. AreClosed groups.now ends.now 0 closed.items) }
 {
-    let runs = Runs {
+    let extents = GroupExtents {
         groups,
         ends,
         first,
         last,
     };
-    closed_runs(alloc, &runs)
+    closed_extents(alloc, &extents)
 }
 
-/// For each run whether all entries of its groups are in it, by the first entry of each group.
+/// For each extent whether all entries of its groups are in it, by the first entry of each group.
 pub fn closed_by(
     alloc: Global,
     groups: &[u32],

@@ -28,7 +28,7 @@ pub fn clear_below(sorted: &Sorted, ends: &[u32], live: &mut Vec<bool>, path: &P
 {
     let first = sorted.first_from(path);
     let mut c = first;
-    'runs: while is_below(sorted, c, path) {
+    'extents: while is_below(sorted, c, path) {
         let end = ends[c as usize];
         fill(live, c, end, false);
         c = end;

@@ -1,6 +1,6 @@
 ghost use Rattle.std.specs.Prelude.{◌≡◌, ◌<◌, ◌+◌, ◌^◌, IfOk, IfSome, get_or, length};
 ghost use Rattle.tree_model.specs.Extents.{EndsFrom, ParentsTo, before, extent_of, is_above};
-ghost use Rattle.tree_model.specs.Extents.{is_inside, parent_of, parent_told};
+ghost use Rattle.tree_model.specs.Extents.{is_inside, parent_of, parent_read};
 ghost use Rattle.tree_model.specs.Tree.{ByPath};
 
 use crate::sorted::Sorted;
@@ -19,8 +19,8 @@ pub fn word_at(words: &[u32], i: u32) -> u32
 }
 
 /// The parent that a word tells.
-pub fn parent_told(word: u32) -> Option<u32>
-    ensures { result ≡ parent_told word }
+pub fn parent_read(word: u32) -> Option<u32>
+    ensures { result ≡ parent_read word }
 {
     if word == NO_PARENT { None } else { Some(word) }
 }
@@ -28,7 +28,7 @@ pub fn parent_told(word: u32) -> Option<u32>
 // The word that tells a parent.
 fn word_of(parent: Option<u32>) -> u32
     requires { IfSome parent (λ d. d < NO_PARENT) }
-    ensures { parent_told result ≡ parent }
+    ensures { parent_read result ≡ parent }
 {
     match parent {
         Some(d) => d,
@@ -105,7 +105,7 @@ fn parent_at(sorted: &Sorted, ends: &[u32], parents: &[u32], e: u32) -> Option<u
         if is_above(sorted, ends, e, d) {
             return Some(d);
         }
-        above = parent_told(word_at(parents, d));
+        above = parent_read(word_at(parents, d));
     }
     None
 }

@@ -2,7 +2,7 @@ ghost use Rattle.std.specs.Cmp.{eq_by_cmp_equiv, partial_equiv_from_equiv, po};
 ghost use Rattle.std.specs.Ordering.{as_partial_cmp, eq_by_cmp};
 ghost use Rattle.std.specs.Prelude.{◌≡◌, ◌<◌, ◌≤◌, length, refl};
 ghost use Rattle.tree_model.specs.Numbered.{numbered_cmp, numbered_total};
-ghost use Rattle.tree_model.specs.Runs.{same_place};
+ghost use Rattle.tree_model.specs.Doubled.{same_place};
 ghost use Rattle.find_records.specs.Entry.{entry_of};
 ghost use Rattle.tree_model.specs.Known.{with_number};
 

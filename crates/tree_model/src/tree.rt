@@ -262,7 +262,14 @@ impl Tree {
         ensures valid { IfOk result (λ shape. IsValid shape) }
     {
         let parents = all_parents(alloc, &self.sorted, self.ends.as_slice())?;
-        shape_in(alloc, &self.sorted, parents.as_slice(), &self.groups)
+        let directories = self.directories.as_slice();
+        shape_in(
+            alloc,
+            &self.sorted,
+            parents.as_slice(),
+            directories,
+            &self.groups,
+        )
     }
 
     /// Whether an entry is a directory.

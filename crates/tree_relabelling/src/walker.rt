@@ -6,7 +6,7 @@ ghost use Rattle.relabel_core.specs.Changes.{changes};
 ghost use Rattle.relabel_core.specs.Walk.{messages};
 ghost use Rattle.relabel_core.specs.Walked.{IsFit, walk_of};
 
-use label_base::{Bytes, OutOfMemory, Steps};
+use label_base::{OutOfMemory, PiecedText, Steps};
 use relabel_core::{WalkInput, Walked, walk};
 use std::alloc::Global;
 use std::marker::Brand;
@@ -26,12 +26,12 @@ pub trait Walker {
         ensures { IfOk result (λ walked. walk_in walked ≡ walk_of input.now) };
 
     /// The report of a walk.
-    fn report(&self, alloc: Global, walked: &Walked<'_>) -> Result<Bytes, OutOfMemory>
+    fn report(&self, alloc: Global, walked: &Walked<'_>) -> Result<PiecedText, OutOfMemory>
         requires { IsReady self.now }
         ensures { IfOk result (λ report. report ≡ report_of (messages (walk_in walked.now))) };
 
     /// The dump of a walk.
-    fn dump(&self, alloc: Global, walked: &Walked<'_>) -> Result<Bytes, OutOfMemory>
+    fn dump(&self, alloc: Global, walked: &Walked<'_>) -> Result<PiecedText, OutOfMemory>
         requires { IsReady self.now }
         ensures { IfOk result (λ dump. dump ≡ dump_text (changes (walk_in walked.now))) };
 }
@@ -63,15 +63,15 @@ impl Walker for OneWorker {
         walk_by::<Brand>(alloc, input, Blank::new(1))
     }
 
-    fn report(&self, alloc: Global, walked: &Walked<'_>) -> Result<Bytes, OutOfMemory> {
+    fn report(&self, alloc: Global, walked: &Walked<'_>) -> Result<PiecedText, OutOfMemory> {
         let mut report = text_for(alloc, walked.len());
         walked.add_report(alloc, &mut report)?;
-        Ok(report)
+        PiecedText::of(alloc, report)
     }
 
-    fn dump(&self, alloc: Global, walked: &Walked<'_>) -> Result<Bytes, OutOfMemory> {
+    fn dump(&self, alloc: Global, walked: &Walked<'_>) -> Result<PiecedText, OutOfMemory> {
         let mut dump = text_for(alloc, walked.len());
         walked.add_dump(alloc, &mut dump)?;
-        Ok(dump)
+        PiecedText::of(alloc, dump)
     }
 }

@@ -1,5 +1,5 @@
 use Rattle.std.proofs.Common.{rules}
-use Rattle.dir_digest.specs.Terms.{IsReadSpec}
+use Rattle.dir_digest.specs.Basis.{IsReadSpec}
 use Rattle.dir_digest.proofs.ReadLemmas.{each_next}
 use Rattle.dir_digest.proofs.SpelledLemmas.{map_next}
 use Rattle.dir_digest.proofs.listings.specs_of.Goals as goal

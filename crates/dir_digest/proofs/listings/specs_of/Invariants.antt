@@ -1,7 +1,7 @@
 use Rattle.std.proofs.Common.{◌≡◌, drop, map, take}
 use Rattle.std.specs.List.{AllByRecursion}
 use Rattle.dir_digest.specs.Spelled.{spec_bytes}
-use Rattle.dir_digest.specs.Terms.{IsReadSpec}
+use Rattle.dir_digest.specs.Basis.{IsReadSpec}
 use Rattle.dir_digest.proofs.listings.specs_of.Given as goal
 
 abbrev pub invariant-specs : goal.invariant-specs

@@ -1,6 +1,6 @@
 use Rattle.std.proofs.Common.{◌∙◌}
 use Rattle.relabel_core.specs.Walked.{walk_of}
-use Rattle.relabel_core.proofs.PassedLemmas.{met_is}
+use Rattle.relabel_core.proofs.SweptLemmas.{met_is}
 use Rattle.relabel_core.proofs.finding.find_directory.Goals as goal
 
 pub returns-clause-skippable : goal.returns-clause-skippable

@@ -1,7 +1,7 @@
 use Rattle.std.proofs.Common.{◌∙◌, sym}
 use Rattle.relabel_core.specs.Walked.{walk_of}
-use Rattle.relabel_core.proofs.PassedLemmas.{none_renewed_if_dry, none_renewed_if_skipped}
-use Rattle.relabel_core.proofs.PassedLemmas.{renewed_as_found}
+use Rattle.relabel_core.proofs.SweptLemmas.{none_renewed_if_dry, none_renewed_if_skipped}
+use Rattle.relabel_core.proofs.SweptLemmas.{renewed_as_found}
 use Rattle.relabel_core.proofs.finding.renewed_digest.Goals as goal
 
 pub returns-then-skipped : goal.returns-then-skipped

@@ -1,6 +1,6 @@
 use Rattle.std.proofs.Common.{◌∙◌, ap, sym, if◌then◌else◌, ◌==◌}
 use Rattle.relabel_core.specs.Stored.{digests_in}
-use Rattle.relabel_core.proofs.PassedLemmas.{nothing_added}
+use Rattle.relabel_core.proofs.SweptLemmas.{nothing_added}
 use Rattle.relabel_core.proofs.stored.keep_given.Goals as goal
 
 pub returns-in-None : goal.returns-in-None

@@ -3,7 +3,7 @@ use std.Path.{fun_ext}
 use Rattle.std.proofs.lemmas.Bool.{cases_lt}
 use Rattle.std.proofs.lemmas.List.{get_or_default, get_or_past}
 use Rattle.relabel_core.specs.Stored.{digests_listed}
-use Rattle.relabel_core.proofs.PassedLemmas.{before_is, before_none, kept_more}
+use Rattle.relabel_core.proofs.SweptLemmas.{before_is, before_none, kept_more}
 use Rattle.relabel_core.proofs.StoredLemmas.{empty_keeps_none}
 use Rattle.relabel_core.proofs.stored.keep_listed.Goals as goal
 

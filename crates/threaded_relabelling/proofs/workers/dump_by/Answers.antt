@@ -8,5 +8,5 @@ pub returns : goal.returns
 returns g c =
     c.in_ok-dump.ensures
     ∙ ap (λ t. t ++ dump_text (changes (walk_before c.in_ok-digests.digests)))
-    c.text_for-room.ensures
+    (c.in_ok-empty.ensures ∙ c.new.ensures)
     ∙ ap (λ w. dump_text (changes w)) c.in_ok-digests.ensures

@@ -1,5 +1,5 @@
 use Rattle.std.proofs.Common.{◌∙◌, ◌++◌, ◌∷◌, [], ap, sym}
-use Rattle.tree_model.proofs.PassLemmas.{again, other}
+use Rattle.tree_model.proofs.DoubledSoFar.{again, other}
 use Rattle.tree_model.proofs.building.first_of_each.Goals as goal
 use Rattle.tree_model.proofs.building.first_of_each.Goals.{then-is_same_place}
 use Rattle.tree_model.proofs.building.first_of_each.Goals.{else-is_same_place+in_ok-push}

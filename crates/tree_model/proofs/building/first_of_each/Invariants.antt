@@ -1,5 +1,5 @@
 use Rattle.std.proofs.Common.{drop}
-use Rattle.tree_model.proofs.PassLemmas.{Passing}
+use Rattle.tree_model.proofs.DoubledSoFar.{Passing}
 use Rattle.tree_model.proofs.building.first_of_each.Given as goal
 
 abbrev pub invariant-records : goal.invariant-records

@@ -1,5 +1,5 @@
 use Rattle.std.proofs.Common.{◌≡◌, length}
-use Rattle.tree_model.specs.RunLists.{AreLasts}
+use Rattle.tree_model.specs.ExtentEnds.{AreLasts}
 use Rattle.tree_model.proofs.closed.last_names.Given as goal
 
 abbrev pub invariant-entries : goal.invariant-entries

@@ -1,13 +1,13 @@
 use Rattle.std.proofs.Common.{◌-◌, ◌<◌, ◌≤◌}
-use Rattle.tree_model.specs.RunLists.{IsLeastIn, name_after}
+use Rattle.tree_model.specs.ExtentEnds.{IsLeastIn, first_of_group}
 use Rattle.tree_model.proofs.closed.least_in.Given as goal
 
-abbrev pub invariant-runs : goal.invariant-runs
-invariant-runs l = record {
+abbrev pub invariant-extents : goal.invariant-extents
+invariant-extents l = record {
   behind : l.e < l.c;
   upto : l.c ≤ l.end;
-  least : IsLeastIn (name_after l.runs.groups.now) l.e l.c l.least;
+  least : IsLeastIn (first_of_group l.extents.groups.now) l.e l.c l.least;
 }
 
-abbrev pub decreases-runs : goal.decreases-runs
-decreases-runs l = l.end - l.c
+abbrev pub decreases-extents : goal.decreases-extents
+decreases-extents l = l.end - l.c

@@ -5,13 +5,13 @@ use Rattle.tree_model.specs.Extents.{entry_at}
 use Rattle.tree_model.specs.LiveLists.{IsClearedTo}
 use Rattle.tree_model.proofs.exclude.clear_below.Given as goal
 
-abbrev pub invariant-runs : goal.invariant-runs
-invariant-runs l = record {
+abbrev pub invariant-extents : goal.invariant-extents
+invariant-extents l = record {
   from : l.first ≤ l.c;
   flags : length l.live.items ≡ length l.fn.live.items;
   cleared : IsClearedTo (λ e. at_or_below (entry_at l.sorted e).path (path_of l.path)) l.c
       l.fn.live.items l.live.items;
 }
 
-abbrev pub decreases-runs : goal.decreases-runs
-decreases-runs l = length l.sorted - l.c
+abbrev pub decreases-extents : goal.decreases-extents
+decreases-extents l = length l.sorted - l.c

@@ -1,6 +1,6 @@
 use Rattle.std.proofs.Common.{◌≡◌, ◌∙◌, ◌<◌, ap, sym, subst}
 use Rattle.std.specs.Prelude.{Some}
-use Rattle.tree_model.specs.Extents.{one_behind, parent_of, parent_told}
+use Rattle.tree_model.specs.Extents.{one_behind, parent_of, parent_read}
 use Rattle.tree_model.proofs.ParentLemmas.{UpTo, parent_less, upto_first, upto_found, upto_next}
 use Rattle.tree_model.proofs.ParentLemmas.{upto_none}
 use Rattle.tree_model.proofs.extents.parent_at.Goals as goal
@@ -10,12 +10,12 @@ above-init c = subst (UpTo c.args.sorted.now c.args.e) (sym c.before-above.ensur
     (upto_first c.args.sorted.now c.requires.by_path c.args.e)
 
 -- no directory above e stands behind the one that was looked at
-some : (c : goal.After-parent_told-above) → UpTo c.args.sorted.now c.args.e (Some c.in-Some.d)
+some : (c : goal.After-parent_read-above) → UpTo c.args.sorted.now c.args.e (Some c.in-Some.d)
 some c = rw c.in-Some.is at c.above.invariant
 
-next : (c : goal.After-parent_told-above) → c.parent_told-above.result ≡ parent_of c.args.sorted.now
+next : (c : goal.After-parent_read-above) → c.parent_read-above.result ≡ parent_of c.args.sorted.now
     c.in-Some.d
-next c = c.parent_told-above.ensures ∙ ap parent_told c.word_at.ensures
+next c = c.parent_read-above.ensures ∙ ap parent_read c.word_at.ensures
     ∙ c.requires.parents.each c.in-Some.d (some c).0
 
 pub returns-then-is_above-clause-value : goal.returns-then-is_above-clause-value
@@ -25,13 +25,13 @@ returns-then-is_above-clause-value c =
 
 pub above-smaller : goal.above-smaller
 above-smaller c =
-    subst (λ o. one_behind c.parent_told-above.result < one_behind o) (sym c.in-Some.is)
-    (parent_less c.args.sorted.now c.requires.by_path c.in-Some.d c.parent_told-above.result
+    subst (λ o. one_behind c.parent_read-above.result < one_behind o) (sym c.in-Some.is)
+    (parent_less c.args.sorted.now c.requires.by_path c.in-Some.d c.parent_read-above.result
     (next c))
 
 pub above-preserved : goal.above-preserved
 above-preserved c =
-    upto_next c.args.sorted.now c.requires.by_path c.in-Some.d c.args.e c.parent_told-above.result
+    upto_next c.args.sorted.now c.requires.by_path c.in-Some.d c.args.e c.parent_read-above.result
     (some c) c.requires.known (sym c.if-is_above.ensures) (next c)
 
 pub returns-clause-value : goal.returns-clause-value

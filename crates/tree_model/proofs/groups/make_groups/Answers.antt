@@ -1,7 +1,7 @@
 use Rattle.std.proofs.Common.{◌∙◌, ◌+◌, ap, subst, length, arith}
 use Rattle.tree_model.specs.GroupLists.{AreGroupStarts, names_below}
-use Rattle.tree_model.specs.RunLists.{AreClosed}
-use Rattle.tree_model.proofs.ExtentRuns.{ends_runs}
+use Rattle.tree_model.specs.ExtentEnds.{AreClosed}
+use Rattle.tree_model.proofs.ExtentsByEnds.{ends_runs}
 use Rattle.tree_model.proofs.KeptGroups.{groups_held, lists_groups}
 use Rattle.tree_model.proofs.groups.make_groups.Goals as goal
 

@@ -1,9 +1,7 @@
-use Rattle.std.proofs.Common.{◌≡◌, filter, map}
-use Rattle.label_base.specs.Bounded.{all_numbers}
-use Rattle.tree_model.specs.Extents.{is_directory}
+use Rattle.std.proofs.Common.{◌≡◌, map, take}
 use Rattle.tree_model.specs.Jobs.{entry_home}
 use Rattle.tree_model.proofs.jobs.all_parents.Given as goal
 
-abbrev pub invariant-entries : goal.invariant-entries
-invariant-entries l =
-    l.all ≡ map (entry_home l.sorted) (filter (is_directory l.sorted) (all_numbers l.e))
+-- the homes of the directories so far
+abbrev pub invariant-directories : goal.invariant-directories
+invariant-directories l = l.all ≡ map (entry_home l.sorted) (take l.d-index l.directories)

@@ -1,13 +1,13 @@
 use Rattle.std.proofs.Common.{rules, ◌≡◌, ◌∙◌, ◌++◌, subst, OnOk, true, false}
 use Rattle.file_paths.specs.PathRef.{path_of}
 use Rattle.path_subs.specs.Subs.{plain}
-use Rattle.dir_digest.specs.Listings.{terms_in}
+use Rattle.dir_digest.specs.Listings.{basis_in}
 use Rattle.dir_digest.proofs.SpelledLemmas.{all_relevant, found_relevant}
 use Rattle.dir_digest.proofs.listings.Listings.add_relevant.Goals as goal
 
 pub returns-then-not-plain_at-clause-value : goal.returns-then-not-plain_at-clause-value
 returns-then-not-plain_at-clause-value c =
-    let t = terms_in c.args.self.now in
+    let t = basis_in c.args.self.now in
     let dir = path_of c.args.dir.now in
     let split : plain t.first t.second dir ≡ false = search rules in
     subst (λ bytes. OnOk c.add_all.result (c.add_all.new.to ≡ c.args.to.now ++ bytes))
@@ -16,7 +16,7 @@ returns-then-not-plain_at-clause-value c =
 
 pub returns-clause-value : goal.returns-clause-value
 returns-clause-value c =
-    let t = terms_in c.args.self.now in
+    let t = basis_in c.args.self.now in
     let dir = path_of c.args.dir.now in
     let whole : plain t.first t.second dir ≡ true = search rules in
     subst (λ bytes. OnOk c.add_found.result (c.add_found.new.to ≡ c.args.to.now ++ bytes))

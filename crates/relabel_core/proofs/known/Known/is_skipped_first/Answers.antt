@@ -1,6 +1,6 @@
 use Rattle.std.proofs.Common.{◌∙◌}
 use Rattle.relabel_core.specs.Walked.{walk_of}
-use Rattle.relabel_core.proofs.PassedLemmas.{first_is}
+use Rattle.relabel_core.proofs.SweptLemmas.{first_is}
 use Rattle.relabel_core.proofs.known.Known.is_skipped_first.Goals as goal
 
 pub returns : goal.returns

@@ -1,6 +1,6 @@
 use Rattle.std.proofs.Common.{◌∙◌, sym}
 use Rattle.relabel_core.specs.Answer.{walk_in}
-use Rattle.relabel_core.proofs.PassedLemmas.{none_of_file}
+use Rattle.relabel_core.proofs.SweptLemmas.{none_of_file}
 use Rattle.relabel_core.proofs.walked.Walked.renewed.Goals as goal
 
 pub returns-then-not-is_directory : goal.returns-then-not-is_directory

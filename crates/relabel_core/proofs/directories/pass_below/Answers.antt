@@ -1,9 +1,0 @@
-use Rattle.relabel_core.specs.Walked.{walk_of}
-use Rattle.relabel_core.proofs.PassedLemmas.{passing_below}
-use Rattle.relabel_core.proofs.directories.pass_below.Goals as goal
-
-pub returns : goal.returns
-returns c =
-    passing_below (walk_of c.args.input.now) c.requires.fit.by_path c.args.e c.args.end
-    c.args.passed.now.skips.items c.push.new.self.items c.args.passed.now.made
-    c.requires.passed c.requires.entry c.requires.below c.in_ok-push.ensures.items
