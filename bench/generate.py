@@ -1,23 +1,28 @@
 #!/usr/bin/env python3
 """Writes the records of a made tree to standard output. The same words give the same bytes.
 
-    generate.py [--order find|random] [--links] N     N records: paths of 3 to 12 names, a few hundred different contexts
-    generate.py --shape flat N                        one directory of N names
-    generate.py --shape one-inode N                   one inode with N names, in a thousand directories
-    generate.py --shape chain DEPTH FILES             a chain of directories so deep, with so many files in each
+    generate.py [--order find|random] [--links] N   N records: paths of 3 to 12 names, a few hundred
+                                                    different contexts
+    generate.py --shape flat N                      one directory of N names
+    generate.py --shape one-inode N                 one inode with N names, in a thousand
+                                                    directories
+    generate.py --shape chain DEPTH FILES           a chain of directories so deep, with so many
+                                                    files in each
 
-In the order of find(1) a directory comes before what it holds, and what it holds in no order, each subtree whole. With links a
-third of the inodes have two to five names.
+In the order of find(1) a directory comes before what it holds, and what it holds in no order, each
+subtree whole. With links a third of the inodes have two to five names.
 """
 
 import argparse
 import random
 import sys
 
-WORDS = ("usr lib share local include python doc man locale icons fonts modules kernel drivers net media sound "
-         "vendor cache spool mail backups archive projects build release tests data images logs config state run "
-         "system user service socket target mount device session network daemon worker plugin module theme").split()
-TYPES = [f"{word}_{kind}_t" for word in WORDS[:40] for kind in ("conf", "data", "exec", "var", "log", "tmp", "lib", "run")]
+WORDS = ("usr lib share local include python doc man locale icons fonts modules kernel drivers net "
+         "media sound vendor cache spool mail backups archive projects build release tests data "
+         "images logs config state run system user service socket target mount device session "
+         "network daemon worker plugin module theme").split()
+KINDS = ("conf", "data", "exec", "var", "log", "tmp", "lib", "run")
+TYPES = [f"{word}_{kind}_t" for word in WORDS[:40] for kind in KINDS]
 
 
 def context(generator):
@@ -25,7 +30,8 @@ def context(generator):
 
 
 def paths(count, generator):
-    """Each entry's letter, path and the number of its directory, a directory before what it holds."""
+    """Each entry's letter, path and the number of its directory, a directory before what it
+    holds."""
     folders = [(0, "", 0)]
     yield "d", "/", None
     for number in range(1, count):
@@ -85,7 +91,8 @@ def flat(count):
     generator = random.Random(count)
     yield b"d 2049 2 system_u:object_r:root_t:s0 /\0"
     for number in range(3, count + 2):
-        yield f"f 2049 {number} {context(generator)} /{generator.choice(WORDS)}-{number:x}\0".encode()
+        label = context(generator)
+        yield f"f 2049 {number} {label} /{generator.choice(WORDS)}-{number:x}\0".encode()
 
 
 def one_inode(count):

@@ -1,6 +1,6 @@
 #!/usr/bin/env python3
-"""Times genhomedircon: bench/homes.py PROGRAM. Each figure is the least of three runs, in seconds of
-one processor (user and system)."""
+"""Times genhomedircon: bench/homes.py PROGRAM. Each figure is the least of three runs, in seconds
+of one processor (user and system)."""
 
 import os
 import resource
@@ -21,7 +21,8 @@ HOME_DIR/\\.config(/.*)?\tunconfined_u:object_r:xdg_config_t:s0
 CASES = (
     ("Debian's words, eight lines", DEBIAN),
     ("long patterns", "".join(f"HOME_DIR/{'a' * 960}{k}/.*\t{CONTEXT}\n" for k in range(6))),
-    ("long patterns, a set first", "".join(f"/[^/]*/USER/{'a' * 960}{k}/.*\t{CONTEXT}\n" for k in range(6))),
+    ("long patterns, a set first",
+     "".join(f"/[^/]*/USER/{'a' * 960}{k}/.*\t{CONTEXT}\n" for k in range(6))),
     ("long contexts", "".join(f"HOME_DIR/{k}\t{CONTEXT}-{'c' * 960}\n" for k in range(6))),
 )
 
@@ -36,7 +37,8 @@ def processor_seconds(words):
 def main():
     program = os.path.abspath(sys.argv[1])
     with tempfile.TemporaryDirectory() as folder:
-        template, users, homes = (os.path.join(folder, name) for name in ("template", "users", "homes"))
+        names = ("template", "users", "homes")
+        template, users, homes = (os.path.join(folder, name) for name in names)
         with open(users, "w") as file:
             file.writelines(f"u{n} user /home/u{n}\n" for n in range(10_000))
         for name, text in CASES:

@@ -1,13 +1,16 @@
 #!/usr/bin/env python3
 """Measures the program beside sort(1) on the same records, in one run.
 
-    run.py [N]                1,000,000 records, 20 exact specifications, in no order and in the order of find(1); a third of the inodes have
-                              two to five names
-    run.py --realistic [N]    200,000 records in the order of find(1), 5,600 specifications as distributions have them
-    run.py --shapes [N]       one directory of N names, one inode with N names, a chain of 2,000 directories; each also half as large
+    run.py [N]                1,000,000 records, 20 exact specifications, in no order and in the
+                              order of find(1); a third of the inodes have two to five names
+    run.py --realistic [N]    200,000 records in the order of find(1), 5,600 specifications as
+                              distributions have them
+    run.py --shapes [N]       one directory of N names, one inode with N names, a chain of 2,000
+                              directories; each also half as large
 
-Prints the CPU seconds of `LC_ALL=C sort -z --parallel=1` and of the program, the ratio, and the program's greatest memory, in
-the realistic mode also what it takes to read the policy and decide one path. Figures are the least of three runs, taken in turn.
+Prints the CPU seconds of `LC_ALL=C sort -z --parallel=1` and of the program, the ratio, and the
+program's greatest memory, in the realistic mode also what it takes to read the policy and decide
+one path. Figures are the least of three runs, taken in turn.
 """
 
 import argparse
@@ -19,18 +22,19 @@ from pathlib import Path
 
 HERE = Path(__file__).resolve().parent
 PROGRAM = HERE.parent / "crates" / "relabel_program" / "out" / "relabel_program"
-SPECS = "".join(f"/usr/share/exact-{i}.conf\t--\tsystem_u:object_r:exact_{i}_t:s0\n" for i in range(19)) + \
-    "/\t-d\tsystem_u:object_r:root_t:s0\n"
+EXACT = "/usr/share/exact-{0}.conf\t--\tsystem_u:object_r:exact_{0}_t:s0\n"
+SPECS = "".join(EXACT.format(i) for i in range(19)) + "/\t-d\tsystem_u:object_r:root_t:s0\n"
 USAGE = 255
 
-# A child of vfork(2) begins with the greatest memory that this process ever had, and one of fork(2) with what it has now.
+# A child of vfork(2) begins with the greatest memory that this process ever had, and one of fork(2)
+# with what it has now.
 subprocess._USE_VFORK = False
 
 
 def build():
-    """Without words the program answers that its words are wrong; where it isn't built, or is stale,
-    the script before it says so."""
-    quiet = {"stdin": subprocess.DEVNULL, "stdout": subprocess.DEVNULL, "stderr": subprocess.DEVNULL}
+    """Without words the program answers that its words are wrong; where it isn't built, or is
+    stale, the script before it says so."""
+    quiet = dict.fromkeys(("stdin", "stdout", "stderr"), subprocess.DEVNULL)
     if subprocess.run([HERE.parent / "relabel"], **quiet).returncode != USAGE:
         subprocess.run([HERE.parent / "tools" / "build"], check=True)
 
@@ -57,7 +61,8 @@ def measure(records, room):
 
 def generate(words, room):
     with open(room / "records", "wb") as out:
-        subprocess.run([sys.executable, HERE / "generate.py", *map(str, words)], stdout=out, check=True)
+        command = [sys.executable, HERE / "generate.py", *map(str, words)]
+        subprocess.run(command, stdout=out, check=True)
     (room / "fc").write_text(SPECS)
 
 
@@ -67,7 +72,8 @@ def tell(title, room):
     count = records.read_bytes().count(b"\0")
     sort, (whole, memory) = measure(records, room)
     print(f"{title}: {count} records, {size / count:.0f} bytes a record")
-    print(f"    sort {sort:.2f} s, relabel {whole:.2f} s, ratio {whole / sort:.2f}, {memory / size:.2f} bytes of memory a byte of input")
+    print(f"    sort {sort:.2f} s, relabel {whole:.2f} s, ratio {whole / sort:.2f}, "
+          f"{memory / size:.2f} bytes of memory a byte of input")
     return whole, count
 
 

@@ -1,8 +1,10 @@
 #!/usr/bin/env python3
-"""Writes into a folder what makes substitutions dear: `fc` with one specification, `fc.subs`, and `records`.
+"""Writes into a folder what makes substitutions dear: `fc` with one specification, `fc.subs`, and
+`records`.
 
     subs.py FOLDER deep N     one line whose source has 2,000 names, and N files below it
-    subs.py FOLDER real N     a distribution's 22 lines, and N files as find(1) meets them in /usr, /etc and /var
+    subs.py FOLDER real N     a distribution's 22 lines, and N files as find(1) meets them in /usr,
+                              /etc and /var
 
 The same words give the same bytes.
 """
@@ -34,8 +36,9 @@ REAL = """/bin /usr/bin
 /var/run /run
 /run /var/run
 """
-FOLDERS = ("/etc/{0}", "/usr/lib/{0}", "/usr/lib/x86_64-linux-gnu/{0}", "/usr/share/{0}/doc", "/usr/share/locale/{0}",
-           "/var/lib/{0}/info", "/var/cache/{0}", "/usr/include/{0}/bits", "/usr/src/{0}/include/config")
+FOLDERS = ("/etc/{0}", "/usr/lib/{0}", "/usr/lib/x86_64-linux-gnu/{0}", "/usr/share/{0}/doc",
+           "/usr/share/locale/{0}", "/var/lib/{0}/info", "/var/cache/{0}", "/usr/include/{0}/bits",
+           "/usr/src/{0}/include/config")
 
 
 def deep(count):
