@@ -1,5 +1,5 @@
 -- Paths: lists of nonempty names without a slash and NUL.
-use Rattle.std.specs.Prelude.{ℕ, Bool, false, ◌&&◌, ◌||◌, ◌==◌, List, [], ◌∷◌, length, not}
+use Rattle.std.specs.Prelude.{ℕ, Bool, true, false, ◌&&◌, ◌||◌, ◌==◌, List, [], ◌∷◌, length, not}
 use Rattle.std.specs.Prelude.{if◌then◌else◌, nat_lt, filter, slice_index, Result, Ok, Err}
 use Rattle.std.specs.List.{flat_map, list_any, list_all, starts_with, slice_split}
 use Rattle.file_paths.specs.declared.path.TheConstants.{DOT, MOST_PATH_BYTES, SLASH}
@@ -26,6 +26,11 @@ are_names names = list_all is_name names
 
 abbrev pub Path : Type 0
 Path = List (List ℕ)
+
+-- the path is `/`
+abbrev pub is_root_path : Path → Bool
+is_root_path [] = true
+is_root_path (name ∷ names) = false
 
 abbrev pub is_slash : ℕ → Bool
 is_slash b = b == SLASH

@@ -13,7 +13,7 @@ use Rattle.find_records.specs.declared.fault.RecordsFault.TheVariants.{Refused, 
 use Rattle.find_records.specs.declared.fault.RecordsFault.TheVariants.{OutOfMemory}
 use Rattle.find_records.specs.Cause.{records_cause}
 use Rattle.find_records.specs.Grammar.{records_of}
-use Rattle.find_records.specs.Reading.{ReadWhole, RecordsCounts, RecordsRead, RecordsTold}
+use Rattle.find_records.specs.Reading.{ReadWhole, RecordsCounts, RecordsRead, RecordsAsKnown}
 use Rattle.find_records.proofs.RunGrammar.{run_means}
 
 abbrev IsAnswer : Format → RecordLimits → List ℕ → Result (List Record) RecordsFault → Type 0
@@ -61,7 +61,7 @@ read_of format limits bytes new (Err OutOfMemory) few ends taken answer =
 pub told_of : (format : Format) (limits : RecordLimits) (old new : Option (List ℕ)) (bytes : List ℕ)
     (result : Result (List Record) RecordsFault) → length bytes ≤ limits.bytes
     → Consumes old new bytes → IfSome old (λ _. IsAtEnd new) → IsAnswer format limits bytes result
-    → RecordsTold format old new limits result
+    → RecordsAsKnown format old new limits result
 told_of format limits None new bytes result few taken ends answer = tt
 told_of format limits (Some all) None bytes result few taken ends answer = absurd taken
 told_of format limits (Some all) (Some left) bytes result few taken ends answer =

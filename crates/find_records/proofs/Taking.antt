@@ -14,7 +14,7 @@ use Rattle.find_records.specs.declared.fault.RecordsFault.TheVariants.{OutOfMemo
 use Rattle.find_records.specs.declared.so_far.SoFar.{SoFar}
 use Rattle.find_records.specs.Cause.{records_cause}
 use Rattle.find_records.specs.Grammar.{records_from, records_of}
-use Rattle.find_records.specs.Reading.{RecordsCounts, RecordsTold}
+use Rattle.find_records.specs.Reading.{RecordsCounts, RecordsAsKnown}
 use Rattle.find_records.specs.SoFar.{meant_with}
 use Rattle.find_records.proofs.Outcomes.{counts_of, told_of}
 use Rattle.find_records.proofs.RunGrammar.{run_means, run_of}
@@ -55,19 +55,19 @@ taken_more format old mid now most count more s t piece a e n h = record {
 
 pub told_want : (format : Format) (limits : RecordLimits) (old now : Option (List ℕ))
     (bytes : List ℕ) → Consumes old now bytes → length bytes ≤ limits.bytes + 1
-    → RecordsTold format old now limits (Err OutOfMemory)
+    → RecordsAsKnown format old now limits (Err OutOfMemory)
 told_want format limits None now bytes h n = tt
 told_want format limits (Some all) now bytes h n = (bytes, h, n)
 
 pub told_fault : (format : Format) (limits : RecordLimits) (old now : Option (List ℕ))
     (bytes : List ℕ) → Consumes old now bytes → length bytes ≤ limits.bytes + 1
-    → RecordsTold format old now limits (Err ReadFault)
+    → RecordsAsKnown format old now limits (Err ReadFault)
 told_fault format limits None now bytes h n = tt
 told_fault format limits (Some all) now bytes h n = (bytes, h, n)
 
 pub told_long : (format : Format) (limits : RecordLimits) (old now : Option (List ℕ))
     (bytes : List ℕ) → Consumes old now bytes → length bytes ≡ limits.bytes + 1
-    → RecordsTold format old now limits (Err TooLong)
+    → RecordsAsKnown format old now limits (Err TooLong)
 told_long format limits None now bytes h n = tt
 told_long format limits (Some all) now bytes h n = (bytes, h, n)
 
@@ -85,7 +85,7 @@ pub told_end : (format : Format) (limits : RecordLimits) (old mid now : Option (
     (s : SoFar) (result : Result (List Record) RecordsFault) → IsTaken format old mid limits.records
     count s → count ≤ limits.bytes
     → IsAtEnd mid → Keeps mid now → Answers (λ records. records) records_cause result
-    (meant_with s []) → RecordsTold format old now limits result
+    (meant_with s []) → RecordsAsKnown format old now limits result
 told_end format limits old mid now count s result a few ends keeps h =
     told_of format limits old now a.bytes result (omega (arith, few, a.size))
     (Consumes-keeps old mid now a.bytes a.took keeps)
@@ -103,7 +103,7 @@ counts_end format limits old mid count before now s result a same h =
 
 -- nothing was taken
 pub told_nothing : (format : Format) (limits : RecordLimits) (old : Option (List ℕ))
-    → RecordsTold format old old limits (Err OutOfMemory)
+    → RecordsAsKnown format old old limits (Err OutOfMemory)
 told_nothing format limits old = told_want format limits old old [] (consumes_nothing old)
     (omega arith)
 

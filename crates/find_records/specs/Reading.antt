@@ -37,10 +37,10 @@ RecordsRead format bytes new limits (Err TooLong) = TookTooMany bytes new limits
 RecordsRead format bytes new limits result = ReadWhole format bytes new limits result
 
 -- the same, where the source tells its bytes
-abbrev pub RecordsTold : Format → Option (List ℕ) → Option (List ℕ) → RecordLimits
+abbrev pub RecordsAsKnown : Format → Option (List ℕ) → Option (List ℕ) → RecordLimits
     → Result (List Record) RecordsFault → Type 0
-RecordsTold format None new limits result = Unit {0}
-RecordsTold format (Some bytes) new limits result = RecordsRead format bytes new limits result
+RecordsAsKnown format None new limits result = Unit {0}
+RecordsAsKnown format (Some bytes) new limits result = RecordsRead format bytes new limits result
 
 -- what an answer says of the count of faults
 abbrev pub RecordsCounts : ℕ → ℕ → Result (List Record) RecordsFault → Type 0

@@ -3,7 +3,7 @@ ghost use Rattle.std.specs.Prelude.{length, vec_len, IfOk, IfErr};
 ghost use Rattle.label_base.specs.Answers.{Answers};
 ghost use Rattle.find_records.specs.Cause.{records_cause};
 ghost use Rattle.find_records.specs.Grammar.{Means, records_from, records_of};
-ghost use Rattle.find_records.specs.Reading.{RecordsTold, RecordsCounts};
+ghost use Rattle.find_records.specs.Reading.{RecordsAsKnown, RecordsCounts};
 ghost use Rattle.find_records.specs.Record.{AreOfFormat, Record};
 ghost use Rattle.find_records.specs.SoFar.{IsSound, meant_with};
 
@@ -55,14 +55,14 @@ fn take_pieces<I: Source>(
     ensures most { IfOk result (λ _. so_far.new.most ≡ limits.records) }
     ensures told { IfOk result (λ _. (answer : Result (List Record) RecordsFault)
         → Answers (λ records. records) records_cause answer (meant_with so_far.new [])
-        → RecordsTold format (I.left source.old) (I.left source.new) limits answer) }
+        → RecordsAsKnown format (I.left source.old) (I.left source.new) limits answer) }
     ensures counts { IfOk result (λ _. (answer : Result (List Record) RecordsFault)
         → Answers (λ records. records) records_cause answer (meant_with so_far.new [])
         → RecordsCounts (I.faults source.old) (I.faults source.new) answer) }
     ensures of_format { IfOk result (λ _. (records : List Record)
         → meant_with so_far.new [] ≡ Ok records → AreOfFormat format records) }
     ensures fault { IfErr result (λ fault.
-        RecordsTold format (I.left source.old) (I.left source.new) limits (Err fault)) }
+        RecordsAsKnown format (I.left source.old) (I.left source.new) limits (Err fault)) }
     ensures rose { IfErr result (λ fault.
         RecordsCounts (I.faults source.old) (I.faults source.new) (Err fault)) }
 {
@@ -96,7 +96,7 @@ pub fn read_records<I: Source>(
     limits: RecordLimits,
 ) -> Result<Records, RecordsFault>
     requires { limits.bytes < 2 ^ 64 - 1 }
-    ensures told { RecordsTold format (I.left source.old) (I.left source.new) limits result }
+    ensures told { RecordsAsKnown format (I.left source.old) (I.left source.new) limits result }
     ensures counts { RecordsCounts (I.faults source.old) (I.faults source.new) result }
     ensures few { IfOk result (λ records. length records ≤ limits.records) }
     ensures of_format { IfOk result (λ records. AreOfFormat format records) }

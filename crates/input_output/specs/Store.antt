@@ -30,9 +30,9 @@ FileIs found limit (Err TooLong) = (bytes : List ℕ) × (found ≡ Some bytes) 
 FileIs found limit (Err Failed) = Unit {0}
 FileIs found limit (Err OutOfMemory) = Unit {0}
 
-abbrev pub FileTold : Option Files → List ℕ → ℕ → Result (List ℕ) FileFault → Type 0
-FileTold None name limit result = Unit {0}
-FileTold (Some files) name limit result = FileIs (content files name) limit result
+abbrev pub FileAsKnown : Option Files → List ℕ → ℕ → Result (List ℕ) FileFault → Type 0
+FileAsKnown None name limit result = Unit {0}
+FileAsKnown (Some files) name limit result = FileIs (content files name) limit result
 
 abbrev pub FileCounts : ℕ → ℕ → Result (List ℕ) FileFault → Type 0
 FileCounts before now (Err Failed) = (before ≤ now) × Rose before now
@@ -50,14 +50,14 @@ Calls (Some count) now more = now ≡ Some (calls_after count more)
 
 -- what an answer to a write says of the files: after a failure the named one alone is unknown, and
 -- may be absent
-abbrev pub SaveTold : Option Files → Option Files → List ℕ → List ℕ → Result (Unit {0}) SaveFault
-    → Type 0
-SaveTold None new name bytes result = Unit {0}
-SaveTold (Some old) None name bytes result = ⊥
-SaveTold (Some old) (Some new) name bytes (Ok done) = new ≡ map.insert old name bytes
-SaveTold (Some old) (Some new) name bytes (Err save.Failed) =
+abbrev pub SaveAsKnown : Option Files → Option Files → List ℕ → List ℕ
+    → Result (Unit {0}) SaveFault → Type 0
+SaveAsKnown None new name bytes result = Unit {0}
+SaveAsKnown (Some old) None name bytes result = ⊥
+SaveAsKnown (Some old) (Some new) name bytes (Ok done) = new ≡ map.insert old name bytes
+SaveAsKnown (Some old) (Some new) name bytes (Err save.Failed) =
     map.remove new name ≡ map.remove old name
-SaveTold (Some old) (Some new) name bytes (Err save.OutOfMemory) = new ≡ old
+SaveAsKnown (Some old) (Some new) name bytes (Err save.OutOfMemory) = new ≡ old
 
 abbrev pub SaveCounts : ℕ → ℕ → Result (Unit {0}) SaveFault → Type 0
 SaveCounts before now (Err save.Failed) = (before ≤ now) × Rose before now
@@ -82,9 +82,6 @@ pair_of file = (file.name, file.bytes)
 -- the files of a list, the first of each name
 abbrev pub files_of : List MemFile → Files
 files_of files = map.from_entries (list_map pair_of files)
-
-abbrev pub bytes_of : MemFile → List ℕ
-bytes_of file = file.bytes
 
 abbrev pub file_has_name : List ℕ → MemFile → Bool
 file_has_name name file = bytes_eq file.name name

@@ -4,7 +4,7 @@ ghost use Rattle.std.specs.FinMap as map;
 ghost use Rattle.std.specs.Option.{option_copied};
 ghost use Rattle.input_output.specs.Source.{next_count};
 ghost use Rattle.input_output.specs.Store.{Calls, FileCounts, FileIs, IsFirstPlace, SaveCounts};
-ghost use Rattle.input_output.specs.Store.{SaveTold, content, files_of, file_found_in};
+ghost use Rattle.input_output.specs.Store.{SaveAsKnown, content, files_of, file_found_in};
 ghost use Rattle.input_output.specs.Store.{file_has_name, is_planned, read_after, read_failed};
 ghost use Rattle.input_output.specs.Store.{write_after, write_failed};
 
@@ -159,7 +159,7 @@ impl Store for SureStore {
     }
 
     fn write_file(&mut self, alloc: Global, name: &str, text: &PiecedText) -> Result<(), SaveFault>
-        ensures files { SaveTold (Some self.old) (Some self.new) name.now text.now result }
+        ensures files { SaveAsKnown (Some self.old) (Some self.new) name.now text.now result }
         ensures counts { SaveCounts 0 0 result }
         ensures calls { Calls None None 1 }
         ensures calm { write_failed result ≡ false }
@@ -270,7 +270,7 @@ impl Store for MemStore {
     }
 
     fn write_file(&mut self, alloc: Global, name: &str, text: &PiecedText) -> Result<(), SaveFault>
-        ensures files { SaveTold (Some self.old.files) (Some self.new.files)
+        ensures files { SaveAsKnown (Some self.old.files) (Some self.new.files)
             name.now text.now result }
         ensures counts { SaveCounts self.old.write_faults self.new.write_faults result }
         ensures calls { Calls (Some self.old.calls) (Some self.new.calls) 1 }

@@ -1,6 +1,6 @@
 ghost use Rattle.std.specs.Prelude.{◌≡◌, ◌≤◌, IfOk, length, ℕ, Option};
-ghost use Rattle.input_output.specs.Store.{Calls, FileCounts, FileTold, Files, SaveCounts};
-ghost use Rattle.input_output.specs.Store.{SaveTold};
+ghost use Rattle.input_output.specs.Store.{Calls, FileCounts, FileAsKnown, Files, SaveCounts};
+ghost use Rattle.input_output.specs.Store.{SaveAsKnown};
 
 use label_base::{Bytes, PiecedText};
 use std::alloc::Global;
@@ -46,14 +46,14 @@ pub trait Store {
     fn read_file(&mut self, alloc: Global, name: &str, limit: usize) -> Result<Bytes, FileFault>
         ensures files { files self.new ≡ files self.old }
         ensures within { IfOk result (λ bytes. length bytes ≤ limit) }
-        ensures content { FileTold (files self.old) name.now limit result }
+        ensures content { FileAsKnown (files self.old) name.now limit result }
         ensures counts { FileCounts (read_faults self.old) (read_faults self.new) result }
         ensures calls { Calls (calls self.old) (calls self.new) 1 }
         ensures writes { write_faults self.new ≡ write_faults self.old };
 
     /// Makes a file hold exactly this text, also where there was none. All other files stay.
     fn write_file(&mut self, alloc: Global, name: &str, text: &PiecedText) -> Result<(), SaveFault>
-        ensures files { SaveTold (files self.old) (files self.new) name.now text.now result }
+        ensures files { SaveAsKnown (files self.old) (files self.new) name.now text.now result }
         ensures counts { SaveCounts (write_faults self.old) (write_faults self.new) result }
         ensures calls { Calls (calls self.old) (calls self.new) 1 }
         ensures reads { read_faults self.new ≡ read_faults self.old };

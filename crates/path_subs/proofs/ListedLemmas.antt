@@ -14,15 +14,20 @@ use Rattle.std.specs.Cmp.{first_so, second_so}
 use Rattle.std.specs.declared.vec.Vec.{Vec}
 use Rattle.label_base.specs.Bounded.{greater, greatest_below, last_or_found}
 use Rattle.label_base.specs.Text.{same_bytes}
-use Rattle.file_paths.specs.Path.{Path, are_names, at_or_below, path_text, with_slashes}
+use Rattle.file_paths.specs.Path.{Path, are_names, at_or_below, is_root_path, path_text}
+use Rattle.file_paths.specs.Path.{with_slashes}
 use Rattle.file_paths.specs.PathText.{ends_name, text_at_or_below}
 use Rattle.label_base.proofs.BoundedLemmas.{greater_below, greatest_agree, greatest_bound}
 use Rattle.label_base.proofs.BoundedLemmas.{greatest_none, greatest_passes}
 use Rattle.file_paths.proofs.PathTexts.{below_texts}
-use Rattle.path_subs.specs.Listed.{AreSubsListed, covers_to, sub_fits_at, has_text, last_covering}
+use Rattle.path_subs.specs.Listed.{AreSubsListed, sub_fits_at, has_text, last_covering}
 use Rattle.path_subs.specs.Listed.{mark, mark_by, sub_at, sub_by_default}
-use Rattle.path_subs.specs.Subs.{SubValue, covering, covers, is_root}
+use Rattle.path_subs.specs.Subs.{SubValue, covering, covers}
 use Rattle.path_subs.proofs.Covering.{last_found, last_passed}
+
+-- the line covers the path, and its source's text has so many bytes at most
+abbrev pub covers_to : Path → ℕ → SubValue → Bool
+covers_to path end sub = covers path sub && nat_le (length (with_slashes sub.source)) end
 
 -- ---- fronts of a text
 
@@ -104,7 +109,7 @@ shorter (x ∷ xs) (y ∷ ys) h = let s =
 
 -- ---- the texts of a path and of a source
 
-pub nonroot_text : (path : Path) → is_root path ≡ false → path_text path ≡ with_slashes path
+pub nonroot_text : (path : Path) → is_root_path path ≡ false → path_text path ≡ with_slashes path
 nonroot_text [] h = cc
 nonroot_text (x ∷ xs) h = refl
 

@@ -1,5 +1,5 @@
 -- What finds the last line that covers a path.
-use Rattle.std.specs.Prelude.{◌≡◌, ℕ, ◌<◌, ◌≤◌, ◌+◌, ◌*◌, ◌-◌, ◌%◌, Bool, true, false, ◌&&◌, nat_le}
+use Rattle.std.specs.Prelude.{◌≡◌, ℕ, ◌<◌, ◌≤◌, ◌+◌, ◌*◌, ◌-◌, ◌%◌, Bool, true, false, ◌&&◌}
 use Rattle.std.specs.Prelude.{List, [], length, take, drop, get_or, Option}
 use Rattle.std.specs.declared.vec.Vec.{Vec}
 use Rattle.label_base.specs.Bounded.{greatest_below}
@@ -42,10 +42,6 @@ pub record AreSubsListed {A : Type 0} (subs : List SubValue) (n : ℕ) (entries 
   pub marked : (i : ℕ) → i < n → get_or marks (mark (with_slashes (sub_at subs i).source)) false
       ≡ true
   pub short : (i : ℕ) → i < n → length (with_slashes (sub_at subs i).source) ≤ longest
-
--- the line covers the path, and its source's text has so many bytes at most
-abbrev pub covers_to : Path → ℕ → SubValue → Bool
-covers_to path end sub = covers path sub && nat_le (length (with_slashes sub.source)) end
 
 -- what stands before a place where a name ends is the text of the line's source
 abbrev pub sub_fits_at : List ℕ → ℕ → SubValue → Bool

@@ -1,16 +1,12 @@
 -- The substitution of the front of a path.
-use Rattle.std.specs.Prelude.{◌≡◌, Bool, true, false, ◌&&◌, ◌||◌, not, List, [], ◌∷◌, ◌++◌, length}
-use Rattle.std.specs.Prelude.{drop, Option, Some, None, filter}
+use Rattle.std.specs.Prelude.{◌≡◌, Bool, true, ◌&&◌, ◌||◌, not, List, ◌++◌, length, drop, Option}
+use Rattle.std.specs.Prelude.{Some, None, filter}
 use Rattle.std.specs.List.{last_or, list_any}
 use Rattle.file_paths.specs.Path.{Path, at_or_below, strictly_below}
 
 pub record SubValue : Type 0 where
   pub source : Path
   pub target : Path
-
-abbrev pub is_root : Path → Bool
-is_root [] = true
-is_root (name ∷ names) = false
 
 -- a line covers the paths at or below its source
 abbrev pub covers : Path → SubValue → Bool

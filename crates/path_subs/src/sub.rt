@@ -12,11 +12,12 @@ pub struct Sub {
 
 impl Model for Sub {
     ghost use Rattle.std.specs.Prelude.{◌≡◌, false};
-    ghost use Rattle.path_subs.specs.Subs.{SubValue, is_root};
+    ghost use Rattle.file_paths.specs.Path.{is_root_path};
+    ghost use Rattle.path_subs.specs.Subs.{SubValue};
 
     ghost Value = { SubValue };
 
     ghost view = { λ s. record { source = s.source; target = s.target } };
 
-    ghost invariant = { λ s. is_root s.source ≡ false };
+    ghost invariant = { λ s. is_root_path s.source ≡ false };
 }

@@ -3,7 +3,7 @@ use Rattle.std.specs.Prelude.{◌≡◌, ℕ, ◌≤◌, List, Option, Some, Non
 use Rattle.std.specs.Io.KnownBytes.{Appends}
 use Rattle.input_output.specs.Sink.{AppendsFront}
 use Rattle.input_output.specs.Source.{Rose}
-use Rattle.input_output.specs.Store.{Files, SaveTold}
+use Rattle.input_output.specs.Store.{Files, SaveAsKnown}
 use Rattle.input_output.specs.declared.store.SaveFault.{SaveFault}
 use Rattle.run_faults.specs.declared.cause.Cause.{Cause}
 use Rattle.run_faults.specs.declared.cause.Cause.TheVariants as causes
@@ -46,7 +46,7 @@ writes_of (Some saved) = 1
 abbrev pub Saves : Option Files → Option Files → Option Saved → Result (Unit {0}) SaveFault → Type 0
 Saves old new None (Ok done) = new ≡ old
 Saves old new None (Err fault) = ⊥
-Saves old new (Some saved) result = SaveTold old new saved.name saved.text result
+Saves old new (Some saved) result = SaveAsKnown old new saved.name saved.text result
 
 -- a write of the report: it was written whole and the cause is its own, or a front of it was where
 -- the sink failed

@@ -1,8 +1,9 @@
 use Rattle.std.proofs.Common.{◌≡◌, List, length}
 use Rattle.label_base.specs.Bounded.{greatest_below}
 use Rattle.file_paths.specs.PathRef.{path_of}
-use Rattle.path_subs.specs.Listed.{AreSubsListed, covers_to, sub_at}
+use Rattle.path_subs.specs.Listed.{AreSubsListed, sub_at}
 use Rattle.path_subs.specs.Subs.{SubValue}
+use Rattle.path_subs.proofs.ListedLemmas.{covers_to}
 use Rattle.path_subs.proofs.sub_list.last_covering.Given as goal
 
 -- what is found by sources' texts of so many bytes
