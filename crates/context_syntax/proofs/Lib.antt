@@ -4,4 +4,5 @@ pub mod NameSets
 pub mod Spelling
 pub mod TypeLines
 pub mod TypesMeant
+pub mod WordLemmas
 pub mod Sending

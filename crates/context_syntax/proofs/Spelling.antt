@@ -13,7 +13,7 @@ use Rattle.context_syntax.specs.Context.{is_word_byte, is_range, is_colon, range
 use Rattle.context_syntax.specs.Context.{context_of, with_user, with_role, with_kind}
 
 -- a colon stands in no word
-no_colon : (b : ℕ) → is_word_byte b ≡ true → is_colon b ≡ false
+pub no_colon : (b : ℕ) → is_word_byte b ≡ true → is_colon b ≡ false
 no_colon b h = grind (arith, nat_tests)
 
 pub front_word : (word rest : List ℕ) → list_all is_word_byte word ≡ true
@@ -104,7 +104,7 @@ pub complete : (bytes : List ℕ) (c : ContextValue) → SpellsContext bytes c
 complete bytes c h = ap context_of h.text ∙ read_back c h.parts
 
 -- what stands before the first element that passes, and the element
-joined : (p : ℕ → Bool) (bytes : List ℕ) (b : ℕ) → ((x : ℕ) → p x ≡ true → x ≡ b) → (rest : List ℕ)
+pub joined : (p : ℕ → Bool) (bytes : List ℕ) (b : ℕ) → ((x : ℕ) → p x ≡ true → x ≡ b) → (rest : List ℕ)
     → behind p bytes ≡ Some rest → bytes ≡ front p bytes ++ b ∷ rest
 joined p [] b is rest h = cc
 joined p (x ∷ xs) b is rest h =
@@ -123,7 +123,7 @@ whole p (x ∷ xs) h =
       | false ↦ λ e. ap (λ ys. x ∷ ys) (whole p xs e)
     ] h
 
-colon_is : (x : ℕ) → is_colon x ≡ true → x ≡ COLON
+pub colon_is : (x : ℕ) → is_colon x ≡ true → x ≡ COLON
 colon_is x h = grind (arith, nat_tests)
 
 -- the words of the last part, joined again

@@ -1,11 +1,13 @@
 ghost use Rattle.std.specs.Cmp.{partial_equiv_from_equiv};
-ghost use Rattle.std.specs.Prelude.{◌≡◌, ◌++◌, ◌↔◌, true, IfOk, IsTrue, OnErr, OnOk};
+ghost use Rattle.std.specs.Prelude.{◌≡◌, ◌++◌, ◌↔◌, ◌<◌, ◌≤◌, true, false, length, take, get_or};
+ghost use Rattle.std.specs.Prelude.{IfOk, IfNone, IfSome, IsTrue, OnErr, OnOk};
 ghost use Rattle.std.specs.List.{list_all};
 ghost use Rattle.std.specs.Option.{option_copied};
 ghost use Rattle.label_base.specs.Answers.{Finds};
+ghost use Rattle.label_base.specs.Cut.{front, behind};
 ghost use Rattle.context_syntax.specs.Context.{ContextValue, IsContext, SpellsContext, context_of};
-ghost use Rattle.context_syntax.specs.Context.{context_text, is_range, is_range_byte, is_word};
-ghost use Rattle.context_syntax.specs.Context.{is_word_byte, same_but_user, same_context};
+ghost use Rattle.context_syntax.specs.Context.{context_text, is_colon, is_range, is_range_byte};
+ghost use Rattle.context_syntax.specs.Context.{is_word, is_word_byte, same_but_user, same_context};
 ghost use Rattle.context_syntax.specs.Context.{IsContextText, before_kind, behind_colon};
 ghost use Rattle.context_syntax.specs.Context.{context_spelled, range_text, with_kind_of};
 ghost use Rattle.context_syntax.specs.declared.context.ContextFault.TheVariants as faults;
@@ -18,6 +20,17 @@ use std::marker::Model;
 // Parts the user, the role, the type and the range.
 pub(crate) const COLON: u8 = b':';
 
+// Each byte of a word stands at its own place, and a colon at every other place.
+static WORD_BYTES: [u8; 256] = *b"\
+    ::::::::::::::::::::::::::::::::\
+    :::::::::::::-.:0123456789::::::\
+    :ABCDEFGHIJKLMNOPQRSTUVWXYZ::::_\
+    :abcdefghijklmnopqrstuvwxyz:::::\
+    ::::::::::::::::::::::::::::::::\
+    ::::::::::::::::::::::::::::::::\
+    ::::::::::::::::::::::::::::::::\
+    ::::::::::::::::::::::::::::::::";
+
 /// A security context, as restorecon(8) and file_contexts(5) write it: `user:role:type`, or
 /// `user:role:type:range`. Each part is in the grammar of its place, so there is one spelling for
 /// each value. Contracts see its parts.
@@ -26,9 +39,9 @@ pub struct Context {
     // The spelling.
     text: Vec<u8>,
     // Where the type begins in it.
-    kind_at: usize,
+    kind_at: u32,
     // Where the type ends.
-    kind_end: usize,
+    kind_end: u32,
 }
 
 // By hand: one call for an owner, where a derived drop is a step for each field.
@@ -90,7 +103,7 @@ fn are_range_bytes(bytes: &[u8]) -> bool
 fn may_stand_in_word(b: u8) -> bool
     ensures { result ≡ is_word_byte b }
 {
-    b.is_ascii_alphanumeric() || b == b'_' || b == b'.' || b == b'-'
+    WORD_BYTES[b as usize] != COLON
 }
 
 fn is_range_or_none(range: Option<&[u8]>) -> bool
@@ -108,6 +121,56 @@ fn may_stand_in_range(b: u8) -> bool
     b.is_ascii_graphic() && b != b'"' && b != b'\\'
 }
 
+// How many bytes at the front may stand in a word.
+fn word_length(text: &[u8]) -> usize
+    ensures within { result ≤ length text.now }
+    ensures word { list_all is_word_byte (take result text.now) ≡ true }
+    ensures end { result < length text.now → is_word_byte (get_or text.now result 0) ≡ false }
+{
+    let mut length = 0;
+    'bytes: for byte in text {
+        if !may_stand_in_word(*byte) {
+            return length;
+        }
+        length += 1;
+    }
+    length
+}
+
+// The word in front of the first colon, and what stands behind that colon, if there is one; nothing
+// where no word stands there. Parts of a context are short: to look for the colon first would take
+// longer.
+fn cut_word(text: &[u8]) -> Option<(&[u8], Option<&[u8]>)>
+    ensures front { IfSome result (λ cut. cut.0.now ≡ front is_colon text.now) }
+    ensures behind { IfSome result
+        (λ cut. option_copied cut.1 ≡ behind is_colon text.now) }
+    ensures word { IfSome result (λ cut. is_word (front is_colon text.now) ≡ true) }
+    ensures none { IfNone result (is_word (front is_colon text.now) ≡ false) }
+{
+    let length = word_length(text);
+    if length == 0 {
+        return None;
+    }
+    if length == text.len() {
+        return Some((text, None));
+    }
+    if text[length] != COLON {
+        return None;
+    }
+    Some((&text[..length], Some(&text[length + 1..])))
+}
+
+// What stands behind the first colon, if a word stands in front of it.
+fn behind_word(text: &[u8]) -> Option<&[u8]>
+    ensures some { IfSome result (λ rest. (behind is_colon text.now ≡ Some rest.now)
+        × (is_word (front is_colon text.now) ≡ true)) }
+    ensures none { IfNone result ((rest : _) → behind is_colon text.now ≡ Some rest
+        → is_word (front is_colon text.now) ≡ false) }
+{
+    let (_, rest) = cut_word(text)?;
+    rest
+}
+
 // What stands behind the first colon, or nothing.
 fn behind_colon(text: &[u8]) -> &[u8]
     ensures { result.now ≡ behind_colon text.now }
@@ -118,7 +181,8 @@ fn behind_colon(text: &[u8]) -> &[u8]
     }
 }
 
-// The context that the bytes spell, with a type between these places.
+// The context that the bytes spell, with a type between these places. One that is longer than its
+// places can tell has no room.
 fn kept(
     alloc: Global,
     bytes: &[u8],
@@ -128,10 +192,13 @@ fn kept(
     requires { IsContextText bytes.now kind_at kind_end }
     ensures { IfOk result (λ context. context ≡ context_spelled bytes.now) }
 {
+    if bytes.len() > u32::MAX as usize {
+        return Err(OutOfMemory);
+    }
     Ok(Context {
         text: Vec::from_slice(alloc, bytes)?,
-        kind_at,
-        kind_end,
+        kind_at: kind_at as u32,
+        kind_end: kind_end as u32,
     })
 }
 
@@ -153,20 +220,16 @@ impl Context {
         ensures sound { (c : ContextValue) → context_of bytes.now ≡ Some c
             → SpellsContext bytes.now c }
     {
-        let (user, rest) = cut_at(COLON, bytes);
-        let Some(rest) = rest else {
+        let Some(rest) = behind_word(bytes) else {
             return Err(ContextFault::NoContext);
         };
-        let (role, rest) = cut_at(COLON, rest);
-        let Some(rest) = rest else {
+        let Some(rest) = behind_word(rest) else {
             return Err(ContextFault::NoContext);
         };
-        let (kind, range) = cut_at(COLON, rest);
-        if !is_type_name(user)
-            || !is_type_name(role)
-            || !is_type_name(kind)
-            || !is_range_or_none(range)
-        {
+        let Some((kind, range)) = cut_word(rest) else {
+            return Err(ContextFault::NoContext);
+        };
+        if !is_range_or_none(range) {
             return Err(ContextFault::NoContext);
         }
         let kind_at = bytes.len() - rest.len();
@@ -191,7 +254,7 @@ impl Context {
     pub fn kind(&self) -> &[u8]
         ensures { result.now ≡ self.now.kind }
     {
-        &self.text.as_slice()[self.kind_at..self.kind_end]
+        &self.text.as_slice()[self.kind_at as usize..self.kind_end as usize]
     }
 
     /// The level or range, if there is one: one or more printing bytes other than blanks, `"` and
@@ -214,14 +277,14 @@ impl Context {
     pub(crate) fn before_kind(&self) -> &[u8]
         ensures { result.now ≡ before_kind self.now }
     {
-        &self.text.as_slice()[..self.kind_at]
+        &self.text.as_slice()[..self.kind_at as usize]
     }
 
     // What is spelled behind it.
     pub(crate) fn behind_kind(&self) -> &[u8]
         ensures { result.now ≡ range_text self.now.range }
     {
-        &self.text.as_slice()[self.kind_end..]
+        &self.text.as_slice()[self.kind_end as usize..]
     }
 
     #[tactic(auto, using(crate::proofs::Spelling::read_back, crate::proofs::Spelling::spells_itself))]
@@ -247,10 +310,13 @@ impl Context {
         text.extend_from_slice(other.kind())?;
         let kind_end = text.len();
         text.extend_from_slice(self.behind_kind())?;
+        if kind_end > u32::MAX as usize {
+            return Err(OutOfMemory);
+        }
         Ok(Context {
             text,
             kind_at: self.kind_at,
-            kind_end,
+            kind_end: kind_end as u32,
         })
     }
 
