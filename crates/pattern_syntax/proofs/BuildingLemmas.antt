@@ -268,7 +268,7 @@ choice_proper level p = side_proper level.sides (sequence_of level) p.sides
     side_proper None t a b = b
     side_proper (Some tree) t a b = ap (λ x. x && is_proper t) a ∙ b
 
-sequence_is_choice : (t : Tree) → is_sequence t ≡ true → is_choice t ≡ true
+pub sequence_is_choice : (t : Tree) → is_sequence t ≡ true → is_choice t ≡ true
 sequence_is_choice (tree.Set bytes) h = h
 sequence_is_choice tree.Nothing h = refl
 sequence_is_choice (tree.Both first second) h = refl

@@ -11,5 +11,7 @@ pub mod GrammarLemmas
 pub mod FaultLemmas
 pub mod LiteralLemmas
 pub mod PartsLemmas
+pub mod KeptLemmas
+pub mod PlainLemmas
 pub mod RestLemmas
 pub mod Sending

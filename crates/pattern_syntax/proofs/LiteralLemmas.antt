@@ -159,7 +159,7 @@ abbrev started : Option (List ℕ) → List ℕ → List ℕ → List ℕ
 started None start rest = start
 started (Some bytes) start rest = bytes ++ rest
 
-single_is_start : (t : Tree) (bytes : List ℕ) → single_bytes t ≡ Some bytes
+pub single_is_start : (t : Tree) (bytes : List ℕ) → single_bytes t ≡ Some bytes
     → literal_start_of t ≡ bytes
 single_is_start (tree.Set bs) bytes h = absurd (let f : None ≡ Some bytes = h in cc)
 single_is_start tree.Nothing bytes h = let f : Some [] ≡ Some bytes = h in cc

@@ -2,7 +2,8 @@
 use Rattle.std.proofs.Common.{◌≡◌, ◌∙◌, sym, refl, ap, ℕ, ◌+◌, ◌<◌, ◌≤◌, ◌==◌, leb, ltb, Bool, true}
 use Rattle.std.proofs.Common.{false, cond, List, [], ◌∷◌, length, drop, arith}
 use Rattle.std.specs.Prelude.{Option, Some, None, Result, Ok, Err, is_some, unwrap_or, option_map}
-use Rattle.std.proofs.lemmas.Bool.{ltb-true, OnTrue_from}
+use Rattle.std.specs.Prelude.{◌↔◌}
+use Rattle.std.proofs.lemmas.Bool.{ltb-true, lt-ltb}
 use Rattle.std.proofs.lemmas.Bool.Decides.{nat_tests}
 use Rattle.pattern_syntax.specs.Tree.{Tree, Set}
 use Rattle.pattern_syntax.specs.Tokens.{Token, Bytes, Open, Close, Bar, Anchor, Times, PlacedToken}
@@ -17,7 +18,6 @@ use Rattle.pattern_syntax.specs.Building.{capped_positions, capped}
 use Rattle.pattern_syntax.specs.declared.builder.Builder.{Builder}
 use Rattle.pattern_syntax.specs.declared.builder.Level as counts
 use Rattle.label_base.specs.Answers.{Explains}
-use Rattle.std.specs.Bool.{OnTrue}
 use Rattle.pattern_syntax.proofs.BuildingLemmas.{outer_length}
 use Rattle.pattern_syntax.specs.declared.pattern_fault.PatternWhy.{PatternWhy}
 use Rattle.pattern_syntax.specs.declared.pattern_fault.PatternWhy.TheVariants.{Syntax}
@@ -248,28 +248,30 @@ whole_cause fault end depth e h =
 -- ---- the builder that is full
 
 sides_counted : (sides : Option Tree) → unwrap_or (option_map capped_positions sides) 0
-    ≤ side_positions sides
+    ≡ capped (side_positions sides)
 sides_counted None = omega arith
 sides_counted (Some tree) = omega arith
 
-pub full_stands : (builder : Builder) (read : Reading) → IsBuilderOf builder read
+pub full_told : (builder : Builder) (read : Reading) (sides n : ℕ) → IsBuilderOf builder read
     → length builder.outer.items ≡ 0
-    → MOST_POSITIONS < capped (unwrap_or builder.level.sides 0 + builder.level.sequence)
-    → (length read.outer ≡ 0) × (MOST_POSITIONS < base_positions read.level)
-full_stands builder read s z h =
+    → sides ≡ unwrap_or builder.level.sides 0 → n ≡ capped (sides + builder.level.sequence)
+    → (ltb MOST_POSITIONS n ≡ true)
+    ↔ ((length read.outer ≡ 0) × (MOST_POSITIONS < base_positions read.level))
+full_told builder read sides n s z e h =
     let l = ap length s.outer ∙ outer_length read.outer in
     let a = ap (λ (l : counts.Level). unwrap_or l.sides 0) s.level in
     let b = ap (λ (l : counts.Level). l.sequence) s.level in
-    let c = sides_counted read.level.sides in
-    (omega (arith, l, z), omega (arith, a, b, c, h))
+    let c = sides_counted read.level.sides in (
+      λ t. let k = ltb-true MOST_POSITIONS n t in
+          (omega (arith, l, z), omega (arith, a, b, c, e, h, k)),
+      λ f. let k = f.1 in lt-ltb MOST_POSITIONS n (omega (arith, a, b, c, e, h, k)),
+    )
 
-pub full_on_true : (builder : Builder) (sides n : ℕ) → length builder.outer.items ≡ 0
-    → sides ≡ unwrap_or builder.level.sides 0 → n ≡ capped (sides + builder.level.sequence)
-    → OnTrue (ltb MOST_POSITIONS n) ((read : Reading) → IsBuilderOf builder read
-    → (length read.outer ≡ 0) × (MOST_POSITIONS < base_positions read.level))
-full_on_true builder sides n z e h =
-    OnTrue_from (ltb MOST_POSITIONS n) ((read : Reading) → IsBuilderOf builder read
-    → (length read.outer ≡ 0) × (MOST_POSITIONS < base_positions read.level))
-    (λ (t : ltb MOST_POSITIONS n ≡ true). λ (read : Reading) (s : IsBuilderOf builder read).
-    full_stands builder read s z (let k = ltb-true MOST_POSITIONS n t in
-    omega (arith, k, e, h)))
+pub not_full : (builder : Builder) (read : Reading) → IsBuilderOf builder read
+    → 0 < length builder.outer.items → (false ≡ true)
+    ↔ ((length read.outer ≡ 0) × (MOST_POSITIONS < base_positions read.level))
+not_full builder read s h =
+    let l = ap length s.outer ∙ outer_length read.outer in (
+      λ t. absurd (let f : false ≡ true = t in cc),
+      λ f. let z = f.0 in absurd (omega (arith, l, z)),
+    )

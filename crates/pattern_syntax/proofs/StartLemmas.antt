@@ -151,7 +151,7 @@ pub fold_size : (bytes : List ℕ) (t : Tree) → tree_size (fold with_byte t by
 fold_size [] t = omega arith
 fold_size (b ∷ bytes) t = let n = fold_size bytes (with_byte t b) in omega (arith, n)
 
-fold_proper : (bytes : List ℕ) (t : Tree) → is_sequence t ≡ true → is_proper t ≡ true
+pub fold_proper : (bytes : List ℕ) (t : Tree) → is_sequence t ≡ true → is_proper t ≡ true
     → are_text_bytes bytes ≡ true → (is_sequence (fold with_byte t bytes) ≡ true)
     × (is_proper (fold with_byte t bytes) ≡ true)
 fold_proper [] t s p h = (s, p)
@@ -352,6 +352,7 @@ parts_start start nodes p s =
           (ap is_several t ∙ s))
           ∙ start_leads start nodes
           ∙ ap (λ (l : List ℕ). start ++ l) (no_leads nodes p.led) ∙ append-nil start;
+      size = p.size;
     }
 
 pub sides_tree : (start : List ℕ) (nodes all : List Node) → all ≡ start_nodes start ++ nodes
@@ -367,4 +368,10 @@ sides_start start nodes all e p s =
       proper = ap is_proper t ∙ p.proper;
       choice = ap is_choice t ∙ p.choice;
       literal = several_start (pattern_tree [] all) (ap is_several t ∙ s);
+      size =
+          let w = (all_whole start nodes p).size in
+          let n = ap length e in
+          let k = ap tree_size (all_tree start nodes) in
+          let m = ap tree_size t in
+          omega (arith, w, n, k, m);
     }

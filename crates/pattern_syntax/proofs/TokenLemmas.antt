@@ -1,16 +1,16 @@
 -- Facts on the cutting of tokens.
-use Rattle.std.proofs.Common.{◌≡◌, ◌∙◌, refl, ap, sym, ℕ, ◌+◌, ◌*◌, ◌-◌, ◌<◌, ◌==◌, ◌||◌, ◌&&◌}
+use Rattle.std.proofs.Common.{◌≡◌, ◌∙◌, refl, ap, sym, ℕ, ◌+◌, ◌*◌, ◌-◌, ◌<◌, ◌==◌, ◌||◌}
 use Rattle.std.proofs.Common.{Bool, true, false, not, min, List, [], ◌∷◌, length, drop, get_or}
-use Rattle.std.proofs.Common.{arith, inl, inr}
+use Rattle.std.proofs.Common.{arith, zero, suc, take}
+use Rattle.std.specs.Cmp.{first_so, second_so}
+use Rattle.std.specs.List.{list_all}
 use Rattle.std.specs.Prelude.{fold, Ok}
-use Rattle.std.proofs.lemmas.Bool.{cases_eq, eq-eqb, or_parts, true≢false}
+use Rattle.std.proofs.lemmas.Bool.{or_parts}
 use Rattle.std.proofs.lemmas.List.{drop_more}
 use Rattle.label_base.specs.Number.{decimal}
-use Rattle.pattern_syntax.specs.Exact.{is_itself, is_meta}
+use Rattle.pattern_syntax.specs.Exact.{is_exact_text, is_itself, is_meta}
 use Rattle.pattern_syntax.specs.Reading.{placed_cut}
-use Rattle.pattern_syntax.specs.Shape.{is_proper_set}
 use Rattle.pattern_syntax.specs.Tokens.{Bytes, repeat_or_byte, times_of, times_more, token_at}
-use Rattle.pattern_syntax.proofs.ShapeLemmas.{text_byte}
 use Rattle.pattern_syntax.specs.declared.limits.TheConstants.{MOST_TIMES}
 
 fold_from : (v : ℕ) (bs : List ℕ) → fold times_more (min (MOST_TIMES + 1) v) bs
@@ -29,6 +29,13 @@ fold_is_times bs = fold_from 0 bs
 none_of : (b : Bool) → not b ≡ true → b ≡ false
 none_of true h = sym h
 none_of false h = refl
+
+itself_parts : (b : ℕ) → is_itself b ≡ true → (is_meta b ≡ false) × ((b == 92) ≡ false)
+itself_parts b h =
+    let p0 = or_parts (is_meta b || (b == 92) || (b == 41)) (b == 0)
+    (none_of (is_meta b || (b == 92) || (b == 41) || (b == 0)) h) in
+    let p1 = or_parts (is_meta b || (b == 92)) (b == 41) p0.0 in
+    or_parts (is_meta b) (b == 92) p1.0
 
 itself_at : (begins : Bool) (b : ℕ) (bs : List ℕ) → is_itself b ≡ true → token_at begins (b ∷ bs)
     ≡ Ok (Bytes (b ∷ []), 1)
@@ -62,14 +69,16 @@ itself_from at b all l e h =
     (drop_more all at 0 l ∙ ap (λ (c : ℕ). c ∷ drop (at + 1) all) (sym e))
     ∙ ap (placed_cut at) (itself_at (at == 0) b (drop (at + 1) all) h)
 
-pub itself_proper : (b : ℕ) → b < 256 → is_itself b ≡ true → is_proper_set (b ∷ []) ≡ true
-itself_proper b l h =
-    let zero = (or_parts (is_meta b || (b == 92) || (b == 41)) (b == 0)
-    (none_of (is_meta b || (b == 92) || (b == 41) || (b == 0)) h)).1 in
-    let some : 0 < b =
-    elim (cases_eq b 0) [
-      | inl same ↦ absurd (true≢false (sym (eq-eqb b 0 same) ∙ zero))
-      | inr
-          apart ↦ omega (arith, apart)
-    ] in
-    ap (λ t. t && true) (text_byte b some l)
+-- what is behind them decides whether a text that begins with them is exact
+itself_exact : (b : ℕ) (bs : List ℕ) → is_itself b ≡ true
+    → is_exact_text (b ∷ bs) ≡ is_exact_text bs
+itself_exact b [] h = let p = itself_parts b h in rw p.0 refl
+itself_exact b (c ∷ bs) h = let p = itself_parts b h in rw (p.1, p.0) refl
+
+pub run_exact : (n : ℕ) (text : List ℕ) → list_all is_itself (take n text) ≡ true
+    → is_exact_text text ≡ is_exact_text (drop n text)
+run_exact zero text h = refl
+run_exact (suc n) [] h = refl
+run_exact (suc n) (b ∷ bs) h =
+    itself_exact b bs (first_so (is_itself b) (list_all is_itself (take n bs)) h)
+    ∙ run_exact n bs (second_so (is_itself b) (list_all is_itself (take n bs)) h)

@@ -6,7 +6,7 @@ use Rattle.label_base.specs.Answers.{Explains}
 use Rattle.pattern_syntax.specs.Tree.{Tree, Set}
 use Rattle.pattern_syntax.specs.Shape.{is_proper, is_proper_set, is_sequence, stack_size}
 use Rattle.pattern_syntax.specs.Nodes.{after_node}
-use Rattle.pattern_syntax.specs.Parts.{AreParts, start_trees, pattern_tree, lead_of}
+use Rattle.pattern_syntax.specs.Parts.{AreParts, IsPattern, start_trees, pattern_tree, lead_of}
 use Rattle.pattern_syntax.specs.Tokens.{Token, Bytes, Open, Close, Bar, Anchor, Times, tokens_from}
 use Rattle.pattern_syntax.specs.Reading as reading
 use Rattle.pattern_syntax.specs.Reading.{Reading, positions, after_token, structure_fault, reads_as}
@@ -138,6 +138,13 @@ Finishes (Ok parts) read end =
     (reads_as end read [] ≡ Ok (pattern_tree parts.0 parts.1.items))
     × AreParts parts.0 parts.1.items
 Finishes (Err e) read end = Explains (pattern_cause e) (reads_as end read [])
+
+-- the text is a pattern, and these are the start and the nodes of its tree; or the error is its
+-- fault, or want of memory
+abbrev pub ReadsParts : Result (List ℕ × Vec Node) PatternFault → Result Tree PatternWhy → Type 0
+ReadsParts (Ok parts) meant =
+    (meant ≡ Ok (pattern_tree parts.0 parts.1.items)) × IsPattern parts.0 parts.1.items
+ReadsParts (Err e) meant = Explains (pattern_cause e) meant
 
 abbrev pub side_positions : Option Tree → ℕ
 side_positions None = 0

@@ -16,4 +16,6 @@ pub mod Grammar
 pub mod Faults
 pub mod Literal
 pub mod Parts
+pub mod PatternValue
+pub mod Quick
 pub mod Constants

@@ -60,3 +60,4 @@ pub record IsPattern (start : List ℕ) (rest : List Node) : Type 0 where
   pub proper : is_proper (pattern_tree start rest) ≡ true
   pub choice : is_choice (pattern_tree start rest) ≡ true
   pub literal : literal_start_of (pattern_tree start rest) ≡ start
+  pub size : 2 * length start + length rest + 1 ≡ tree_size (pattern_tree start rest)

@@ -1,7 +1,7 @@
 //! The nodes of a pattern, built as its tokens are read.
 ghost use Rattle.std.specs.Prelude.{◌≡◌, ◌==◌, ◌+◌, ◌*◌, ◌∷◌, ◌++◌, [], length, ◌<◌, ◌^◌, min};
 ghost use Rattle.std.specs.Prelude.{IfOk, OnOk, Some, None, ℕ, List, true, false, is_some};
-ghost use Rattle.std.specs.Bool.{OnTrue};
+ghost use Rattle.std.specs.Prelude.{◌↔◌, IsTrue};
 ghost use Rattle.pattern_syntax.specs.Tokens as tokens;
 ghost use Rattle.pattern_syntax.specs.Nodes.{after_node, after_nodes};
 ghost use Rattle.pattern_syntax.specs.Literal.{node_code, code_byte};
@@ -400,9 +400,8 @@ impl Builder {
 
     /// Whether no group is open, and the positions are too many, whatever follows.
     pub(crate) fn is_full(&self) -> bool
-        ensures { OnTrue result
-            ((read : Reading) → IsBuilderOf self.now read → (length read.outer ≡ 0)
-            × (MOST_POSITIONS < base_positions read.level)) }
+        ensures { (read : Reading) → IsBuilderOf self.now read → IsTrue result
+            ↔ ((length read.outer ≡ 0) × (MOST_POSITIONS < base_positions read.level)) }
     {
         let open_groups = self.outer.len();
         if open_groups > 0 {

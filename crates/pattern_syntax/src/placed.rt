@@ -12,18 +12,11 @@ ghost use Rattle.pattern_syntax.specs.Views.{token_of, token_cut};
 ghost use Rattle.pattern_syntax.specs.Building.{IsProperToken};
 
 use crate::cutting::read_token;
-use crate::exact::is_metacharacter;
+use crate::exact::plain_run;
 use crate::limits::MOST_POSITIONS;
 use crate::pattern_fault::PatternFault;
 use crate::refusal::Refusal;
 use crate::token::Token;
-
-// Whether a byte stands for itself, whatever is behind it.
-fn is_itself(b: u8) -> bool
-    ensures { result ≡ is_itself b }
-{
-    !(is_metacharacter(b) || b == b'\\' || b == b')' || b == 0)
-}
 
 /// How many bytes at the beginning of a text stand for themselves, counted up to one more than a
 /// pattern may have positions.
@@ -32,17 +25,11 @@ pub(crate) fn run_length(text: &[u8]) -> usize
     ensures plain { list_all is_itself (take result text.now) ≡ true }
     ensures proper { are_text_bytes (take result text.now) ≡ true }
 {
-    let mut n = 0;
-    'bytes: while n < text.len() && n <= MOST_POSITIONS as usize {
-        if !is_itself(text[n]) {
-            return n;
-        }
-        n += 1;
-    }
-    n
+    let most = text.len().min(MOST_POSITIONS as usize + 1);
+    plain_run(&text[..most])
 }
 
-/// The token at a place, and its length. Most bytes stand for themselves, which is seen at once.
+/// The token at a place, and its length.
 pub(crate) fn token_from(bytes: &[u8], at: usize) -> Result<(Token, usize), PatternFault>
     requires room { length bytes.now < 2 ^ 32 }
     requires before_end { at < length bytes.now }
@@ -52,10 +39,6 @@ pub(crate) fn token_from(bytes: &[u8], at: usize) -> Result<(Token, usize), Patt
     ensures causes { IfErr result (λ fault. is_some (pattern_cause fault) ≡ true) }
     ensures proper { IfOk result (λ cut. IsProperToken (token_of cut.0)) }
 {
-    let b = bytes[at];
-    if is_itself(b) {
-        return Ok((Token::Byte(b), 1));
-    }
     match read_token(at == 0, &bytes[at..]) {
         Ok(cut) => Ok(cut),
         Err(Refusal::Syntax) => Err(PatternFault::Syntax { at: at as u32 }),

@@ -65,6 +65,11 @@ fn limits_are_met_exactly(rt: HostRuntime) {
     assert_eq!(rt; fault_in(a, b".{2000}"), None);
     assert_eq!(rt; fault_in(a, b".{2001}"), Some(PatternWhy::TooManyPositions));
     assert_eq!(rt; fault_in(a, b"(.{3000}){0}"), None);
+    assert_eq!(rt; fault_in(a, &[b'a'; 2000]), None);
+    assert_eq!(rt;
+        fault_in(a, &[b'a'; 2001]),
+        Some(PatternWhy::TooManyPositions)
+    );
     assert_eq!(rt;
         fault_in(a, &[b'('; 51]),
         Some(PatternWhy::TooDeep { at: 50 })
@@ -115,7 +120,27 @@ fn nodes_stand_behind_their_parts(rt: HostRuntime) -> Result<(), Fail> {
         Node::Both,
     ];
     assert_eq!(rt; pattern.start(), b"a".as_slice());
-    assert_eq!(rt; pattern.rest(), wanted.as_slice());
+    assert_eq!(rt; pattern.rest(rt.alloc())?.as_slice(), wanted.as_slice());
+    Ok(())
+}
+
+// What is read without a builder is what a builder gives.
+#[test]
+fn nodes_of_all_that_lies_below(rt: HostRuntime) -> Result<(), Fail> {
+    let a = rt.alloc();
+    let short = Pattern::read(a, b"/a(/.*)?")?;
+    let built = Pattern::read(a, b"/[a](/.*)?")?;
+    assert_eq!(rt; short.start(), b"/a".as_slice());
+    assert_eq!(rt; built.start(), b"/a".as_slice());
+    assert!(rt; !short.is_start_alone());
+    assert_eq!(rt; short.rest(a)?.as_slice(), built.rest(a)?.as_slice());
+    let most = [[b'a'; 1992].as_slice(), b"aaaaaa(/.*)?"].concat(a)?;
+    assert_eq!(rt; fault_in(a, most.as_slice()), None);
+    let more = [[b'a'; 1993].as_slice(), b"aaaaaa(/.*)?"].concat(a)?;
+    assert_eq!(rt;
+        fault_in(a, more.as_slice()),
+        Some(PatternWhy::TooManyPositions)
+    );
     Ok(())
 }
 
@@ -132,8 +157,9 @@ fn a_repeat_takes_its_byte_from_the_start(rt: HostRuntime) -> Result<(), Fail> {
         Node::Byte(b'd'),
         Node::Both,
     ];
+    assert_eq!(rt; pattern.text(), b"/a\\.bc*d".as_slice());
     assert_eq!(rt; pattern.start(), b"/a.b".as_slice());
-    assert_eq!(rt; pattern.rest(), wanted.as_slice());
+    assert_eq!(rt; pattern.rest(rt.alloc())?.as_slice(), wanted.as_slice());
     Ok(())
 }
 
@@ -149,7 +175,7 @@ fn a_bar_outside_of_groups_leaves_no_start(rt: HostRuntime) -> Result<(), Fail> 
         Node::Either,
     ];
     assert!(rt; pattern.start().is_empty());
-    assert_eq!(rt; pattern.rest(), wanted.as_slice());
+    assert_eq!(rt; pattern.rest(rt.alloc())?.as_slice(), wanted.as_slice());
     Ok(())
 }
 
@@ -161,7 +187,7 @@ fn brackets_hold_their_bytes(rt: HostRuntime) -> Result<(), Fail> {
         .with_range(b'a', b'c')
         .with_range(b'0', b'9');
     let wanted = [Node::Set(set), Node::Both];
-    assert_eq!(rt; pattern.rest(), wanted.as_slice());
+    assert_eq!(rt; pattern.rest(rt.alloc())?.as_slice(), wanted.as_slice());
     Ok(())
 }
 
@@ -186,7 +212,9 @@ fn literal_starts_end_at_the_first_other_piece(rt: HostRuntime) -> Result<(), Fa
     assert_eq!(rt; start_of(a, b"ab|ac")?.as_slice(), b"".as_slice());
     let exact = Pattern::read(a, b"/etc/shadow")?;
     assert_eq!(rt; exact.start(), b"/etc/shadow".as_slice());
-    assert!(rt; exact.rest().is_empty());
+    assert!(rt; exact.rest(a)?.is_empty());
+    assert!(rt; exact.is_start_alone());
+    assert!(rt; !Pattern::read(a, b"/etc/.")?.is_start_alone());
     Ok(())
 }
 

@@ -2,6 +2,8 @@
 use Rattle.std.proofs.Common.{◌≡◌, ◌∙◌, refl, ap, suc, Bool, true, false, cond, List, [], ◌∷◌, ◌++◌}
 use Rattle.std.proofs.Common.{ℕ, ◌+◌, ◌<◌, sym, length, length-append, get_or, take, drop, arith}
 use Rattle.std.specs.Prelude.{filter, not}
+use Rattle.std.specs.List.{list_all}
+use Rattle.std.specs.Cmp.{first_so, second_so}
 use Rattle.std.proofs.lemmas.List.{take-append-drop, take_more}
 use Rattle.std.proofs.lemmas.List.Elements.{filter-append}
 use Rattle.spec_order.specs.Order.{in_order, is_exact_spec, is_pattern_spec}
@@ -18,6 +20,24 @@ pub length_in_order : (specs : List SpecValue) → length (in_order specs) ≡ l
 length_in_order [] = refl
 length_in_order (s ∷ specs) = one_more (is_exact_spec s) s (filter is_pattern_spec specs)
     (filter is_exact_spec specs) ∙ ap suc (length_in_order specs)
+
+-- exact texts alone are in order, and no pattern is among them
+pub all_exact : (specs : List SpecValue) → list_all is_exact_spec specs ≡ true
+    → filter is_exact_spec specs ≡ specs
+all_exact [] h = refl
+all_exact (s ∷ specs) h =
+    ap (λ v. cond v (s ∷ filter is_exact_spec specs) (filter is_exact_spec specs))
+    (first_so (is_exact_spec s) (list_all is_exact_spec specs) h)
+    ∙ ap (λ l. s ∷ l)
+    (all_exact specs (second_so (is_exact_spec s) (list_all is_exact_spec specs) h))
+
+pub no_pattern : (specs : List SpecValue) → list_all is_exact_spec specs ≡ true
+    → filter is_pattern_spec specs ≡ []
+no_pattern [] h = refl
+no_pattern (s ∷ specs) h =
+    ap (λ v. cond (not v) (s ∷ filter is_pattern_spec specs) (filter is_pattern_spec specs))
+    (first_so (is_exact_spec s) (list_all is_exact_spec specs) h)
+    ∙ no_pattern specs (second_so (is_exact_spec s) (list_all is_exact_spec specs) h)
 
 -- a pattern more in front
 pub none_more : (specs : List SpecValue) (i : ℕ) (spec : SpecValue) → i < length specs

@@ -1,4 +1,5 @@
 ghost use Rattle.std.specs.Prelude.{◌≡◌, ◌++◌, ◌∷◌, [], filter, length, take, ◌≤◌, IfOk, OnOk};
+ghost use Rattle.std.specs.List.{list_all};
 ghost use Rattle.spec_order.specs.Order.{is_exact_spec, is_pattern_spec, in_order};
 
 use label_base::{OutOfMemory, Row};
@@ -30,11 +31,32 @@ fn joined_halves(
 ) -> Result<Row<Spec>, OutOfMemory>
     ensures { IfOk result (λ specs. specs ≡ in_order (base ++ home ++ local)) }
 {
-    let mut exact = Row::new(alloc);
-    let mut patterns = parted(alloc, base, &mut exact)?;
+    let (mut patterns, mut exact) = halves(alloc, base)?;
     divide(home, &mut patterns, &mut exact)?;
     divide(local, &mut patterns, &mut exact)?;
     joined(patterns, exact)
+}
+
+// Whether each is an exact text.
+fn are_exact(specs: &[Spec]) -> bool
+    ensures { result ≡ list_all is_exact_spec specs.now }
+{
+    specs.iter().all(|spec| is_exact(spec.text()))
+}
+
+// The patterns and the exact texts of the first file. Exact texts alone stay where they are: a
+// second row of as many would take as much memory again.
+#[tactic(auto, using(crate::proofs::OrderLemmas::all_exact, crate::proofs::OrderLemmas::no_pattern))]
+fn halves(alloc: Global, specs: Row<Spec>) -> Result<(Row<Spec>, Row<Spec>), OutOfMemory>
+    ensures patterns { IfOk result (λ halves. halves.0 ≡ filter is_pattern_spec specs) }
+    ensures exact { IfOk result (λ halves. halves.1 ≡ filter is_exact_spec specs) }
+{
+    if are_exact(specs.as_slice()) {
+        return Ok((Row::new(alloc), specs));
+    }
+    let mut exact = Row::new(alloc);
+    let patterns = parted(alloc, specs, &mut exact)?;
+    Ok((patterns, exact))
 }
 
 // How many stand in front of the first exact text.
@@ -46,7 +68,7 @@ fn count_before_exact(specs: &[Spec]) -> usize
 {
     let mut count = 0;
     'specs: for spec in specs {
-        if is_exact(spec.text.as_slice()) {
+        if is_exact(spec.text()) {
             return count;
         }
         count += 1;
@@ -108,7 +130,7 @@ fn add(spec: Spec, patterns: &mut Row<Spec>, exact: &mut Row<Spec>) -> Result<()
         (patterns.new ≡ patterns.old ++ filter is_pattern_spec (spec ∷ [])) }
     ensures exact { OnOk result (exact.new ≡ exact.old ++ filter is_exact_spec (spec ∷ [])) }
 {
-    if is_exact(spec.text.as_slice()) {
+    if is_exact(spec.text()) {
         exact.push(spec)
     } else {
         patterns.push(spec)
@@ -119,6 +141,9 @@ fn add(spec: Spec, patterns: &mut Row<Spec>, exact: &mut Row<Spec>) -> Result<()
 fn joined(patterns: Row<Spec>, exact: Row<Spec>) -> Result<Row<Spec>, OutOfMemory>
     ensures { IfOk result (λ specs. specs ≡ patterns ++ exact) }
 {
+    if patterns.len() == 0 {
+        return Ok(exact);
+    }
     let mut specs = patterns.into_vec();
     specs.append(&mut exact.into_vec())?;
     Ok(Row::from(specs))

@@ -64,7 +64,7 @@ fn puts_exact_texts_last(rt: HostRuntime) -> Result<(), Fail> {
         (3, "/etc/foo\\.conf"),
         (4, "/home"),
     ] {
-        assert_eq!(rt; specs.get(i).text.as_slice(), want.as_bytes(), "at {i}");
+        assert_eq!(rt; specs.get(i).text(), want.as_bytes(), "at {i}");
     }
     Ok(())
 }

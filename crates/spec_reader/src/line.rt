@@ -9,7 +9,7 @@ use crate::spec::{Decision, Spec};
 use crate::spec_fault::SpecWhy;
 use context_syntax::{Context, ContextFault};
 use file_roles::Part;
-use label_base::{Bytes, EntryKind, Fault, LineReader, next_field};
+use label_base::{EntryKind, Fault, LineReader, next_field};
 use pattern_syntax::{Pattern, PatternFault};
 use std::alloc::Global;
 
@@ -41,7 +41,6 @@ fn read_pattern(
 {
     match Pattern::read(alloc, text) {
         Ok(pattern) => Ok(Spec {
-            text: Bytes::copy_of(alloc, text)?,
             pattern,
             kind,
             decision,

@@ -1,6 +1,8 @@
+ghost use Rattle.std.specs.Prelude.{◌≡◌};
+
 use context_syntax::Context;
 use file_roles::Part;
-use label_base::{Bytes, EntryKind};
+use label_base::EntryKind;
 use pattern_syntax::Pattern;
 use std::marker::Model;
 
@@ -17,12 +19,11 @@ pub enum Decision {
 /// isn't `Other`.
 #[derive(Debug)]
 pub struct Spec {
-    /// The pattern field as it stands in the line.
-    pub text: Bytes,
+    /// The pattern field, with its text as it stands in the line.
     pub pattern: Pattern,
+    pub decision: Decision,
     /// The only kind of file that it is for, or none where it is for every kind.
     pub kind: Option<EntryKind>,
-    pub decision: Decision,
     /// The file that the line stands in.
     pub part: Part,
     /// The line's number, from 1.
@@ -33,10 +34,9 @@ pub struct Spec {
 impl Drop for Spec {
     fn drop(self) {
         let Spec {
-            text: _,
             pattern: _,
-            kind: _,
             decision: _,
+            kind: _,
             part: _,
             line: _,
         } = self;
@@ -55,8 +55,8 @@ impl Model for Spec {
 
     ghost view = { λ s.
         record {
-          text = s.text;
-          pattern = s.pattern;
+          text = s.pattern.text;
+          pattern = s.pattern.tree;
           kind = s.kind;
           decision = s.decision;
           part = s.part;
@@ -65,11 +65,20 @@ impl Model for Spec {
 
     ghost invariant = { λ s. IsSpec
         (record {
-          text = s.text;
-          pattern = s.pattern;
+          text = s.pattern.text;
+          pattern = s.pattern.tree;
           kind = s.kind;
           decision = s.decision;
           part = s.part;
           line = s.line;
         }) };
+}
+
+impl Spec {
+    /// The pattern field as it stands in the line.
+    pub fn text(&self) -> &[u8]
+        ensures { result.now ≡ self.now.text }
+    {
+        self.pattern.text()
+    }
 }

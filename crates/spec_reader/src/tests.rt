@@ -17,7 +17,7 @@ fn reads_lines(rt: HostRuntime) -> Result<(), Fail> {
     let specs = read_specs(rt.alloc(), PROC, Part::Local, 2)?;
     assert_eq!(rt; specs.len(), 2);
     let root = specs.get(0);
-    assert_eq!(rt; root.text.as_slice(), b"/".as_slice());
+    assert_eq!(rt; root.text(), b"/".as_slice());
     assert_eq!(rt; root.kind, Some(EntryKind::Directory));
     assert_eq!(rt; root.part, Part::Local);
     assert_eq!(rt; root.line, 3);
@@ -26,7 +26,7 @@ fn reads_lines(rt: HostRuntime) -> Result<(), Fail> {
     };
     assert_eq!(rt; context.kind(), b"root_t".as_slice());
     let proc = specs.get(1);
-    assert_eq!(rt; proc.text.as_slice(), b"/proc/.*".as_slice());
+    assert_eq!(rt; proc.text(), b"/proc/.*".as_slice());
     assert_eq!(rt; proc.kind, None);
     assert_eq!(rt; proc.line, 4);
     assert!(rt; matches!(&proc.decision, Decision::Leave));

@@ -1,7 +1,14 @@
 use Rattle.std.proofs.Common.{arith}
-use Rattle.pattern_syntax.proofs.RestLemmas.{full_on_true}
+use Rattle.pattern_syntax.specs.Reading.{Reading}
+use Rattle.pattern_syntax.specs.Building.{IsBuilderOf}
+use Rattle.pattern_syntax.proofs.RestLemmas.{full_told, not_full}
 use Rattle.pattern_syntax.proofs.builder.Builder.is_full.Goals as goal
 
+pub returns-then-open_groups-gt0 : goal.returns-then-open_groups-gt0
+returns-then-open_groups-gt0 c = λ (read : Reading) (s : IsBuilderOf c.args.self.now read).
+    not_full c.args.self.now read s (omega arith)
+
 pub returns : goal.returns
-returns c = full_on_true c.args.self.now c.unwrap_or.result c.sum.result (omega arith)
+returns c = λ (read : Reading) (s : IsBuilderOf c.args.self.now read).
+    full_told c.args.self.now read c.unwrap_or.result c.sum.result s (omega arith)
     c.unwrap_or.ensures c.sum.ensures

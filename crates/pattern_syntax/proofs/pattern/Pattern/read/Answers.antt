@@ -1,54 +1,39 @@
-use Rattle.std.proofs.Common.{arith, ◌∙◌, refl, length, ap, sym}
+use Rattle.std.proofs.Common.{arith, refl, ◌∙◌, ap, sym}
 use Rattle.std.specs.Prelude.{Ok}
-use Rattle.std.proofs.lemmas.Result.{err_from_is_err_and}
-use Rattle.std.proofs.lemmas.Bool.{OnTrue_at}
 use Rattle.pattern_syntax.specs.Tree.{Tree}
-use Rattle.pattern_syntax.specs.Reading.{new_reading, pattern_of}
-use Rattle.pattern_syntax.specs.PatternCause.{pattern_cause}
-use Rattle.pattern_syntax.proofs.BuildingLemmas.{all_read, end_explained}
-use Rattle.pattern_syntax.proofs.RestLemmas.{rest_refused}
+use Rattle.pattern_syntax.specs.PatternValue.{tree_read}
+use Rattle.pattern_syntax.proofs.KeptLemmas.{kept, kept_there, text_there, read_tree, start_short}
+use Rattle.pattern_syntax.proofs.PlainLemmas.{plain_read, below_read}
 use Rattle.pattern_syntax.proofs.pattern.Pattern.read.Goals as goal
 
-pub tokens-init : goal.tokens-init
-unfolding pattern_of
-tokens-init c = (new_reading, c.in_ok-builder.ensures, omega arith, refl)
+pub invariant_of-result : goal.invariant_of-result
+invariant_of-result c =
+    kept_there c.in_ok-kept.kept.items c.args.bytes.now c.in_ok-start.start _
+    c.in_ok-kept.is_behind c.is_empty.result c.len.ensures
+    (rw c.as_slice.ensures at c.in_ok-kept.ensures.both)
+    (rw c.as_slice.ensures at c.in_ok-kept.ensures.end)
+    (kept c.args.bytes.now c.in_ok-start.start c.in_ok-start.rest.items _ c.is_empty.result
+    c.requires c.in_ok-start.ensures.0 c.in_ok-start.ensures.1 (omega arith) c.is_empty.ensures)
 
-pub returns-in_err-at : goal.returns-in_err-at
-returns-in_err-at c =
-    let i = c.tokens.invariant in
-    let p = err_from_is_err_and c.from_residual-in_err-at.result
-    c.from_residual-in_err-at.ensures.1 in
-    rw (p.1, p.2)
-    (end_explained (pattern_cause c.in_err-at.field-0.0) (pattern_of c.args.bytes.now) _ i.3
-    (c.in_err-at.ensures i.0 i.1))
+pub returns-clause-read : goal.returns-clause-read
+returns-clause-read c = c.in_ok-start.ensures.0 ∙ ap (λ (t : Tree). Ok t)
+    (sym (ap tree_read (text_there c.in_ok-kept.kept.items c.args.bytes.now c.in_ok-start.start _
+    c.in_ok-kept.is_behind c.len.ensures
+    (rw c.as_slice.ensures at c.in_ok-kept.ensures.both)
+    (rw c.as_slice.ensures at c.in_ok-kept.ensures.end))
+    ∙ read_tree c.args.bytes.now _ c.in_ok-start.ensures.0))
 
-pub tokens-preserved : goal.tokens-preserved
-tokens-preserved c =
-    let i = c.tokens.invariant in
-    let r = c.in_ok-at.ensures in
-    let more = r.2 i.0 i.1 in
-    (more.0, more.1, r.1, i.3 ∙ more.2)
+pub overflow_cast-result : goal.overflow_cast-result
+overflow_cast-result c =
+    let n = start_short c.args.bytes.now c.in_ok-start.start c.in_ok-start.rest.items
+    c.in_ok-start.ensures.0 c.in_ok-start.ensures.1 in
+    omega (arith, n, c.len.ensures)
 
-pub returns-then-is_full : goal.returns-then-is_full
-returns-then-is_full c =
-    let i = c.tokens.invariant in
-    let f = OnTrue_at c.if-is_full.true c.is_full.ensures i.0 i.1 in
-    rw c.refuse_rest.ensures (rest_refused (pattern_of c.args.bytes.now) (length c.args.bytes.now)
-    i.0 c.is_after_piece.result _ i.3 f.0 (c.is_after_piece.ensures i.0 i.1) f.1)
+pub begun-requires-clause-read : goal.begun-requires-clause-read
+begun-requires-clause-read c = plain_read c.args.bytes.now _ refl c.requires
+    (c.is_run_alone.ensures c.if-is_run_alone.true)
 
-pub returns-in_err-start : goal.returns-in_err-start
-returns-in_err-start c =
-    let i = c.tokens.invariant in
-    let p = err_from_is_err_and c.from_residual-in_err-start.result
-    c.from_residual-in_err-start.ensures.1 in
-    rw (p.1, p.2)
-    (end_explained (pattern_cause c.in_err-start.field-0.0) (pattern_of c.args.bytes.now) _
-    (all_read (pattern_of c.args.bytes.now) i.0 c.tokens.at c.args.bytes.now (omega arith) i.3)
-    (c.in_err-start.ensures i.0 i.1))
-
-pub returns : goal.returns
-returns c =
-    let i = c.tokens.invariant in
-    all_read (pattern_of c.args.bytes.now) i.0 c.tokens.at c.args.bytes.now (omega arith) i.3
-    ∙ (c.in_ok-start.ensures i.0 i.1).0
-    ∙ ap (λ (t : Tree). Ok t) (rw c.as_slice.ensures.value at (sym c.in_ok-of_parts.ensures))
+pub begun-requires-then-has_all_below-clause-read
+    : goal.begun-requires-then-has_all_below-clause-read
+begun-requires-then-has_all_below-clause-read c = below_read c.args.bytes.now _ c.requires
+    (c.has_all_below.ensures c.if-has_all_below.true)

@@ -2,7 +2,7 @@ use Rattle.std.proofs.Common.{◌≡◌, ◌≤◌, ◌-◌, length, drop}
 use Rattle.pattern_syntax.specs.Tokens.{tokens_from}
 use Rattle.pattern_syntax.specs.Reading.{Reading, reads_as, pattern_of}
 use Rattle.pattern_syntax.specs.Building.{IsBuilderOf}
-use Rattle.pattern_syntax.proofs.pattern.Pattern.read.Given as goal
+use Rattle.pattern_syntax.proofs.pattern.start_and_rest.Given as goal
 
 abbrev pub invariant-tokens : goal.invariant-tokens
 invariant-tokens l =
