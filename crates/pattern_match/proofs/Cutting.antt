@@ -2,9 +2,10 @@
 use Rattle.std.proofs.Common.{◌≡◌, refl, sym, ◌∙◌, ap, subst, ℕ, ◌+◌, ◌≤◌, ◌==◌, Bool, true, false}
 use Rattle.std.proofs.Common.{List, [], ◌∷◌, ◌++◌, length, Option, Some, None, arith, append_assoc}
 use Rattle.std.proofs.Common.{append-nil, length-append}
-use Rattle.pattern_syntax.proofs.PartsLemmas.{only_byte}
+use Rattle.pattern_syntax.proofs.PartsLemmas.{only_byte, joined_parts, start_literal}
 use Rattle.std.specs.Cmp.{first_so, second_so}
-use Rattle.std.specs.Prelude.{◌||◌, unwrap_or, fold}
+use Rattle.std.proofs.lemmas.List.Sums.{fold_push}
+use Rattle.std.specs.Prelude.{◌||◌, unwrap_or}
 use Rattle.std.specs.List.{list_any}
 use Rattle.pattern_syntax.specs.Tree.{Tree, tree_from, Set, Nothing, Both, Either, Repeat}
 use Rattle.pattern_syntax.specs.Language.{In}
@@ -15,6 +16,7 @@ use Rattle.pattern_syntax.specs.Nodes.{after_node, after_nodes, nodes_tree}
 use Rattle.pattern_syntax.specs.declared.node.Node.{Node}
 use Rattle.pattern_syntax.specs.declared.node.Node.TheVariants as node
 use Rattle.pattern_match.specs.Starts.{unless_literal, behind_start, set_in_front, StartParts}
+use Rattle.pattern_match.specs.Starts.{with_start}
 
 -- a text that goes on behind a front into a language
 abbrev pub Follows : List ℕ → Tree → List ℕ → Type 0
@@ -42,12 +44,6 @@ byte_text Nothing b h text = cc
 byte_text (Both f s) b h text = cc
 byte_text (Either l r) b h text = cc
 byte_text (Repeat least most x) b h text = cc
-
-joined_parts : (o : Option (List ℕ)) (p : Option ℕ) (bytes : List ℕ) → start_joined o p ≡ Some bytes
-    → (start : List ℕ) × (b : ℕ) × (o ≡ Some start) × (p ≡ Some b) × (bytes ≡ start ++ b ∷ [])
-joined_parts None p bytes h = cc
-joined_parts (Some start) None bytes h = cc
-joined_parts (Some start) (Some b) bytes h = (start, b, refl, refl, cc)
 
 -- the language of single bytes
 pub literal_text : (t : Tree) (bytes : List ℕ) → single_bytes t ≡ Some bytes → (text : List ℕ)
@@ -228,18 +224,6 @@ behind_front front start (Both f g) e s p h =
         let m : length bytes ≡ length start = ap length h in
         absurd (omega arith)
 
-bytes_literal : (t : Tree) (start bytes : List ℕ) → single_bytes t ≡ Some start
-    → single_bytes (fold with_byte t bytes) ≡ Some (start ++ bytes)
-bytes_literal t start [] h = h ∙ ap Some (sym (append-nil start))
-bytes_literal t start (b ∷ bs) h =
-    let e : start_joined (single_bytes t) (Some b) ≡ Some (start ++ b ∷ []) = rw h refl in
-    bytes_literal (Both t (Set (b ∷ []))) (start ++ b ∷ []) bs e
-    ∙ ap Some (append_assoc start (b ∷ []) bs)
-
--- a start as a sequence
-pub start_literal : (start : List ℕ) → single_bytes (bytes_tree start) ≡ Some start
-start_literal start = bytes_literal Nothing [] start refl
-
 sequence_behind : (front t : Tree) → is_sequence (set_in_front front t) ≡ true
     → is_sequence t ≡ true
 sequence_behind front Nothing h = refl
@@ -287,3 +271,43 @@ parts_are Nothing ns p h = sequence_parts Nothing ns p refl h
 parts_are (Set bytes) ns p h = other_parts (Set bytes) ns refl refl h
 parts_are (Either l r) ns p h = other_parts (Either l r) ns refl refl h
 parts_are (Repeat least most x) ns p h = other_parts (Repeat least most x) ns refl refl h
+
+byte_set : (t : Tree) (b : ℕ) → single_byte t ≡ Some b → t ≡ Set (b ∷ [])
+byte_set (Set bytes) b h = ap Set (only_byte bytes b h)
+byte_set Nothing b h = cc
+byte_set (Both f s) b h = cc
+byte_set (Either l r) b h = cc
+byte_set (Repeat least most x) b h = cc
+
+-- a sequence of single bytes is that of its bytes
+literal_tree : (t : Tree) (bytes : List ℕ) → single_bytes t ≡ Some bytes → bytes_tree bytes ≡ t
+literal_tree Nothing bytes h = let e : [] ≡ bytes = cc in ap bytes_tree (sym e)
+literal_tree (Both f s) bytes h =
+    let j = joined_parts (single_bytes f) (single_byte s) bytes h in
+    ap bytes_tree j.4 ∙ fold_push with_byte Nothing j.0 j.1
+    ∙ ap (λ (x : Tree). Both x (Set (j.1 ∷ []))) (literal_tree f j.0 j.2)
+    ∙ ap (Both f) (sym (byte_set s j.1 j.3))
+literal_tree (Set bs) bytes h = cc
+literal_tree (Either l r) bytes h = cc
+literal_tree (Repeat least most x) bytes h = cc
+
+-- a pattern is its start and what stands behind it
+pub whole_again : (t : Tree) → with_start (literal_start_of t) (behind_start t) ≡ t
+whole_again (Set bytes) = refl
+whole_again Nothing = refl
+whole_again (Both f s) =
+    at (start_joined (single_bytes f) (single_byte s)) refl (whole_again f)
+  where
+    at : (o : Option (List ℕ)) → start_joined (single_bytes f) (single_byte s) ≡ o
+        → with_start (literal_start_of f) (behind_start f) ≡ f
+        → with_start (unwrap_or o (literal_start_of f))
+        (unless_literal o (Both (behind_start f) s)) ≡ Both f s
+    at None h e = ap (λ x. Both x s) e
+    at (Some bytes) h e = literal_tree (Both f s) bytes h
+whole_again (Either l r) = ap (λ x. Either x r) (empty_front l)
+whole_again (Repeat least most x) = ap (Repeat least most) (empty_front x)
+
+pub joined_whole : (t : Tree) (start : List ℕ) (rest : Tree) → start ≡ literal_start_of t
+    → rest ≡ behind_start t → with_start start rest ≡ t
+joined_whole t start rest s r = ap (λ l. with_start l rest) s
+    ∙ ap (with_start (literal_start_of t)) r ∙ whole_again t

@@ -1,31 +1,30 @@
 -- A pattern that is its literal start alone.
-use Rattle.std.proofs.Common.{◌≡◌, ◌∙◌, sym, refl, ap, subst, ℕ, true, List, [], ◌∷◌, ◌++◌}
-use Rattle.std.proofs.Common.{append-nil, length, ◌==◌, arith}
+use Rattle.std.proofs.Common.{◌≡◌, ◌∙◌, sym, refl, ap, subst, ℕ, ◌≤◌, false, true, List, []}
+use Rattle.std.proofs.Common.{◌++◌, append-nil, length, inl, inr, arith}
+use Rattle.std.specs.Prelude.{Option, Some, None, is_some}
 use Rattle.std.specs.Cmp.{both_ways}
 use Rattle.std.specs.Cmp.Lexicographic.{bytes_decides}
 use Rattle.label_base.specs.Text.{same_bytes}
 use Rattle.pattern_syntax.specs.Tree.{Tree, Nothing}
 use Rattle.pattern_syntax.specs.Language.{In, holds}
-use Rattle.pattern_syntax.specs.Literal.{literal_start_of}
-use Rattle.pattern_syntax.specs.Nodes.{after_nodes, nodes_tree}
-use Rattle.pattern_syntax.specs.Parts.{bytes_tree}
-use Rattle.pattern_syntax.specs.Shape.{is_proper}
-use Rattle.pattern_syntax.specs.declared.node.Node.{Node}
-use Rattle.pattern_syntax.specs.declared.node.Node.TheVariants as node
+use Rattle.pattern_syntax.specs.Literal.{literal_start_of, single_bytes}
 use Rattle.pattern_match.specs.Automaton.{automaton}
 use Rattle.pattern_match.specs.Starts.{behind_start}
 use Rattle.pattern_match.specs.States.{AreMarksBy, AreMarksOf, AreStatesOf, IsBehind, Progress}
 use Rattle.pattern_match.specs.States.{StandsFor, is_bare}
-use Rattle.pattern_match.proofs.Cutting.{Follows, cut_behind_start, parts_are}
+use Rattle.pattern_match.proofs.Cutting.{Follows, cut_behind_start, literal_behind}
 use Rattle.pattern_match.proofs.Holding.{holds_tells}
-use Rattle.pattern_match.proofs.Ready.{bare_behind}
-use Rattle.pattern_match.proofs.Standing.{stands_at_start}
+use Rattle.pattern_match.specs.Settled.{StatesLeadOnward, StatesStay}
+use Rattle.pattern_match.proofs.Ready.{bare_behind, bare_unmarked}
+use Rattle.pattern_match.proofs.Standing.{Tells, false_tells, stands_at_start}
 
-pub nothing_behind : (t : Tree) (nodes : List Node) → is_proper t ≡ true
-    → after_nodes nodes (bytes_tree (literal_start_of t) ∷ []) ≡ t ∷ []
-    → nodes ≡ [] → behind_start t ≡ Nothing
-nothing_behind t nodes p h e =
-    sym (parts_are t nodes p h).behind ∙ ap (λ ns. nodes_tree (node.Nothing ∷ ns)) e
+pub nothing_behind : (t : Tree) → is_some (single_bytes t) ≡ true → behind_start t ≡ Nothing
+nothing_behind t h = by_bytes (single_bytes t) refl h
+  where
+    by_bytes : (o : Option (List ℕ)) → single_bytes t ≡ o → is_some o ≡ true
+        → behind_start t ≡ Nothing
+    by_bytes None e h = cc
+    by_bytes (Some bytes) e h = literal_behind t bytes e
 
 pub start_alone : (t : Tree) → behind_start t ≡ Nothing → (text : List ℕ)
     → holds t text ≡ same_bytes text (literal_start_of t)
@@ -44,10 +43,6 @@ start_alone t e text =
           ∙ sym (append-nil start),
       refl,
     ))))
-
-pub empty_list : {X : Type 0} (xs : List X) → (length xs == 0) ≡ true → xs ≡ []
-empty_list [] h = refl
-empty_list (x ∷ xs) h = absurd (grind (arith, h))
 
 pub nothing_is_bare : is_bare Nothing ≡ true
 unfolding automaton
@@ -72,3 +67,21 @@ text_begun states z tree e =
     (subst (λ b. (text : List ℕ) → (IsBehind b states.marks text → In b text)
     × (In b text → IsBehind b states.marks text)) (sym e)
     (λ text. bare_behind Nothing states.marks text nothing_is_bare))
+
+-- no place is marked of a pattern without a rest
+pub text_leads_not : (t : Tree) (states : Progress) → behind_start t ≡ Nothing
+    → AreStatesOf t states → Tells false (StatesLeadOnward t states)
+text_leads_not t states e a =
+    false_tells (StatesLeadOnward t states)
+    (λ s. bare_unmarked (behind_start t) states.marks (ap is_bare e ∙ nothing_is_bare) a.marks
+    s.behind.place s.behind.marked)
+
+-- while its bytes are read, or all were read, another one leads on
+pub text_stays_not : (t : Tree) (inside states : Progress) (n : ℕ) → behind_start t ≡ Nothing
+    → inside ≡ states → n ≡ length (literal_start_of t) → inside.seen ≤ n
+    → Tells false (StatesStay t states)
+text_stays_not t inside states n e i l m = false_tells (StatesStay t states) at
+  where
+    at : StatesStay t states → ⊥
+    at (inl a) = let q : inside.seen ≡ states.seen = ap (λ (p : Progress). p.seen) i in omega arith
+    at (inr a) = let b : true ≡ false = sym nothing_is_bare ∙ ap is_bare (sym e) ∙ a.1.some in cc

@@ -16,7 +16,6 @@ use Rattle.pattern_match.specs.States.{AreStatesOf, Progress, words_by, words_fo
 use Rattle.pattern_match.specs.Starts.{behind_start}
 use Rattle.pattern_match.specs.States.{AreMarksOf, IsBehind, IsRead}
 use Rattle.pattern_match.specs.Onwards.{AreTextBytes}
-use Rattle.pattern_syntax.specs.Nodes.{rest_tree}
 use Rattle.pattern_match.specs.Compiled.{AreTablesReady, IsReadyFor, IsCompiled}
 use Rattle.pattern_match.specs.declared.machine.Machine.TheInside.{Inside}
 use Rattle.pattern_match.specs.declared.class.Class.{Class}
@@ -80,9 +79,9 @@ bare_unmarked t marks e a p h =
     omega arith
 
 -- what a machine keeps, as its pattern's
-pub ready_by : (m : Inside) (t : Tree) → rest_tree m.nodes.now ≡ t → IsCompiled m
+pub ready_by : (m : Inside) (t : Tree) → behind_start m.pattern.now.tree ≡ t → IsCompiled m
     → IsReadyFor t m.tables.now
-ready_by m t is kept = subst (λ u. IsReadyFor u m.tables.now) is kept
+ready_by m t is kept = subst (λ u. IsReadyFor u m.tables.now) is kept.behind
 
 module _ (t : Tree) (bare : Bool) (rows width : ℕ) (follow accept : List ℕ) (classes : List Class)
     (r : AreTablesReady t bare rows width follow accept classes) where

@@ -2,7 +2,6 @@
 use Rattle.std.specs.Prelude.{◌≡◌, ℕ, Bool, true, false, List, length}
 use Rattle.std.specs.Coded.{Coded-set, coded_list, coded_ℕ, Π_prop}
 use mathlib.Core.Bool.{Bool-set}
-use Rattle.pattern_syntax.specs.Nodes.{rest_tree}
 use Rattle.pattern_syntax.specs.Tree.{Tree}
 use Rattle.pattern_match.specs.Automaton.{Place, automaton, all_places}
 use Rattle.pattern_match.specs.States.{is_bare}
@@ -58,4 +57,4 @@ are_tables tree t x y = λ i. record {
 }
 
 abbrev pub IsCompiled : Inside → Type 0
-IsCompiled m = IsReadyFor (rest_tree m.nodes.now) m.tables.now
+IsCompiled m = AreTablesOf m.pattern.now.tree m.tables.now

@@ -42,6 +42,8 @@ pub fn can_repeat(start: usize, places: usize, least: u32, most: Option<u32>) ->
     ensures copies { result ≡ true → 0 < copies_of least most }
     ensures count { result ≡ true → is_count least most ≡ true }
     ensures few { result ≡ true → start + copies_of least most * places ≤ 63 }
+    ensures all { 0 < places → 0 < copies_of least most → is_count least most ≡ true
+        → start + copies_of least most * places ≤ 63 → result ≡ true }
 {
     let copies = copies_of(least, most);
     if places == 0 {

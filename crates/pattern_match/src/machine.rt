@@ -2,8 +2,8 @@ ghost use Rattle.std.specs.Prelude.{◌≡◌, ◌∷◌, ◌+◌, ◌/◌, ◌<
 ghost use Rattle.std.specs.Prelude.{IfOk};
 ghost use Rattle.std.specs.Prelude.{IsTrue};
 ghost use Rattle.pattern_syntax.specs.Language.{In};
-ghost use Rattle.pattern_syntax.specs.Nodes.{rest_tree};
-ghost use Rattle.pattern_match.specs.Compiled.{IsReadyFor};
+ghost use Rattle.pattern_match.specs.Starts.{behind_start};
+ghost use Rattle.pattern_match.specs.Compiled.{AreTablesOf};
 ghost use Rattle.pattern_match.specs.Onwards.{AreTextBytes};
 ghost use Rattle.pattern_match.specs.Settled.{MarksLeadOnward, MarksStay};
 ghost use Rattle.pattern_match.specs.States.{AreMarksOf, IsBehind, IsRead, is_bare, words_for};
@@ -14,15 +14,15 @@ use crate::marks::Marks;
 use crate::readying::PatternTables;
 use crate::steady::are_steady;
 use label_base::OutOfMemory;
-use pattern_syntax::Node;
+use pattern_syntax::Pattern;
 use std::alloc::Global;
 use std::marker::Model;
 
-/// The automaton of what stands behind a pattern's literal start, seen as that: nodes in postfix
-/// order, and their tables.
+/// The automaton of what stands behind a pattern's literal start, seen as that: the pattern, and
+/// the tables of what stands there.
 #[derive(Drop)]
 pub struct Machine<'a> {
-    nodes: &'a [Node],
+    pattern: &'a Pattern,
     tables: &'a PatternTables,
 }
 
@@ -33,21 +33,21 @@ impl<'a> Model for Machine<'a> {
 
     ghost coded = { tree_code };
 
-    ghost use Rattle.pattern_syntax.specs.Nodes.{rest_tree};
+    ghost use Rattle.pattern_match.specs.Starts.{behind_start};
     ghost use Rattle.pattern_match.specs.Compiled.{IsCompiled};
 
-    ghost view = { λ m. rest_tree m.nodes.now };
+    ghost view = { λ m. behind_start m.pattern.now.tree };
 
     ghost invariant = { IsCompiled };
 }
 
 impl<'a> Machine<'a> {
-    /// The automaton of nodes behind an empty sequence, whose tables these are.
-    pub fn new(nodes: &'a [Node], tables: &'a PatternTables) -> Machine<'a>
-        requires { IsReadyFor (rest_tree nodes.now) tables.now }
-        ensures { result ≡ rest_tree nodes.now }
+    /// The automaton of what stands behind the pattern's start, whose tables these are.
+    pub fn new(pattern: &'a Pattern, tables: &'a PatternTables) -> Machine<'a>
+        requires { AreTablesOf pattern.now.tree tables.now }
+        ensures { result ≡ behind_start pattern.now.tree }
     {
-        Machine { nodes, tables }
+        Machine { pattern, tables }
     }
 
     /// Whether the empty text is all that it holds.

@@ -12,7 +12,7 @@ ghost use Rattle.pattern_match.specs.Compiled.{AreTablesOf};
 ghost use Rattle.pattern_match.specs.States.{AreStatesOf, Below, HasRoomFor, StandsFor};
 
 use crate::machine::Machine;
-use crate::readying::{PatternTables, rest_of};
+use crate::readying::PatternTables;
 use crate::states::States;
 use file_paths::NormPath;
 use label_base::OutOfMemory;
@@ -67,7 +67,8 @@ fn begins_with(text: &[u8], start: &[u8]) -> bool
 /// Whether the text begins with the pattern's literal start. Where it doesn't, it isn't in the
 /// language.
 pub fn may_hold(pattern: &Pattern, text: &[u8]) -> bool
-    ensures { result ≡ false → holds pattern.now text.now ≡ false }
+    ensures value { result ≡ starts_with nat_eq text.now (literal_start_of pattern.now.tree) }
+    ensures outside { result ≡ false → holds pattern.now.tree text.now ≡ false }
 {
     let start = pattern.start();
     begins_with(text, start)
@@ -76,12 +77,12 @@ pub fn may_hold(pattern: &Pattern, text: &[u8]) -> bool
 impl<'a> Matcher<'a> {
     /// The matcher of a pattern, whose tables these are.
     pub fn new(pattern: &'a Pattern, tables: &'a PatternTables) -> Matcher<'a>
-        requires { AreTablesOf pattern.now tables.now }
-        ensures { result ≡ pattern.now }
+        requires { AreTablesOf pattern.now.tree tables.now }
+        ensures { result ≡ pattern.now.tree }
     {
         Matcher {
             start: pattern.start(),
-            machine: Machine::new(rest_of(pattern), tables),
+            machine: Machine::new(pattern, tables),
         }
     }
 
@@ -209,6 +210,7 @@ impl<'a> Matcher<'a> {
         requires from { AreStatesOf self.now from.now.known }
         requires to { HasRoomFor self.now to.old.room }
         ensures made { AreStatesOf self.now to.new.known }
+        ensures same { to.new.known ≡ from.now.known }
         ensures stands { (text : List ℕ) → StandsFor self.now from.now.known text
             → StandsFor self.now to.new.known text }
         ensures room { to.new.room ≡ to.old.room }

@@ -1,9 +1,10 @@
-ghost use Rattle.std.specs.Prelude.{◌≡◌, ◌++◌, ◌∷◌, ◌↔◌, true, ℕ, List, [], IsTrue};
+ghost use Rattle.std.specs.Prelude.{◌≡◌, ◌<◌, ◌++◌, ◌∷◌, ◌↔◌, true, ℕ, List, [], IsTrue, is_some};
 ghost use Rattle.label_base.specs.Text.{same_bytes};
 ghost use Rattle.pattern_syntax.specs.Tree.{Nothing};
 ghost use Rattle.pattern_syntax.specs.Language.{Opens, holds};
-ghost use Rattle.pattern_syntax.specs.Literal.{literal_start_of};
+ghost use Rattle.pattern_syntax.specs.Literal.{literal_start_of, single_bytes};
 ghost use Rattle.pattern_match.specs.Starts.{behind_start};
+ghost use Rattle.pattern_match.specs.Settled.{StatesStay};
 ghost use Rattle.pattern_match.specs.States.{AreStatesOf, StandsFor};
 
 use crate::states::States;
@@ -12,21 +13,21 @@ use pattern_syntax::Pattern;
 /// Whether the pattern's language is one text, its literal start, so that a comparison does for a
 /// [`Matcher`](crate::Matcher).
 pub fn is_one_text(pattern: &Pattern) -> bool
-    ensures rest { result ≡ true → behind_start pattern.now ≡ Nothing }
+    ensures value { result ≡ is_some (single_bytes pattern.now.tree) }
+    ensures rest { result ≡ true → behind_start pattern.now.tree ≡ Nothing }
     ensures text { result ≡ true → (text : List ℕ)
-        → holds pattern.now text ≡ same_bytes text (literal_start_of pattern.now) }
+        → holds pattern.now.tree text ≡ same_bytes text (literal_start_of pattern.now.tree) }
 {
-    pattern.has_no_empty_set();
-    pattern.rest().is_empty()
+    pattern.is_start_alone()
 }
 
 /// Goes on by a byte, where the pattern is one text: what the states stand for gets it at its end.
 pub fn step_text(pattern: &Pattern, states: &mut States, byte: u8)
-    requires one { behind_start pattern.now ≡ Nothing }
-    requires made { AreStatesOf pattern.now states.old.known }
-    ensures made { AreStatesOf pattern.now states.new.known }
-    ensures stands { (text : List ℕ) → StandsFor pattern.now states.old.known text
-        → StandsFor pattern.now states.new.known (text ++ byte ∷ []) }
+    requires one { behind_start pattern.now.tree ≡ Nothing }
+    requires made { AreStatesOf pattern.now.tree states.old.known }
+    ensures made { AreStatesOf pattern.now.tree states.new.known }
+    ensures stands { (text : List ℕ) → StandsFor pattern.now.tree states.old.known text
+        → StandsFor pattern.now.tree states.new.known (text ++ byte ∷ []) }
     ensures room { states.new.room ≡ states.old.room }
 {
     let seen = states.seen;
@@ -47,9 +48,9 @@ pub fn step_text(pattern: &Pattern, states: &mut States, byte: u8)
 
 /// Whether the text that was read is in the language, where the pattern is one text.
 pub fn accepts_text(pattern: &Pattern, states: &States) -> bool
-    requires one { behind_start pattern.now ≡ Nothing }
-    ensures { (text : List ℕ) → StandsFor pattern.now states.now.known text
-        → result ≡ holds pattern.now text }
+    requires one { behind_start pattern.now.tree ≡ Nothing }
+    ensures { (text : List ℕ) → StandsFor pattern.now.tree states.now.known text
+        → result ≡ holds pattern.now.tree text }
 {
     let start = pattern.start();
     if states.seen != start.len() {
@@ -60,15 +61,31 @@ pub fn accepts_text(pattern: &Pattern, states: &States) -> bool
 
 /// Whether the pattern, which is one text, begins with the text that was read.
 pub fn is_text_alive(pattern: &Pattern, states: &States) -> bool
-    requires one { behind_start pattern.now ≡ Nothing }
-    ensures { (text : List ℕ) → StandsFor pattern.now states.now.known text
-        → IsTrue result ↔ Opens pattern.now text }
+    requires one { behind_start pattern.now.tree ≡ Nothing }
+    ensures { (text : List ℕ) → StandsFor pattern.now.tree states.now.known text
+        → IsTrue result ↔ Opens pattern.now.tree text }
 {
     let start = pattern.start();
     if states.seen > start.len() {
         return false;
     }
     true
+}
+
+/// Whether another byte was met than that of the pattern, which is one text. Then nothing is left,
+/// whichever byte follows.
+pub fn stays_text(pattern: &Pattern, states: &States) -> bool
+    requires one { behind_start pattern.now.tree ≡ Nothing }
+    ensures exact { IsTrue result ↔ StatesStay pattern.now.tree states.now.known }
+    ensures stands { result ≡ true → (byte : ℕ) → 0 < byte → byte < 256
+        → (text : List ℕ) → StandsFor pattern.now.tree states.now.known text
+        → StandsFor pattern.now.tree states.now.known (text ++ byte ∷ []) }
+{
+    let start = pattern.start();
+    if states.seen > start.len() {
+        return true;
+    }
+    false
 }
 
 #[cfg(test)]
@@ -105,6 +122,28 @@ mod tests {
         assert_eq!(rt;
             read_on(rt.alloc(), &pattern, b'b'),
             Some((true, false, false))
+        );
+        Ok(())
+    }
+
+    // Whether the states stay before the first byte, and behind one.
+    fn stay_behind(alloc: Global, pattern: &Pattern, byte: u8) -> Option<(bool, bool)> {
+        if !is_one_text(pattern) {
+            return None;
+        }
+        let mut states = States::with_room(alloc, 0).ok()?;
+        states.restart_text();
+        let first = stays_text(pattern, &states);
+        step_text(pattern, &mut states, byte);
+        Some((first, stays_text(pattern, &states)))
+    }
+
+    #[test]
+    fn one_text_behind_another_byte(rt: HostRuntime) -> Result<(), Fail> {
+        let pattern = Pattern::read(rt.alloc(), b"/a")?;
+        assert_eq!(rt;
+            stay_behind(rt.alloc(), &pattern, b'b'),
+            Some((false, true))
         );
         Ok(())
     }

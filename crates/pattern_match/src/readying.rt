@@ -2,10 +2,9 @@ ghost use Rattle.std.specs.Prelude.{◌≡◌, ◌+◌, ◌<◌, ◌≤◌, ◌=
 ghost use Rattle.std.specs.Prelude.{IfOk, IfSome, length};
 ghost use Rattle.pattern_syntax.specs.Nodes.{nodes_tree, rest_tree};
 ghost use Rattle.pattern_syntax.specs.Tree.{Tree};
-ghost use Rattle.pattern_syntax.specs.Literal.{literal_start_of};
-ghost use Rattle.pattern_match.specs.Starts.{StartParts};
+ghost use Rattle.pattern_match.specs.Starts.{behind_start};
 ghost use Rattle.pattern_match.specs.Compiled.{AreTablesOf, IsReadyFor};
-ghost use Rattle.pattern_match.specs.States.{HasRoomFor};
+ghost use Rattle.pattern_match.specs.States.{HasRoomFor, words_for};
 ghost use Rattle.pattern_match.specs.Segments.{in_word};
 ghost use Rattle.pattern_match.specs.Whole.{IsWholeSegment};
 
@@ -38,15 +37,18 @@ pub struct PatternTables {
 impl PatternTables {
     /// The tables of a pattern. There may be too little memory for them.
     pub fn new(alloc: Global, pattern: &Pattern) -> Result<PatternTables, OutOfMemory>
-        ensures { IfOk result (AreTablesOf pattern.now) }
+        ensures { IfOk result (AreTablesOf pattern.now.tree) }
     {
-        let tables = made_of_rest(alloc, rest_of(pattern))?;
+        let rest = rest_of(alloc, pattern)?;
+        let tables = made_of_rest(alloc, rest)?;
         Ok(tables)
     }
 
     /// For how many words of marks states must have room.
     pub fn words(&self) -> usize
-        ensures { (tree : Tree) → AreTablesOf tree self.now → HasRoomFor tree result }
+        ensures value { (tree : Tree) → AreTablesOf tree self.now
+            → result ≡ words_for (behind_start tree) }
+        ensures room { (tree : Tree) → AreTablesOf tree self.now → HasRoomFor tree result }
     {
         self.width
     }
@@ -183,25 +185,24 @@ fn of_many(alloc: Global, nodes: &[Node]) -> Result<PatternTables, OutOfMemory>
     })
 }
 
-/// The nodes behind a pattern's literal start.
-pub fn rest_of(pattern: &Pattern) -> &[Node]
-    ensures { StartParts pattern.now (literal_start_of pattern.now) (rest_tree result.now) }
+// The nodes behind a pattern's literal start.
+fn rest_of(alloc: Global, pattern: &Pattern) -> Result<Vec<Node>, OutOfMemory>
+    ensures { IfOk result (λ rest. rest_tree rest.items ≡ behind_start pattern.now.tree) }
 {
     pattern.has_no_empty_set();
-    pattern.rest()
+    let rest = pattern.rest(alloc)?;
+    Ok(rest)
 }
 
 // The nodes behind a start, as a sequence of their own.
-fn sequence(alloc: Global, rest: &[Node]) -> Result<Vec<Node>, OutOfMemory>
-    ensures { IfOk result (λ nodes. nodes_tree nodes.items ≡ rest_tree rest.now) }
+fn sequence(rest: Vec<Node>) -> Result<Vec<Node>, OutOfMemory>
+    ensures { IfOk result (λ nodes. nodes_tree nodes.items ≡ rest_tree rest.items) }
 {
-    let mut nodes = Vec::new(alloc);
     if rest.is_empty() {
-        return Ok(nodes);
+        return Ok(rest);
     }
-    nodes.reserve(rest.len() + 1)?;
-    nodes.push(Node::Nothing)?;
-    nodes.extend_from_slice(rest)?;
+    let mut nodes = rest;
+    nodes.insert(0, Node::Nothing)?;
     Ok(nodes)
 }
 
@@ -216,10 +217,10 @@ fn made_ready(alloc: Global, nodes: &[Node]) -> Result<PatternTables, OutOfMemor
 }
 
 // The tables of nodes behind an empty sequence.
-fn made_of_rest(alloc: Global, rest: &[Node]) -> Result<PatternTables, OutOfMemory>
-    ensures { IfOk result (IsReadyFor (rest_tree rest.now)) }
+fn made_of_rest(alloc: Global, rest: Vec<Node>) -> Result<PatternTables, OutOfMemory>
+    ensures { IfOk result (IsReadyFor (rest_tree rest.items)) }
 {
-    let nodes = sequence(alloc, rest)?;
+    let nodes = sequence(rest)?;
     let tables = made_ready(alloc, nodes.as_slice())?;
     Ok(tables)
 }

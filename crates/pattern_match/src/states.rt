@@ -29,7 +29,8 @@ impl States {
     /// What is known before the first byte of a text, with room for so many words of marks. For
     /// none it takes no memory.
     pub fn with_room(alloc: Global, words: usize) -> Result<States, OutOfMemory>
-        ensures { IfOk result (λ states. states.room ≡ words) }
+        ensures known { IfOk result (λ states. states.known ≡ progress 0 []) }
+        ensures room { IfOk result (λ states. states.room ≡ words) }
     {
         Ok(States {
             seen: 0,
@@ -64,6 +65,7 @@ impl States {
     /// Goes back to before the first byte of a text, where the pattern is one text
     /// ([`is_one_text`](crate::is_one_text)).
     pub fn restart_text(&mut self)
+        ensures known { self.new.known ≡ progress 0 [] }
         ensures made { (tree : Tree) → behind_start tree ≡ Nothing
             → AreStatesOf tree self.new.known }
         ensures stands { (tree : Tree) → behind_start tree ≡ Nothing

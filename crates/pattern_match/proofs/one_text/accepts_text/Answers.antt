@@ -7,8 +7,8 @@ use Rattle.pattern_match.proofs.one_text.accepts_text.Goals as goal
 
 pub returns-then-states-start : goal.returns-then-states-start
 returns-then-states-start c =
-    λ text h. tells_holds c.args.pattern.now text false
-    (not_accepted c.args.pattern.now (literal_start_of c.args.pattern.now) Nothing refl
+    λ text h. tells_holds c.args.pattern.now.tree text false
+    (not_accepted c.args.pattern.now.tree (literal_start_of c.args.pattern.now.tree) Nothing refl
     (sym c.requires.one)
     (record { seen = c.states.inside.seen; marks = c.states.inside.marks.marks })
     c.args.states.now.known (length c.start-start.result.now) (known_is c.states.view_is)
@@ -16,8 +16,8 @@ returns-then-states-start c =
 
 pub returns : goal.returns
 returns c =
-    λ text h. tells_holds c.args.pattern.now text true
-    (accepted c.args.pattern.now (literal_start_of c.args.pattern.now) Nothing refl
+    λ text h. tells_holds c.args.pattern.now.tree text true
+    (accepted c.args.pattern.now.tree (literal_start_of c.args.pattern.now.tree) Nothing refl
     (sym c.requires.one)
     (record { seen = c.states.inside.seen; marks = c.states.inside.marks.marks })
     c.args.states.now.known (length c.start-start.result.now) true (known_is c.states.view_is)

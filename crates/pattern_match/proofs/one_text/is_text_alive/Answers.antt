@@ -7,7 +7,7 @@ use Rattle.pattern_match.proofs.one_text.is_text_alive.Goals as goal
 
 pub returns-then-states-start : goal.returns-then-states-start
 returns-then-states-start c =
-    is_dead c.args.pattern.now (literal_start_of c.args.pattern.now) Nothing refl
+    is_dead c.args.pattern.now.tree (literal_start_of c.args.pattern.now.tree) Nothing refl
     (sym c.requires.one)
     (record { seen = c.states.inside.seen; marks = c.states.inside.marks.marks })
     c.args.states.now.known (length c.start-start.result.now) (known_is c.states.view_is)
@@ -15,7 +15,7 @@ returns-then-states-start c =
 
 pub returns : goal.returns
 returns c =
-    is_alive c.args.pattern.now (literal_start_of c.args.pattern.now) Nothing refl
+    is_alive c.args.pattern.now.tree (literal_start_of c.args.pattern.now.tree) Nothing refl
     (sym c.requires.one)
     (record { seen = c.states.inside.seen; marks = c.states.inside.marks.marks })
     c.args.states.now.known (length c.start-start.result.now) true (known_is c.states.view_is)

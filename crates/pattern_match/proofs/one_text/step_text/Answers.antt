@@ -8,7 +8,7 @@ use Rattle.pattern_match.proofs.one_text.step_text.Goals as goal
 
 pub returns-then-seen-start-clause-stands : goal.returns-then-seen-start-clause-stands
 returns-then-seen-start-clause-stands c =
-    steps_dead c.args.pattern.now (literal_start_of c.args.pattern.now) Nothing refl
+    steps_dead c.args.pattern.now.tree (literal_start_of c.args.pattern.now.tree) Nothing refl
     (sym c.requires.one)
     (record { seen = c.states.inside.seen; marks = c.states.inside.marks.marks })
     c.args.states.now.known c.start-start.result.now c.args.byte (known_is c.states.view_is)
@@ -16,7 +16,7 @@ returns-then-seen-start-clause-stands c =
 
 pub returns-then-start-seen-clause-stands : goal.returns-then-start-seen-clause-stands
 returns-then-start-seen-clause-stands c =
-    steps_start c.args.pattern.now (literal_start_of c.args.pattern.now) Nothing refl
+    steps_start c.args.pattern.now.tree (literal_start_of c.args.pattern.now.tree) Nothing refl
     (sym c.requires.one)
     (record { seen = c.states.inside.seen; marks = c.states.inside.marks.marks })
     c.args.states.now.known c.start-start.result.now c.args.byte (known_is c.states.view_is)
@@ -24,7 +24,7 @@ returns-then-start-seen-clause-stands c =
 
 pub returns-then-seen-start-2-clause-stands : goal.returns-then-seen-start-2-clause-stands
 returns-then-seen-start-2-clause-stands c =
-    steps_other c.args.pattern.now (literal_start_of c.args.pattern.now) Nothing refl
+    steps_other c.args.pattern.now.tree (literal_start_of c.args.pattern.now.tree) Nothing refl
     (sym c.requires.one)
     (record { seen = c.states.inside.seen; marks = c.states.inside.marks.marks })
     c.args.states.now.known c.start-start.result.now c.args.byte (known_is c.states.view_is)
@@ -32,7 +32,7 @@ returns-then-seen-start-2-clause-stands c =
 
 pub returns-clause-stands : goal.returns-clause-stands
 returns-clause-stands c =
-    steps_bare c.args.pattern.now (literal_start_of c.args.pattern.now) Nothing refl
+    steps_bare c.args.pattern.now.tree (literal_start_of c.args.pattern.now.tree) Nothing refl
     (sym c.requires.one)
     (record { seen = c.states.inside.seen; marks = c.states.inside.marks.marks })
     c.args.states.now.known c.start-start.result.now c.args.byte (known_is c.states.view_is)

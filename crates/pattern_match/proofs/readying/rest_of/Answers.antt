@@ -2,5 +2,5 @@ use Rattle.pattern_match.proofs.Cutting.{parts_are}
 use Rattle.pattern_match.proofs.readying.rest_of.Goals as goal
 
 pub returns : goal.returns
-returns c = parts_are c.args.pattern.now c.rest.result.now c.has_no_empty_set.ensures.proper
-    c.rest.ensures.whole
+returns c = (parts_are c.args.pattern.now.tree c.in_ok-rest.rest.items
+    c.has_no_empty_set.ensures.proper c.in_ok-rest.ensures.whole).behind

@@ -1,4 +1,4 @@
-use Rattle.std.proofs.Common.{◌≡◌, arith, subst, ◌<◌, ◌*◌}
+use Rattle.std.proofs.Common.{arith, subst, ◌<◌, ◌*◌}
 use Rattle.pattern_match.proofs.Ready.{ready_by, restart_made, restart_starts, words_are}
 use Rattle.pattern_match.proofs.machine.Machine.marks.Goals as goal
 

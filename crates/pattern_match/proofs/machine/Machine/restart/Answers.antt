@@ -1,4 +1,4 @@
-use Rattle.std.proofs.Common.{◌≡◌, subst, ◌<◌, ◌≤◌, ◌*◌}
+use Rattle.std.proofs.Common.{subst, ◌<◌, ◌≤◌, ◌*◌}
 use Rattle.pattern_match.proofs.Ready.{ready_by, restart_made, restart_starts, words_are}
 use Rattle.pattern_match.proofs.machine.Machine.restart.Goals as goal
 

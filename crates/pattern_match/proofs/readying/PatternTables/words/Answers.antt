@@ -1,10 +1,16 @@
-use Rattle.std.proofs.Common.{arith}
+use Rattle.std.proofs.Common.{arith, sym}
 use Rattle.pattern_match.specs.Starts.{behind_start}
 use Rattle.pattern_match.proofs.Ready.{words_are}
 use Rattle.pattern_match.proofs.readying.PatternTables.words.Goals as goal
 
-pub returns : goal.returns
-returns c = λ tree tables. record {
+pub returns-clause-value : goal.returns-clause-value
+returns-clause-value c = λ tree tables.
+    let t = c.args.self.now in
+    sym (words_are (behind_start tree) t.is_bare t.rows t.width t.follow.items t.accept.items
+    t.classes.items tables.behind)
+
+pub returns-clause-room : goal.returns-clause-room
+returns-clause-room c = λ tree tables. record {
   words =
       let t = c.args.self.now in
       let e = words_are (behind_start tree) t.is_bare t.rows t.width t.follow.items t.accept.items
