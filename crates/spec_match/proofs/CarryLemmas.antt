@@ -2,11 +2,10 @@
 use Rattle.std.proofs.Common.{◌≡◌, ◌∙◌, refl, sym, ap, subst, ℕ, true, false, List, [], ◌∷◌, ◌++◌}
 use Rattle.std.proofs.Common.{append_assoc, append-nil}
 use Rattle.std.proofs.lemmas.List.Concat.{flat_map-append}
-use Rattle.file_paths.specs.Path.{Path, path_text, with_slashes}
+use Rattle.file_paths.specs.Path.{Path, is_root_path, path_text, with_slashes}
 use Rattle.label_base.specs.declared.kind.Asked.{Asked}
 use Rattle.pattern_syntax.specs.Language.{Opens}
 use Rattle.spec_match.specs.LastMatch.{fits}
-use Rattle.spec_match.specs.Relevant.{is_root_path}
 use Rattle.spec_match.proofs.AnswerLemmas.{dead_behind}
 use Rattle.spec_reader.specs.SpecValue.{SpecValue}
 

@@ -14,3 +14,4 @@ pub mod TrailLemmas
 pub mod CarryLemmas
 pub mod ChainLemmas
 pub mod Sending
+pub mod DirectLemmas

@@ -1,11 +1,12 @@
 -- Lists one behind the other, and the one that is being written.
 use Rattle.std.proofs.Common.{◌≡◌, ◌∙◌, refl, sym, ap, ap₂, ℕ, zero, suc, ◌+◌, ◌-◌, ◌<◌, ◌≤◌, Bool}
-use Rattle.std.proofs.Common.{true, false, cond, List, [], ◌∷◌, ◌++◌, length, length-drop}
+use Rattle.std.proofs.Common.{subst, true, false, cond, List, [], ◌∷◌, ◌++◌, length, length-drop}
 use Rattle.std.proofs.Common.{length-take, get_or, take, drop, map, arith}
-use Rattle.std.proofs.lemmas.List.{drop-append-le, take_all, take-append-drop, drop_all, map_push}
+use Rattle.std.proofs.lemmas.List.{drop-append-le, length-map, take_all, take-append-drop}
+use Rattle.std.proofs.lemmas.List.{drop_all, map_push}
 use Rattle.std.specs.List.{AllByRecursion}
 use Rattle.spec_match.specs.Alive.{Alive, alive_list}
-use Rattle.spec_match.specs.Written.{IsSpanWithin, list_at, lists_written}
+use Rattle.spec_match.specs.Written.{IsSpanWithin, Written, list_at, lists_written}
 use Rattle.spec_match.specs.declared.lists.Span.{Span}
 use Rattle.spec_match.proofs.MemberLemmas.{kept}
 
@@ -60,3 +61,56 @@ place_within ms done [] i k d h l = absurd (omega (arith, l))
 place_within ms done (s ∷ spans) zero k d h l =
     omega (arith, l, h.0, length-take s.len (drop s.start ms))
 place_within ms done (s ∷ spans) (suc i) k d h l = place_within ms done spans i k d h.1 l
+
+list_here : (ms : List Alive) (spans : List Span) (i : ℕ) (d : Span) → i < length spans
+    → alive_list (map (list_at ms) spans) i ≡ list_at ms (get_or spans i d)
+list_here ms [] i d l = absurd (omega (arith, l))
+list_here ms (s ∷ spans) zero d l = refl
+list_here ms (s ∷ spans) (suc i) d l = list_here ms spans i d (omega (arith, l))
+
+span_here : (done : ℕ) (spans : List Span) (i : ℕ) (d : Span)
+    → AllByRecursion (IsSpanWithin done) spans → i < length spans
+    → IsSpanWithin done (get_or spans i d)
+span_here done [] i d h l = absurd (omega (arith, l))
+span_here done (s ∷ spans) zero d h l = h.0
+span_here done (s ∷ spans) (suc i) d h l = span_here done spans i d h.1 (omega (arith, l))
+
+-- a list that is the one that is being written is as long, and has its members
+pub draft_at : (ms : List Alive) (spans : List Span) (done i : ℕ) (s : Span) (w : Written)
+    → lists_written (map (list_at ms) spans) (drop done ms) ≡ w → i < length w.lists
+    → s ≡ get_or spans i s → AllByRecursion (IsSpanWithin done) spans → done ≤ length ms
+    → alive_list w.lists i ≡ w.draft
+    → (s.len ≡ length ms - done) × (take s.len (drop s.start ms) ≡ take s.len (drop done ms))
+draft_at ms spans done i s w is l here within d e = (long, same)
+  where
+    inside : i < length spans
+    inside =
+        omega (
+          arith,
+          l,
+          ap (λ (v : Written). length v.lists) is,
+          length-map spans (list_at ms),
+        )
+
+    listed : list_at ms s ≡ drop done ms
+    listed =
+        ap (list_at ms) here ∙ sym (list_here ms spans i s inside)
+        ∙ subst (λ (v : Written). alive_list v.lists i ≡ v.draft) (sym is) e
+
+    fits : IsSpanWithin done s
+    fits = subst (IsSpanWithin done) (sym here) (span_here done spans i s within inside)
+
+    long : s.len ≡ length ms - done
+    long =
+        omega (
+          arith,
+          fits,
+          d,
+          ap (λ (xs : List Alive). length xs) listed,
+          length-take s.len (drop s.start ms),
+          length-drop s.start ms,
+          length-drop done ms,
+        )
+
+    same : take s.len (drop s.start ms) ≡ take s.len (drop done ms)
+    same = listed ∙ sym (take_all s.len (drop done ms) (omega (arith, long, length-drop done ms)))

@@ -1,12 +1,13 @@
 -- Members, and the words of their marks.
 use Rattle.std.proofs.Common.{◌≡◌, ◌∙◌, refl, sym, ap, ap₂, subst, ℕ, zero, suc, ◌+◌, ◌<◌, ◌≤◌}
-use Rattle.std.proofs.Common.{List, [], ◌∷◌, ◌++◌, Option, length, length-drop, length-take, get_or}
-use Rattle.std.proofs.Common.{take, drop, map, arith}
+use Rattle.std.proofs.Common.{Bool, true, List, [], ◌∷◌, ◌++◌, Option, Some, None, length}
+use Rattle.std.proofs.Common.{length-drop, length-take, get_or, get_or-take, take, drop, map, arith}
+use Rattle.std.specs.Option.{option_eq}
 use Rattle.std.proofs.Math.Seq.{drop-append_seam}
 use Rattle.std.proofs.lemmas.List.{take-append-le, drop-append-le, take_all, take-append-drop}
-use Rattle.std.proofs.lemmas.List.{map_push}
+use Rattle.std.proofs.lemmas.List.{get_or-drop, map_push}
 use Rattle.pattern_match.specs.States.{progress}
-use Rattle.spec_match.specs.Alive.{alive}
+use Rattle.spec_match.specs.Alive.{Alive, alive, alive_at, no_alive}
 use Rattle.spec_match.specs.Members.{AreLaidOut, alive_in}
 use Rattle.spec_match.specs.declared.members.Member.{Member}
 
@@ -99,3 +100,20 @@ length_cut words ms n d h l =
           words,
     ) in
     subst (λ k. AreLaidOut k 0 (take n ms)) e (laid_cut (length words) 0 ms n d h l)
+
+-- so many members from two places on that are the same are so one by one
+pub same_at : (ms : List Alive) (a b n k : ℕ) → take n (drop a ms) ≡ take n (drop b ms) → k < n
+    → alive_at ms (a + k) ≡ alive_at ms (b + k)
+same_at ms a b n k e l =
+    sym (place_at a) ∙ ap (λ list. alive_at list k) e ∙ place_at b
+  where
+    place_at : (at : ℕ) → alive_at (take n (drop at ms)) k ≡ alive_at ms (at + k)
+    place_at at = get_or-take n (drop at ms) k no_alive l ∙ get_or-drop at ms k no_alive
+
+pub same_option : (E : ℕ → ℕ → Bool) → ((n : ℕ) → E n n ≡ true) → (p q : Option ℕ) → p ≡ q
+    → option_eq E p q ≡ true
+same_option E r p q e = subst (λ o. option_eq E p o ≡ true) e (at p)
+  where
+    at : (o : Option ℕ) → option_eq E o o ≡ true
+    at None = refl
+    at (Some n) = r n

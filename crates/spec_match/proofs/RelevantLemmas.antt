@@ -4,7 +4,7 @@ use Rattle.std.proofs.Common.{Bool, true, false, cond, List, [], ◌∷◌, ◌+
 use Rattle.std.proofs.Common.{map, filter, append_assoc, append-nil, arith}
 use Rattle.std.proofs.lemmas.List.{get_or_default}
 use Rattle.std.specs.List.{enumerate_from}
-use Rattle.file_paths.specs.Path.{Path, path_text}
+use Rattle.file_paths.specs.Path.{Path, is_root_path, path_text}
 use Rattle.pattern_match.proofs.Holding.{holds_tells}
 use Rattle.pattern_match.proofs.Quotients.{below_test}
 use Rattle.pattern_match.proofs.Reading.{none_below}
@@ -12,7 +12,7 @@ use Rattle.pattern_match.specs.States.{StandsFor}
 use Rattle.pattern_syntax.specs.Language.{In, Opens, holds}
 use Rattle.pattern_syntax.specs.Tree.{Tree}
 use Rattle.spec_match.specs.Alive.{Alive, AreAlive, NoneAlive, alive_at, pattern_at}
-use Rattle.spec_match.specs.Relevant.{can_decide, is_root_path, relevant_at}
+use Rattle.spec_match.specs.Relevant.{can_decide, relevant_at}
 use Rattle.spec_match.specs.StatesFor.{patterns_of, spec_in}
 use Rattle.spec_match.specs.declared.compiled_spec.CompiledSpec.{CompiledSpec}
 use Rattle.spec_match.proofs.AliveLemmas.{bound_next, member_at, rest_alive}

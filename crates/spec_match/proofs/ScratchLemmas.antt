@@ -138,10 +138,10 @@ widest_on rules n item old new within is l this all i below rule e =
     ]
 
 -- a pattern that is one text has no marks
+pub one_text_words : (pattern : Tree) → behind_start pattern ≡ Nothing
+    → words_for (behind_start pattern) ≡ 0
+one_text_words pattern e = ap words_for e ∙ ap (λ v. words_by v Nothing) nothing_is_bare
+
 pub one_text_room : (pattern : Tree) (room : ℕ) → behind_start pattern ≡ Nothing
     → HasRoomFor pattern room
-one_text_room pattern room e = record {
-  words =
-      let w : words_for (behind_start pattern) ≡ 0 =
-      ap words_for e ∙ ap (λ v. words_by v Nothing) nothing_is_bare in omega arith;
-}
+one_text_room pattern room e = record { words = omega (arith, one_text_words pattern e) }

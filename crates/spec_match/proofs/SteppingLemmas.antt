@@ -5,6 +5,7 @@ use Rattle.std.proofs.Common.{add-one, arith}
 use Rattle.std.proofs.lemmas.Bool.{cases_lt}
 use Rattle.std.specs.List.{All}
 use Rattle.pattern_match.specs.Onwards.{AreTextBytes}
+use Rattle.pattern_match.specs.Settled.{StatesStay}
 use Rattle.pattern_match.specs.States.{AreStatesOf, StandsFor}
 use Rattle.pattern_syntax.specs.Language.{In}
 use Rattle.pattern_syntax.specs.Tree.{Tree}
@@ -12,7 +13,7 @@ use Rattle.spec_match.specs.Alive.{Alive, AreAliveFrom, IsOwn, LeadsBy, alive_at
 use Rattle.spec_match.specs.Alive.{pattern_at, wanted_byte}
 use Rattle.spec_match.specs.Listed.{Covers, IsListed, Stays}
 use Rattle.spec_match.specs.StatesFor.{patterns_of, spec_in}
-use Rattle.spec_match.specs.Stepping.{GoesOn, IsEnd, IsStaying}
+use Rattle.spec_match.specs.Stepping.{AllStatesStay, GoesOn, IsEnd, IsStaying}
 use Rattle.spec_match.specs.declared.compiled_spec.CompiledSpec.{CompiledSpec}
 use Rattle.spec_match.proofs.AliveLemmas.{IsStepped, all_stepped, member_at, none_more, stepped_on}
 use Rattle.spec_match.proofs.AliveLemmas.{stepped_to}
@@ -54,6 +55,21 @@ one_stays ps list k this s = λ j l. elim (cases_lt j k) [
   | inl before ↦ s j before
   | inr after ↦ (let last : k ≡ j = omega (arith, after, l) in
       subst (λ n. IsStaying (pattern_at ps (alive_at list n).index) (alive_at list n)) last this)
+]
+
+-- of so many members of a list the states stay
+abbrev pub SettledTo : List Tree → List Alive → ℕ → Type 0
+SettledTo ps list k = (j : ℕ) → j < k
+    → StatesStay (pattern_at ps (alive_at list j).index) (alive_at list j).states
+
+one_settles : (ps : List Tree) (list : List Alive) (k : ℕ)
+    → StatesStay (pattern_at ps (alive_at list k).index) (alive_at list k).states
+    → SettledTo ps list k → SettledTo ps list (k + 1)
+one_settles ps list k this s = λ j l. elim (cases_lt j k) [
+  | inl before ↦ s j before
+  | inr after ↦ (let last : k ≡ j = omega (arith, after, l) in
+      subst (λ n. StatesStay (pattern_at ps (alive_at list n).index) (alive_at list n).states) last
+      this)
 ]
 
 alive_on : (ps : List Tree) (text : List ℕ) (b floor bound : ℕ) (list : List Alive) → 0 < b
@@ -128,6 +144,17 @@ module _ (rules : List CompiledSpec) (list : List Alive) (k i : ℕ) (rule : Com
   rule_stays this s =
       one_stays (patterns_of rules) list k (subst (λ t. IsStaying t (alive_at list k)) pattern this)
       s
+
+  pub rule_settles : StatesStay rule.spec.pattern (alive_at list k).states
+      → SettledTo (patterns_of rules) list k → SettledTo (patterns_of rules) list (k + 1)
+  rule_settles this s =
+      one_settles (patterns_of rules) list k
+      (subst (λ t. StatesStay t (alive_at list k).states) pattern this) s
+
+  pub rule_settled : AllStatesStay (patterns_of rules) list
+      → StatesStay rule.spec.pattern (alive_at list k).states
+  rule_settled all = subst (λ t. StatesStay t (alive_at list k).states) (sym pattern)
+      (all k within)
 
   -- the list that is written may end with it
   pub listed_to : (cuts : Bool) (tail : List ℕ) (draft : List Alive)

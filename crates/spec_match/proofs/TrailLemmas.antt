@@ -2,8 +2,9 @@
 use Rattle.std.proofs.Common.{◌≡◌, ◌∙◌, refl, sym, ap, subst, ℕ, zero, suc, ◌+◌, ◌-◌, ◌*◌, ◌<◌, ◌≤◌}
 use Rattle.std.proofs.Common.{inl, inr, min, Bool, true, false, List, [], ◌∷◌, ◌++◌, length}
 use Rattle.std.proofs.Common.{length-drop, length-take, length-set, get_or, get_or-set_same}
-use Rattle.std.proofs.Common.{get_or-set_other, set, slice_index, take, drop, if◌then◌else◌, nat_lt}
-use Rattle.std.proofs.Common.{arith}
+use Rattle.std.proofs.Common.{get_or-set_other, get_or-take, set, slice_index, take, drop}
+use Rattle.std.proofs.Common.{if◌then◌else◌, nat_lt, arith}
+use Rattle.std.proofs.lemmas.Bool.{cases_lt}
 use Rattle.std.proofs.Math.Seq.{take-add}
 use Rattle.std.proofs.lemmas.Bool.Decides.{nat_tests}
 use Rattle.std.proofs.lemmas.List.{get_or-drop, take_all, take-append-drop}
@@ -275,3 +276,27 @@ stays_behind IsFor text at list s l b h =
 pub listed_to_end : (IsFor : List ℕ → List Alive → Type 0) (text : List ℕ) (at : ℕ)
     (list : List Alive) → length text ≤ at → IsFor (take at text) list → IsFor text list
 listed_to_end IsFor text at list l h = subst (λ w. IsFor w list) (take_all at text l) h
+
+-- each byte of a text is above 0
+pub each_byte : (text : List ℕ) (j : ℕ) → j < length text → AreTextBytes text
+    → 0 < get_or text j 0
+each_byte [] j l a = absurd (omega (arith, l))
+each_byte (b ∷ text) zero l a = a.0
+each_byte (b ∷ text) (suc j) l a = each_byte text j (omega (arith, l)) a.2
+
+pub positive : (n : ℕ) → 0 < n → nat_lt 0 n ≡ true
+positive n p = grind (arith, nat_tests)
+
+-- texts with the same front have the same bytes in it
+pub front_byte : (a b : List ℕ) (i k : ℕ) → take k a ≡ take k b → i < k
+    → get_or a i 0 ≡ get_or b i 0
+front_byte a b i k e l =
+    sym (get_or-take k a i 0 l) ∙ ap (λ w. get_or w i 0) e ∙ get_or-take k b i 0 l
+
+-- no longer front is the same than up to where bytes differ
+pub differs_at : (a b : List ℕ) (i k : ℕ) → (get_or a i 0 ≡ get_or b i 0 → ⊥)
+    → take k a ≡ take k b → k ≤ i
+differs_at a b i k d e = elim (cases_lt i k) [
+  | inl before ↦ absurd (d (front_byte a b i k e before))
+  | inr after ↦ after
+]

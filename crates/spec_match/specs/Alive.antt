@@ -1,6 +1,6 @@
 -- Which specifications are alive behind a text: some text of their language begins with it.
-use Rattle.std.specs.Prelude.{◌≡◌, ℕ, ◌+◌, ◌<◌, ◌≤◌, List, [], ◌∷◌, ◌++◌, Option, None, Some}
-use Rattle.std.specs.Prelude.{length, slice_get}
+use Rattle.std.specs.Prelude.{◌≡◌, ℕ, ◌+◌, ◌<◌, ◌≤◌, ◌==◌, not, Bool, false, List, [], ◌∷◌, ◌++◌}
+use Rattle.std.specs.Prelude.{Option, None, Some, length, slice_get}
 use Rattle.std.specs.List.{slice_index_or}
 use Rattle.pattern_syntax.specs.Language.{Opens}
 use Rattle.pattern_syntax.specs.Literal.{literal_start_of}
@@ -33,6 +33,11 @@ pattern_at patterns i = slice_index_or patterns i Nothing
 -- the next byte of a pattern's literal start, where one is lacking
 abbrev pub wanted_byte : Tree → Progress → Option ℕ
 wanted_byte pattern states = slice_get (literal_start_of pattern) states.seen
+
+-- the literal start goes on with another byte, if it goes on
+abbrev pub wants_other : Option ℕ → ℕ → Bool
+wants_other None byte = false
+wants_other (Some next) byte = not (next == byte)
 
 -- the literal start goes on with another byte
 abbrev pub WantsOther : Alive → ℕ → Type 0

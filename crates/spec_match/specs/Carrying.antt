@@ -1,9 +1,8 @@
 -- What is carried down a tree: the specifications that are alive behind a path's text.
 use Rattle.std.specs.Prelude.{◌≡◌, Bool, List, length, map}
 use Rattle.std.specs.List.{All}
-use Rattle.file_paths.specs.Path.{Path, path_text}
+use Rattle.file_paths.specs.Path.{Path, is_root_path, path_text}
 use Rattle.spec_match.specs.Alive.{Alive, AreAlive, IsOwn}
-use Rattle.spec_match.specs.Relevant.{is_root_path}
 use Rattle.spec_match.specs.StatesFor.{pattern_in, patterns_of}
 use Rattle.spec_match.specs.declared.compiled_spec.CompiledSpec.{CompiledSpec}
 use Rattle.spec_reader.specs.SpecValue.{SpecValue}

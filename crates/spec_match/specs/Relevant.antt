@@ -1,5 +1,5 @@
 -- The specifications that can decide at or below a path.
-use Rattle.std.specs.Prelude.{ℕ, Bool, true, false, List, [], ◌∷◌, filter, map}
+use Rattle.std.specs.Prelude.{ℕ, Bool, List, filter, map}
 use Rattle.std.specs.List.{enumerate_from}
 use Rattle.file_paths.specs.Path.{Path}
 use Rattle.pattern_match.specs.Quotients.{holds_below}
@@ -12,7 +12,3 @@ can_decide path spec = holds_below spec.pattern path
 -- the indices of such members of the list, in ascending order
 unfoldable pub relevant_at : Path → List SpecValue → List ℕ
 relevant_at path specs = map (λ p. p.0) (filter (λ p. can_decide path p.1) (enumerate_from 0 specs))
-
-abbrev pub is_root_path : Path → Bool
-is_root_path [] = true
-is_root_path (name ∷ names) = false

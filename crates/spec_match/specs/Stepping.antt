@@ -2,10 +2,12 @@
 use Rattle.std.specs.Prelude.{◌≡◌, ℕ, ◌<◌, ◌⊎◌, Bool, true, None, List, [], ◌∷◌, ◌++◌, length}
 use Rattle.std.specs.List.{All}
 use Rattle.pattern_match.specs.Onwards.{TakesAll}
+use Rattle.pattern_match.specs.Settled.{StatesStay}
 use Rattle.pattern_match.specs.States.{AreStatesOf, Progress, StandsFor}
 use Rattle.pattern_syntax.specs.Language.{Opens}
 use Rattle.pattern_syntax.specs.Tree.{Tree}
-use Rattle.spec_match.specs.Alive.{Alive, IsOwn, alive, alive_list, wanted_byte}
+use Rattle.spec_match.specs.Alive.{Alive, IsOwn, alive, alive_at, alive_list, pattern_at}
+use Rattle.spec_match.specs.Alive.{wanted_byte}
 use Rattle.spec_reader.specs.SpecValue.{SpecValue}
 
 abbrev pub AreOwnLists : List Tree → List (List Alive) → Type 0
@@ -49,3 +51,9 @@ pub record IsEnd (cuts : Bool) (spec : SpecValue) (tail : List ℕ) (one : Alive
 abbrev pub IsStaying : Tree → Alive → Type 0
 IsStaying pattern one = (byte : ℕ) → 0 < byte → byte < 256 → (text : List ℕ)
     → StandsFor pattern one.states text → StandsFor pattern one.states (text ++ byte ∷ [])
+
+-- of each member of a list the states stay, as far as single places of its automaton show it
+abbrev pub AllStatesStay : List Tree → List Alive → Type 0
+AllStatesStay patterns list =
+    (k : ℕ) → k < length list
+    → StatesStay (pattern_at patterns (alive_at list k).index) (alive_at list k).states

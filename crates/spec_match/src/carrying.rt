@@ -1,12 +1,12 @@
 ghost use Rattle.std.specs.Prelude.{◌≡◌, ◌<◌, ◌^◌, ◌++◌, ◌∷◌, [], false, IfOk, IfSome, OnOk};
 ghost use Rattle.std.specs.Prelude.{length, map};
 ghost use Rattle.std.specs.List.{All};
-ghost use Rattle.file_paths.specs.Path.{Path, path_text};
+ghost use Rattle.file_paths.specs.Path.{Path, is_root_path, path_text};
 ghost use Rattle.pattern_match.specs.States.{AreStatesOf, HasRoomFor, StandsFor};
 ghost use Rattle.spec_match.specs.Alive.{AreAlive, IsOwn, Leads, alive_at};
 ghost use Rattle.spec_match.specs.Carrying.{IsAliveAt};
 ghost use Rattle.spec_match.specs.LastMatch.{fits};
-ghost use Rattle.spec_match.specs.Relevant.{can_decide, is_root_path, relevant_at};
+ghost use Rattle.spec_match.specs.Relevant.{can_decide, relevant_at};
 ghost use Rattle.spec_match.specs.Remembering.{IsAnswer};
 ghost use Rattle.spec_match.specs.StatesFor.{AreStatesFor, patterns_of, spec_in};
 ghost use Rattle.spec_match.specs.Stepping.{GoesOn, IsBegun};

@@ -1,15 +1,18 @@
 ghost use Rattle.std.specs.Prelude.{◌≡◌, ◌↔◌, ◌<◌, ◌++◌, ◌∷◌, ℕ, List, [], false, true, None, IfOk};
-ghost use Rattle.std.specs.Prelude.{IsTrue, slice_get};
+ghost use Rattle.std.specs.Prelude.{IsTrue, nat_eq, slice_get};
+ghost use Rattle.std.specs.List.{starts_with};
 ghost use Rattle.label_base.specs.Kind.{applies, same_kind};
 ghost use Rattle.pattern_syntax.specs.Language.{Opens, holds};
 ghost use Rattle.pattern_syntax.specs.Literal.{literal_start_of};
 ghost use Rattle.pattern_match.specs.Onwards.{TakesAll};
-ghost use Rattle.pattern_match.specs.States.{AreStatesOf, HasRoomFor, StandsFor};
+ghost use Rattle.pattern_match.specs.Settled.{StatesStay};
+ghost use Rattle.pattern_match.specs.Starts.{behind_start};
+ghost use Rattle.pattern_match.specs.States.{AreStatesOf, HasRoomFor, StandsFor, words_for};
 ghost use Rattle.spec_match.specs.LastMatch.{fits};
-ghost use Rattle.file_paths.specs.Path.{Path, path_text};
+ghost use Rattle.file_paths.specs.Path.{Path, is_root_path, path_text};
 ghost use Rattle.file_paths.specs.PathRef.{path_of};
 ghost use Rattle.spec_match.specs.Memberships.{IsTestOf, is_fact};
-ghost use Rattle.spec_match.specs.Relevant.{can_decide, is_root_path};
+ghost use Rattle.spec_match.specs.Relevant.{can_decide};
 
 use crate::membership::Membership;
 use file_paths::PathRef;
@@ -32,7 +35,8 @@ fn is_of(kind: EntryKind, asked: EntryKind) -> bool
     kind == asked
 }
 
-fn does_apply(kind: Option<EntryKind>, asked: Asked) -> bool
+/// Whether a specification with this kind, or with none, applies to what is asked.
+pub fn does_apply(kind: Option<EntryKind>, asked: Asked) -> bool
     ensures { result ≡ applies kind asked }
 {
     match (kind, asked) {
@@ -53,7 +57,8 @@ impl CompiledSpec {
 
     /// For how many words of marks states must have room.
     pub fn words(&self) -> usize
-        ensures { HasRoomFor self.now.spec.pattern result }
+        ensures value { result ≡ words_for (behind_start self.now.spec.pattern) }
+        ensures room { HasRoomFor self.now.spec.pattern result }
     {
         self.test.words(&self.spec.pattern)
     }
@@ -76,7 +81,9 @@ impl CompiledSpec {
     /// Whether the text begins with the pattern's literal start. Where it doesn't, its language
     /// doesn't hold it.
     pub fn may_hold(&self, text: &[u8]) -> bool
-        ensures { result ≡ false → holds self.now.spec.pattern text.now ≡ false }
+        ensures value { result
+            ≡ starts_with nat_eq text.now (literal_start_of self.now.spec.pattern) }
+        ensures outside { result ≡ false → holds self.now.spec.pattern text.now ≡ false }
     {
         may_hold(&self.spec.pattern, text)
     }
@@ -149,7 +156,8 @@ impl CompiledSpec {
     /// than 0. It may say false where they do.
     pub fn stays(&self, states: &States) -> bool
         requires { AreStatesOf self.now.spec.pattern states.now.known }
-        ensures { result ≡ true → (byte : ℕ) → 0 < byte → byte < 256
+        ensures exact { IsTrue result ↔ StatesStay self.now.spec.pattern states.now.known }
+        ensures stands { result ≡ true → (byte : ℕ) → 0 < byte → byte < 256
             → (text : List ℕ) → StandsFor self.now.spec.pattern states.now.known text
             → StandsFor self.now.spec.pattern states.now.known (text ++ byte ∷ []) }
     {

@@ -7,6 +7,7 @@ mod carried;
 mod carried_tests;
 mod carrying;
 mod compiled_spec;
+mod direct;
 mod fronts;
 mod lists;
 mod members;
@@ -26,5 +27,6 @@ mod tried_tests;
 mod workspace;
 
 pub use carried::Carried;
+pub use direct::find_last;
 pub use rule_set::RuleSet;
 pub use scratch::Scratch;

@@ -1,6 +1,6 @@
 ghost use Rattle.std.specs.Prelude.{◌≡◌, ◌<◌, ◌≤◌, ◌++◌, ◌∷◌, [], true, IfOk, length};
 ghost use Rattle.std.specs.Prelude.{if◌then◌else◌};
-ghost use Rattle.spec_match.specs.Alive.{WantsOther, alive, alive_at, alive_list};
+ghost use Rattle.spec_match.specs.Alive.{WantsOther, alive, alive_at, alive_list, wants_other};
 ghost use Rattle.spec_match.specs.Written.{lists_written};
 
 use crate::members::{Members, have_same};
@@ -111,7 +111,10 @@ impl Lists {
     pub fn wants_other(&self, i: usize, k: usize, byte: u8) -> bool
         requires list { i < length self.now.lists }
         requires within { k < length (alive_list self.now.lists i) }
-        ensures { result ≡ true → WantsOther (alive_at (alive_list self.now.lists i) k) byte }
+        ensures value { result
+            ≡ wants_other (alive_at (alive_list self.now.lists i) k).wants byte }
+        ensures other { result ≡ true
+            → WantsOther (alive_at (alive_list self.now.lists i) k) byte }
     {
         let _ = self.members.len();
         self.members.wants_other(self.spans[i].start + k, byte)
@@ -181,7 +184,8 @@ impl Lists {
     /// Whether a list is the one that is being written.
     pub fn is_draft(&self, i: usize) -> bool
         requires { i < length self.now.lists }
-        ensures { result ≡ true → alive_list self.now.lists i ≡ self.now.draft }
+        ensures from { result ≡ true → alive_list self.now.lists i ≡ self.now.draft }
+        ensures onto { alive_list self.now.lists i ≡ self.now.draft → result ≡ true }
     {
         let span = self.spans[i];
         if span.len != self.members.len() - self.done {

@@ -1,6 +1,6 @@
 ghost use Rattle.std.specs.Prelude.{◌≡◌, ◌<◌, ◌≤◌, ◌+◌, ◌++◌, ◌∷◌, [], true, IfOk, IfSome, OnOk};
 ghost use Rattle.std.specs.Prelude.{drop, length, take, if◌then◌else◌};
-ghost use Rattle.spec_match.specs.Alive.{WantsOther, alive, alive_at};
+ghost use Rattle.spec_match.specs.Alive.{WantsOther, alive, alive_at, wants_other};
 
 use label_base::OutOfMemory;
 use pattern_match::States;
@@ -118,7 +118,8 @@ impl Members {
     /// Whether the literal start of a member goes on with another byte.
     pub fn wants_other(&self, k: usize, byte: u8) -> bool
         requires { k < length self.now }
-        ensures { result ≡ true → WantsOther (alive_at self.now k) byte }
+        ensures value { result ≡ wants_other (alive_at self.now k).wants byte }
+        ensures other { result ≡ true → WantsOther (alive_at self.now k) byte }
     {
         match self.wants(k) {
             None => false,
@@ -206,7 +207,8 @@ impl Members {
 fn is_same(members: &Members, i: usize, j: usize) -> bool
     requires i { i < length members.now }
     requires j { j < length members.now }
-    ensures { result ≡ true → alive_at members.now i ≡ alive_at members.now j }
+    ensures from { result ≡ true → alive_at members.now i ≡ alive_at members.now j }
+    ensures onto { alive_at members.now i ≡ alive_at members.now j → result ≡ true }
 {
     if members.index(i) != members.index(j) {
         return false;
@@ -224,7 +226,8 @@ fn is_same(members: &Members, i: usize, j: usize) -> bool
 pub fn have_same(members: &Members, a: usize, b: usize, n: usize) -> bool
     requires a { a + n ≤ length members.now }
     requires b { b + n ≤ length members.now }
-    ensures { result ≡ true → take n (drop a members.now) ≡ take n (drop b members.now) }
+    ensures from { result ≡ true → take n (drop a members.now) ≡ take n (drop b members.now) }
+    ensures onto { take n (drop a members.now) ≡ take n (drop b members.now) → result ≡ true }
 {
     let _ = members.len();
     'members: for k in 0..n {

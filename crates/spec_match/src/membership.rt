@@ -3,12 +3,13 @@ ghost use Rattle.pattern_syntax.specs.Language.{Opens, holds};
 ghost use Rattle.pattern_syntax.specs.Tree.{Nothing};
 ghost use Rattle.pattern_match.specs.Starts.{behind_start};
 ghost use Rattle.pattern_match.specs.Onwards.{TakesAll};
-ghost use Rattle.pattern_match.specs.States.{AreStatesOf, HasRoomFor, StandsFor};
+ghost use Rattle.pattern_match.specs.Settled.{StatesLeadOnward, StatesStay};
+ghost use Rattle.pattern_match.specs.States.{AreStatesOf, HasRoomFor, StandsFor, words_for};
 ghost use Rattle.spec_match.specs.Memberships.{IsTestOf};
 
 use label_base::OutOfMemory;
 use pattern_match::{
-    Matcher, PatternTables, States, accepts_text, is_one_text, is_text_alive, step_text,
+    Matcher, PatternTables, States, accepts_text, is_one_text, is_text_alive, stays_text, step_text,
 };
 use pattern_syntax::Pattern;
 use std::alloc::Global;
@@ -25,8 +26,9 @@ pub enum Membership {
 
 // A pattern that is one text has no marks.
 fn no_words(pattern: &Pattern) -> usize
-    requires { behind_start pattern.now ≡ Nothing }
-    ensures { HasRoomFor pattern.now result }
+    requires { behind_start pattern.now.tree ≡ Nothing }
+    ensures value { result ≡ words_for (behind_start pattern.now.tree) }
+    ensures room { HasRoomFor pattern.now.tree result }
 {
     let _ = pattern;
     0
@@ -35,7 +37,7 @@ fn no_words(pattern: &Pattern) -> usize
 impl Membership {
     /// The test of a pattern.
     pub fn new(alloc: Global, pattern: &Pattern) -> Result<Membership, OutOfMemory>
-        ensures { IfOk result (λ test. IsTestOf pattern.now test) }
+        ensures { IfOk result (λ test. IsTestOf pattern.now.tree test) }
     {
         if is_one_text(pattern) {
             return Ok(Membership::ByStart);
@@ -46,8 +48,9 @@ impl Membership {
 
     /// For how many words of marks states must have room.
     pub fn words(&self, pattern: &Pattern) -> usize
-        requires { IsTestOf pattern.now self.now }
-        ensures { HasRoomFor pattern.now result }
+        requires { IsTestOf pattern.now.tree self.now }
+        ensures value { result ≡ words_for (behind_start pattern.now.tree) }
+        ensures room { HasRoomFor pattern.now.tree result }
     {
         match self {
             Membership::ByStart => no_words(pattern),
@@ -57,10 +60,10 @@ impl Membership {
 
     /// Whether the pattern's language holds the text.
     pub fn passes(&self, pattern: &Pattern, states: &mut States, text: &[u8]) -> bool
-        requires test { IsTestOf pattern.now self.now }
-        requires room { HasRoomFor pattern.now states.old.room }
+        requires test { IsTestOf pattern.now.tree self.now }
+        requires room { HasRoomFor pattern.now.tree states.old.room }
         ensures room { states.new.room ≡ states.old.room }
-        ensures value { result ≡ holds pattern.now text.now }
+        ensures value { result ≡ holds pattern.now.tree text.now }
     {
         match self {
             Membership::ByStart => text == pattern.start(),
@@ -70,10 +73,10 @@ impl Membership {
 
     /// Goes back to the states before the first byte of a text.
     pub fn restart(&self, pattern: &Pattern, states: &mut States)
-        requires test { IsTestOf pattern.now self.now }
-        requires room { HasRoomFor pattern.now states.old.room }
-        ensures own { AreStatesOf pattern.now states.new.known }
-        ensures stands { StandsFor pattern.now states.new.known [] }
+        requires test { IsTestOf pattern.now.tree self.now }
+        requires room { HasRoomFor pattern.now.tree states.old.room }
+        ensures own { AreStatesOf pattern.now.tree states.new.known }
+        ensures stands { StandsFor pattern.now.tree states.new.known [] }
         ensures room { states.new.room ≡ states.old.room }
     {
         match self {
@@ -84,11 +87,11 @@ impl Membership {
 
     /// Goes on by a byte: what the states stand for gets it at its end.
     pub fn step(&self, pattern: &Pattern, states: &mut States, byte: u8)
-        requires test { IsTestOf pattern.now self.now }
-        requires own { AreStatesOf pattern.now states.old.known }
-        ensures own { AreStatesOf pattern.now states.new.known }
-        ensures stands { (text : List ℕ) → StandsFor pattern.now states.old.known text
-            → StandsFor pattern.now states.new.known (text ++ byte ∷ []) }
+        requires test { IsTestOf pattern.now.tree self.now }
+        requires own { AreStatesOf pattern.now.tree states.old.known }
+        ensures own { AreStatesOf pattern.now.tree states.new.known }
+        ensures stands { (text : List ℕ) → StandsFor pattern.now.tree states.old.known text
+            → StandsFor pattern.now.tree states.new.known (text ++ byte ∷ []) }
         ensures room { states.new.room ≡ states.old.room }
     {
         match self {
@@ -99,10 +102,10 @@ impl Membership {
 
     /// Whether the text that was read is in the language.
     pub fn accepts(&self, pattern: &Pattern, states: &States) -> bool
-        requires test { IsTestOf pattern.now self.now }
-        requires own { AreStatesOf pattern.now states.now.known }
-        ensures { (text : List ℕ) → StandsFor pattern.now states.now.known text
-            → result ≡ holds pattern.now text }
+        requires test { IsTestOf pattern.now.tree self.now }
+        requires own { AreStatesOf pattern.now.tree states.now.known }
+        ensures { (text : List ℕ) → StandsFor pattern.now.tree states.now.known text
+            → result ≡ holds pattern.now.tree text }
     {
         match self {
             Membership::ByStart => accepts_text(pattern, states),
@@ -113,10 +116,11 @@ impl Membership {
     /// Whether the language holds the text that was read and each text that begins with it. It may
     /// say false where it does.
     pub fn takes_all(&self, pattern: &Pattern, states: &States) -> bool
-        requires test { IsTestOf pattern.now self.now }
-        requires own { AreStatesOf pattern.now states.now.known }
-        ensures { result ≡ true → (text : List ℕ) → StandsFor pattern.now states.now.known text
-            → TakesAll pattern.now text }
+        requires test { IsTestOf pattern.now.tree self.now }
+        requires own { AreStatesOf pattern.now.tree states.now.known }
+        ensures exact { IsTrue result ↔ StatesLeadOnward pattern.now.tree states.now.known }
+        ensures texts { result ≡ true → (text : List ℕ)
+            → StandsFor pattern.now.tree states.now.known text → TakesAll pattern.now.tree text }
     {
         match self {
             Membership::ByStart => false,
@@ -127,24 +131,25 @@ impl Membership {
     /// Whether the states stand as well for the text with one more byte, whichever it is, other
     /// than 0. It may say false where they do.
     pub fn stays(&self, pattern: &Pattern, states: &States) -> bool
-        requires test { IsTestOf pattern.now self.now }
-        requires own { AreStatesOf pattern.now states.now.known }
-        ensures { result ≡ true → (byte : ℕ) → 0 < byte → byte < 256
-            → (text : List ℕ) → StandsFor pattern.now states.now.known text
-            → StandsFor pattern.now states.now.known (text ++ byte ∷ []) }
+        requires test { IsTestOf pattern.now.tree self.now }
+        requires own { AreStatesOf pattern.now.tree states.now.known }
+        ensures exact { IsTrue result ↔ StatesStay pattern.now.tree states.now.known }
+        ensures stands { result ≡ true → (byte : ℕ) → 0 < byte → byte < 256
+            → (text : List ℕ) → StandsFor pattern.now.tree states.now.known text
+            → StandsFor pattern.now.tree states.now.known (text ++ byte ∷ []) }
     {
         match self {
-            Membership::ByStart => false,
+            Membership::ByStart => stays_text(pattern, states),
             Membership::ByMatcher(tables) => Matcher::new(pattern, tables).stays(states),
         }
     }
 
     /// Whether some text of the language begins with the text that was read.
     pub fn alive(&self, pattern: &Pattern, states: &States) -> bool
-        requires test { IsTestOf pattern.now self.now }
-        requires own { AreStatesOf pattern.now states.now.known }
-        ensures { (text : List ℕ) → StandsFor pattern.now states.now.known text
-            → IsTrue result ↔ Opens pattern.now text }
+        requires test { IsTestOf pattern.now.tree self.now }
+        requires own { AreStatesOf pattern.now.tree states.now.known }
+        ensures { (text : List ℕ) → StandsFor pattern.now.tree states.now.known text
+            → IsTrue result ↔ Opens pattern.now.tree text }
     {
         match self {
             Membership::ByStart => is_text_alive(pattern, states),

@@ -1,6 +1,6 @@
 ghost use Rattle.std.specs.Prelude.{◌≡◌, ◌<◌, ◌^◌, ◌++◌, ◌∷◌, [], List, IfOk, OnOk, length, map};
 ghost use Rattle.std.specs.Prelude.{if◌then◌else◌};
-ghost use Rattle.file_paths.specs.Path.{Path, path_text};
+ghost use Rattle.file_paths.specs.Path.{Path, is_root_path, path_text};
 ghost use Rattle.file_paths.specs.PathRef.{path_of};
 ghost use Rattle.pattern_match.specs.States.{AreStatesOf, HasRoomFor, StandsFor};
 ghost use Rattle.spec_match.specs.Alive.{AreAlive, alive_at};
@@ -8,7 +8,7 @@ ghost use Rattle.spec_match.specs.Chains.{AreStartsOf};
 ghost use Rattle.spec_match.specs.Found.{AreFound, IsAddedFrom, IsAddedOne, front_text};
 ghost use Rattle.spec_match.specs.Fronts.{AreFronts};
 ghost use Rattle.spec_match.specs.ListsSeen.{list_seen};
-ghost use Rattle.spec_match.specs.Relevant.{can_decide, is_root_path, relevant_at};
+ghost use Rattle.spec_match.specs.Relevant.{can_decide, relevant_at};
 ghost use Rattle.spec_match.specs.StatesFor.{AreStatesFor, patterns_of, spec_in};
 ghost use Rattle.spec_match.specs.Stepping.{AreOwnLists};
 ghost use Rattle.spec_reader.specs.SpecValue.{SpecValue};

@@ -1,12 +1,15 @@
-ghost use Rattle.std.specs.Prelude.{◌≡◌, ◌∷◌, ◌<◌, Bool, [], true, IfSome, length, map};
+ghost use Rattle.std.specs.Prelude.{◌≡◌, ◌∷◌, ◌<◌, ◌↔◌, Bool, [], true, IfSome, IsTrue, length};
+ghost use Rattle.std.specs.Prelude.{map};
 ghost use Rattle.std.specs.List.{All};
+ghost use Rattle.pattern_match.specs.Settled.{StatesStay};
 ghost use Rattle.pattern_match.specs.States.{AreStatesOf, HasRoomFor};
 ghost use Rattle.spec_match.specs.Alive.{AreAlive, IsOwn, LeadsBy, alive, alive_at, alive_list};
 ghost use Rattle.spec_match.specs.Alive.{wanted_byte};
 ghost use Rattle.spec_match.specs.Listed.{IsListed, Stays};
 ghost use Rattle.spec_match.specs.ListsSeen.{list_seen};
 ghost use Rattle.spec_match.specs.StatesFor.{AreStatesFor, patterns_of, spec_in};
-ghost use Rattle.spec_match.specs.Stepping.{AreOwnLists, GoesOn, IsEnd, IsStaying};
+ghost use Rattle.spec_match.specs.Stepping.{AllStatesStay, AreOwnLists, GoesOn, IsEnd};
+ghost use Rattle.spec_match.specs.Stepping.{IsStaying};
 
 use crate::compiled_spec::CompiledSpec;
 use crate::lists::{ListRef, Lists};
@@ -96,14 +99,16 @@ pub fn step_all(
     true
 }
 
-// Whether whatever follows leaves the specification at a place of a list as it is. It may say false
-// where it does.
+// Whether whatever follows leaves the states of the specification at a place of a list as they are.
+// It may leave what they stand for, and this be false, where other states leave the same.
 fn member_stays(list: &ListRef<'_>, rule: &CompiledSpec, states: &mut States, k: usize) -> bool
     requires list { list.now.number < length list.now.lists.now.lists }
     requires within { k < length (list_seen list.now) }
     requires room { HasRoomFor rule.now.spec.pattern states.old.room }
     requires kept { AreStatesOf rule.now.spec.pattern (alive_at (list_seen list.now) k).states }
     ensures room { states.new.room ≡ states.old.room }
+    ensures exact { IsTrue result
+        ↔ StatesStay rule.now.spec.pattern (alive_at (list_seen list.now) k).states }
     ensures stays { result ≡ true
         → IsStaying rule.now.spec.pattern (alive_at (list_seen list.now) k) }
 {
@@ -111,12 +116,14 @@ fn member_stays(list: &ListRef<'_>, rule: &CompiledSpec, states: &mut States, k:
     rule.stays(states)
 }
 
-/// Whether a list is as well for each longer text without a byte 0. It may say false where it is.
+/// Whether so it is with each specification of a list. Then the list is as well for each longer
+/// text without a byte 0.
 pub fn list_stays(list: &ListRef<'_>, rules: &[CompiledSpec], states: &mut States) -> bool
     requires states { AreStatesFor (patterns_of rules.now) states.old }
     requires own { AreOwnLists (patterns_of rules.now) list.now.lists.now.lists }
     requires list { list.now.number < length list.now.lists.now.lists }
     ensures states { AreStatesFor (patterns_of rules.now) states.new }
+    ensures exact { IsTrue result ↔ AllStatesStay (patterns_of rules.now) (list_seen list.now) }
     ensures stays { result ≡ true → (cuts : Bool)
         → Stays (IsListed cuts (patterns_of rules.now) (map spec_in rules.now))
         (list_seen list.now) }

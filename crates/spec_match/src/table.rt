@@ -579,6 +579,7 @@ impl Table {
         requires trail { IsTrailFor rules.now self.old }
         ensures states { AreStatesFor (patterns_of rules.now) states.new }
         ensures table { IsTableFor rules.now self.new }
+        ensures cuts { self.new.cuts ≡ self.old.cuts }
         ensures draft { self.new.lists.draft ≡ [] }
         ensures trail { IsTrailFor rules.now self.new }
         ensures told { IfSome result (λ found.

@@ -1,6 +1,7 @@
 ghost use Rattle.std.specs.Prelude.{◌≡◌, ◌<◌, ◌^◌, length};
 ghost use Rattle.spec_match.specs.Scratches.{IsScratchOf};
 
+use crate::direct::find_last;
 use crate::rule_set::RuleSet;
 use crate::scratch::Scratch;
 use file_paths::{NormPath, PathRef};
@@ -285,5 +286,39 @@ fn specifications_at_or_below_a_path(rt: HostRuntime) {
     ] {
         let found = relevant(rt.alloc(), specs, path);
         assert!(rt; found.is_some_and(|found| found.as_slice() == want));
+    }
+}
+
+// What is found in a list that isn't made ready, or 99 where it or the path can't be read.
+fn directly(alloc: Global, specs: &[u8], path: &[u8], asked: Asked) -> Option<u32>
+    requires { length specs.now < 2 ^ 32 }
+{
+    let Ok(specs) = read_specs(alloc, specs, Part::Base, 9) else {
+        return Some(99);
+    };
+    let Ok(path) = NormPath::read(alloc, path) else {
+        return Some(99);
+    };
+    find_last(alloc, specs.as_slice(), &path.path(), asked).unwrap_or(Some(99))
+}
+
+#[test]
+fn a_list_that_is_not_ready_answers_alike(rt: HostRuntime) {
+    let specs = b"/x/.* -d <<none>>\n/x/[0-9]+ <<none>>\n/x/1 -l <<none>>\n/y <<none>>\n";
+    for (path, asked, index) in [
+        (b"/x/1", Asked::Any, Some(2)),
+        (b"/x/1", Asked::Of(EntryKind::Link), Some(2)),
+        (b"/x/1", Asked::Of(EntryKind::Directory), Some(1)),
+        (b"/x/a", Asked::Of(EntryKind::Directory), Some(0)),
+        (b"/x/a", Asked::Of(EntryKind::Regular), None),
+    ] {
+        assert!(rt;
+            last(rt.alloc(), specs, path, asked) == index,
+            "by a list made ready"
+        );
+        assert!(rt;
+            directly(rt.alloc(), specs, path, asked) == index,
+            "by one that is not"
+        );
     }
 }

@@ -1,5 +1,6 @@
 ghost use Rattle.std.specs.Prelude.{◌≡◌, ◌≤◌, ◌<◌, ◌+◌, ◌++◌, ◌*◌, ℕ, Bool, List, length, min};
-ghost use Rattle.std.specs.Prelude.{take, set, true, IfOk, if◌then◌else◌, nat_lt};
+ghost use Rattle.std.specs.Prelude.{take, set, true, IfOk, if◌then◌else◌, nat_lt, replicate};
+ghost use Rattle.std.specs.Prelude.{[], slice_index};
 ghost use Rattle.pattern_match.specs.Onwards.{AreTextBytes};
 ghost use Rattle.pattern_syntax.specs.Tree.{Tree};
 ghost use Rattle.spec_reader.specs.SpecValue.{SpecValue};
@@ -64,6 +65,8 @@ pub fn common(a: &[u8], b: &[u8]) -> usize
     ensures a { result ≤ length a.now }
     ensures b { result ≤ length b.now }
     ensures same { take result a.now ≡ take result b.now }
+    ensures most { (k : ℕ) → k ≤ length a.now → k ≤ length b.now
+        → take k a.now ≡ take k b.now → k ≤ result }
 {
     let most = a.len().min(b.len());
     let front = common_chunks(a, b);
@@ -77,7 +80,8 @@ pub fn common(a: &[u8], b: &[u8]) -> usize
 
 /// Whether a text has no byte 0. The loop goes to the end, so that it takes many bytes at once.
 pub fn has_no_zero(text: &[u8]) -> bool
-    ensures { result ≡ true → AreTextBytes text.now }
+    ensures from { result ≡ true → AreTextBytes text.now }
+    ensures onto { AreTextBytes text.now → result ≡ true }
 {
     let mut least = u8::MAX;
     'bytes: for byte in text {
@@ -121,6 +125,8 @@ pub fn follow(
     requires list { from.list < count }
     requires from { from.at ≤ length text.now }
     ensures low { from.at ≤ result.at }
+    ensures stop { result.at < length text.now
+        → slice_index next.now (256 * result.list + slice_index text.now result.at) ≡ 0 }
     ensures read { (cuts : Bool) (patterns : List Tree) (specs : List SpecValue)
         (all : List (List Alive)) → length all ≡ count
         → Remembers (IsStep (IsListed cuts patterns specs) all) next.now
@@ -148,7 +154,9 @@ pub fn follow(
 impl Trail {
     /// No text, with room for one of so many bytes.
     pub fn new(alloc: Global, room: usize) -> Result<Trail, OutOfMemory>
-        ensures { IfOk result (λ trail. trail.known ≡ 0) }
+        ensures text { IfOk result (λ trail. trail.text.items ≡ []) }
+        ensures lists { IfOk result (λ trail. trail.lists.items ≡ replicate room 0) }
+        ensures known { IfOk result (λ trail. trail.known ≡ 0) }
     {
         Ok(Trail {
             text: Vec::with_capacity(alloc, room)?,
@@ -165,6 +173,9 @@ impl Trail {
         ensures own { result ≤ length self.now.text.items }
         ensures text { result ≤ length text.now }
         ensures same { take result self.now.text.items ≡ take result text.now }
+        ensures most { (k : ℕ) → k ≤ self.now.known → k ≤ length self.now.lists.items
+            → k ≤ length self.now.text.items → k ≤ length text.now
+            → take k self.now.text.items ≡ take k text.now → k ≤ result }
     {
         let most = common(self.text.as_slice(), text);
         most.min(self.known).min(self.lists.len())
@@ -197,7 +208,9 @@ impl Trail {
 
     /// Forgets the text.
     pub fn clear(&mut self)
-        ensures { self.new.known ≡ 0 }
+        ensures text { self.new.text.items ≡ self.old.text.items }
+        ensures lists { self.new.lists.items ≡ self.old.lists.items }
+        ensures known { self.new.known ≡ 0 }
     {
         self.known = 0;
     }

@@ -8,4 +8,4 @@ pub returns-then-not-may_hold-clause-value : goal.returns-then-not-may_hold-clau
 returns-then-not-may_hold-clause-value c =
     sym (and_right (applies c.args.rule.now.spec.kind c.args.query.now.asked)
     (holds c.args.rule.now.spec.pattern c.args.query.now.text.now)
-    (c.may_hold.ensures c.if-not-may_hold.true))
+    (c.may_hold.ensures.outside c.if-not-may_hold.true))

@@ -1,8 +1,7 @@
 use Rattle.std.proofs.Common.{◌∷◌, ◌++◌, []}
-use Rattle.file_paths.specs.Path.{Path, path_text}
+use Rattle.file_paths.specs.Path.{Path, is_root_path, path_text}
 use Rattle.spec_match.specs.StatesFor.{AreStatesFor, patterns_of}
 use Rattle.spec_match.proofs.AnswerLemmas.{IsPassed}
-use Rattle.spec_match.specs.Relevant.{is_root_path}
 use Rattle.std.proofs.Common.{◌≡◌}
 use Rattle.spec_match.proofs.carrying.first_child_fit.Given as goal
 

@@ -1,8 +1,7 @@
 use Rattle.std.proofs.Common.{◌≡◌, ◌≤◌, length}
-use Rattle.file_paths.specs.Path.{Path, path_text}
+use Rattle.file_paths.specs.Path.{Path, is_root_path, path_text}
 use Rattle.spec_match.specs.Alive.{AreAlive}
 use Rattle.spec_match.specs.ListsSeen.{list_seen}
-use Rattle.spec_match.specs.Relevant.{is_root_path}
 use Rattle.spec_match.specs.StatesFor.{AreStatesFor, patterns_of}
 use Rattle.spec_match.proofs.RelevantLemmas.{IsTried, low_at}
 use Rattle.spec_match.proofs.relevant.listed_relevant.Given as goal

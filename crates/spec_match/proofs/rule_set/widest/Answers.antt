@@ -6,4 +6,4 @@ rules-preserved c =
     widest_on c.args.rules.now c.rules.rule-index c.rule-item.result c.rules.most
     c.wider-most.result c.rules-test.true c.rule-item.is c.wider-most.ensures.one
     (more_room c.rule-item.result.spec.pattern c.words.result c.wider-most.result
-    c.wider-most.ensures.other c.words.ensures) c.rules.invariant
+    c.wider-most.ensures.other c.words.ensures.room) c.rules.invariant

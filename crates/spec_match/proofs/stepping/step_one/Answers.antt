@@ -9,7 +9,7 @@ returns-then-wants_other-clause-goes c = inl (record {
   same = refl;
   dead = λ text s. other_byte c.args.rule.now.spec.pattern
       (alive_at (alive_list c.args.lists.now.lists c.args.step.from) c.args.k) c.args.step.byte
-      c.requires.wants (c.if-wants_other.ensures refl) text s;
+      c.requires.wants (c.if-wants_other.ensures.other refl) text s;
 })
 
 pub load-requires-clause-width : goal.load-requires-clause-width

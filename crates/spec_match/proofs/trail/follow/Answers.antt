@@ -1,5 +1,5 @@
-use Rattle.std.proofs.Common.{◌≡◌, ◌<◌, ◌*◌, ◌+◌, ◌-◌, arith, drop, get_or, length, nat_lt, subst}
-use Rattle.std.proofs.Common.{sym, take}
+use Rattle.std.proofs.Common.{◌≡◌, ◌∙◌, ◌<◌, ◌*◌, ◌+◌, ◌-◌, arith, drop, get_or, length, nat_lt}
+use Rattle.std.proofs.Common.{subst, sym, take}
 use Rattle.spec_match.specs.Listed.{IsListed}
 use Rattle.spec_match.proofs.TrailLemmas.{column_at, read_known, room_for}
 use Rattle.spec_match.proofs.trail.follow.Goals as goal
@@ -26,3 +26,8 @@ text-preserved c =
           (omega arith) c.note.ensures steps
           (c.text.invariant.read cuts ps specs all count steps begun);
     }
+
+pub returns-then-known-eq0-clause-stop : goal.returns-then-known-eq0-clause-stop
+returns-then-known-eq0-clause-stop c = λ _.
+    sym (column_at c.args.next.now (get_or c.args.text.now c.text.i 0) c.text.list)
+    ∙ c.if-known-eq0.true

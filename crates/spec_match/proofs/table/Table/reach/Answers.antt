@@ -75,7 +75,7 @@ returns-then-index c =
       within = read.within;
       alive = subst (λ b. IsListed b ps specs text list) cuts
           (stays_behind (list_for c.args.rules.now table) text c.follow-way.result.at list stays
-          read.inside (c.has_no_zero.ensures c.if-not-has_no_zero.false) read.listed);
+          read.inside (c.has_no_zero.ensures.from c.if-not-has_no_zero.false) read.listed);
     }
 
 pub read_byte-requires : goal.read_byte-requires
