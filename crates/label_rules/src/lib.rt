@@ -5,6 +5,7 @@
 mod given;
 mod label_after;
 mod lines;
+mod listed;
 mod looking_up;
 mod rules;
 mod verdict;
@@ -12,6 +13,7 @@ mod verdict;
 pub use given::{does_give, given_at, given_by, spec_at};
 pub use label_after::LabelAfter;
 pub use lines::{conflict_line, given_in, label_by, verdict_line};
+pub use listed::ListedRules;
 pub use looking_up::{look_up, look_up_path};
 pub use rules::Rules;
 pub use verdict::{Verdict, decide};

@@ -1,8 +1,8 @@
 ghost use Rattle.std.specs.Prelude.{◌≡◌, ◌<◌, ◌^◌, length};
 
 use crate::{
-    LabelAfter, Rules, conflict_line, decide, does_give, given_at, given_by, given_in, label_by,
-    look_up, look_up_path, spec_at, verdict_line,
+    LabelAfter, ListedRules, Rules, conflict_line, decide, does_give, given_at, given_by, given_in,
+    label_by, look_up, look_up_path, spec_at, verdict_line,
 };
 use context_syntax::{Context, Label, TypeNames, read_customizable};
 use file_paths::{NormPath, PathRef};
@@ -37,6 +37,15 @@ fn rules_by(alloc: Global, specs: &[u8]) -> Result<Rules, Fail>
         subs: subs_to_srv(alloc)?,
         types: TypeNames::new(alloc),
     })
+}
+
+// The same as they were read.
+fn listed_by(alloc: Global, specs: &[u8]) -> Result<ListedRules, Fail>
+    requires { length specs.now < 2 ^ 32 }
+{
+    let subs = subs_to_srv(alloc)?;
+    let specs = read_specs(alloc, specs, Part::Base, 9)?;
+    Ok(ListedRules::new(specs, subs, TypeNames::new(alloc)))
 }
 
 fn one_directory(alloc: Global) -> Result<Records, Fail> {
@@ -109,6 +118,21 @@ fn is_given_by_the_last(alloc: Global, rules: &Rules) -> Result<bool, Fail> {
 fn the_last_specification_gives_its_context(rt: HostRuntime) -> Result<(), Fail> {
     let rules = rules_by(rt.alloc(), b"/srv u:r:o_t:s0\n/srv -- u:r:s_t:s0\n")?;
     assert!(rt; is_given_by_the_last(rt.alloc(), &rules)?);
+    Ok(())
+}
+
+fn is_given_in_the_list(alloc: Global, rules: &ListedRules) -> Result<bool, Fail> {
+    let path = NormPath::read(alloc, b"/data")?;
+    let index = rules.look_up_path(alloc, &path.path(), Asked::Any)?;
+    Ok(index == Some(1) && rules.given_at(index).is_some())
+}
+
+#[test]
+fn rules_in_a_list_answer_alike(rt: HostRuntime) -> Result<(), Fail> {
+    let listed = listed_by(rt.alloc(), b"/srv u:r:o_t:s0\n/srv -- u:r:s_t:s0\n")?;
+    assert!(rt; is_given_in_the_list(rt.alloc(), &listed)?);
+    let ready = listed.into_rules(rt.alloc())?;
+    assert!(rt; is_given_by_the_last(rt.alloc(), &ready)?);
     Ok(())
 }
 

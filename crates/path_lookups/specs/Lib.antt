@@ -1,4 +1,6 @@
+pub mod PathRules
 pub mod Found
+pub mod Finders
 pub mod Verified
 pub mod Letters
 pub mod Words

@@ -2,10 +2,10 @@ ghost use Rattle.std.specs.Prelude.{◌≡◌, ◌<◌, ◌^◌, IfOk, length};
 ghost use Rattle.path_lookups.specs.Answer.{lookups_of, found_ending, lookup_end, verified_ending};
 
 use crate::found::{Lookup, add_found_report};
+use crate::path_rules::PathRules;
 use crate::verified::{Verification, add_verified_report};
 use crate::words::LookupWords;
 use label_base::{Bytes, OutOfMemory, PiecedText};
-use label_rules::Rules;
 use run_endings::{End, Ending};
 use std::alloc::Global;
 use tree_model::Tree;
@@ -20,7 +20,11 @@ fn lookup_end(count: u32) -> End
     }
 }
 
-fn found_ending(alloc: Global, words: &LookupWords, rules: &Rules) -> Result<Ending, OutOfMemory>
+fn found_ending(
+    alloc: Global,
+    words: &LookupWords,
+    rules: &PathRules,
+) -> Result<Ending, OutOfMemory>
     ensures { IfOk result (λ ending. ending ≡ found_ending words.now rules.now) }
 {
     let lookup = Lookup {
@@ -40,7 +44,7 @@ fn found_ending(alloc: Global, words: &LookupWords, rules: &Rules) -> Result<End
 fn verified_ending(
     alloc: Global,
     words: &LookupWords,
-    rules: &Rules,
+    rules: &PathRules,
     tree: &Tree,
 ) -> Result<Ending, OutOfMemory>
     requires { length words.now.paths < 2 ^ 31 }
@@ -65,7 +69,7 @@ fn verified_ending(
 pub fn answer_of(
     alloc: Global,
     words: &LookupWords,
-    rules: &Rules,
+    rules: &PathRules,
     tree: &Tree,
 ) -> Result<Ending, OutOfMemory>
     requires { length words.now.paths < 2 ^ 31 }

@@ -1,17 +1,14 @@
-ghost use Rattle.std.specs.Prelude.{◌≡◌, ◌+◌, ◌++◌, ◌<◌, ◌≤◌, IfOk, OnOk};
-ghost use Rattle.std.specs.Option.{option_copied};
-ghost use Rattle.file_paths.specs.PathRef.{path_of};
+ghost use Rattle.std.specs.Prelude.{◌≡◌, ◌++◌, ◌<◌, IfOk, OnOk};
 ghost use Rattle.report_text.specs.Message.{message_of};
 ghost use Rattle.report_text.specs.Texts.{report_of};
-ghost use Rattle.spec_match.specs.Scratches.{IsScratchOf};
-ghost use Rattle.path_lookups.specs.Found.{any_or, context_for, found_message, found_messages};
+ghost use Rattle.path_lookups.specs.Finders.{IsFinderOf};
+ghost use Rattle.path_lookups.specs.Found.{any_or, found_message, found_messages};
 
-use context_syntax::Context;
-use file_paths::{NormPath, PathRef};
+use crate::finder::Finder;
+use crate::path_rules::PathRules;
+use file_paths::NormPath;
 use label_base::{Asked, Bytes, EntryKind, OutOfMemory, Steps};
-use label_rules::{Rules, given_at, look_up_path};
 use report_text::{Message, add_line};
-use spec_match::Scratch;
 use std::alloc::Global;
 use std::marker::Brand;
 use std::sync::ledger::{Blank, Ledger};
@@ -19,31 +16,11 @@ use std::sync::ledger::{Blank, Ledger};
 /// By which rules paths are looked up, as which kind, and how they are told.
 #[derive(Clone, Copy)]
 pub struct Lookup<'a> {
-    pub rules: &'a Rules,
+    pub rules: &'a PathRules,
     /// Where none is told, specifications of every kind apply.
     pub kind: Option<EntryKind>,
     /// A bare line doesn't name its path.
     pub bare: bool,
-}
-
-/// The context that is decided for a path. There is none where no specification decides it, nor
-/// where the one that does says `<<none>>`. It counts at most one step.
-pub fn find_context<'a, L: Ledger>(
-    alloc: Global,
-    rules: &'a Rules,
-    path: &PathRef<'_>,
-    asked: Asked,
-    scratch: &mut Scratch,
-    steps: &mut Steps<L>,
-) -> Result<Option<&'a Context>, OutOfMemory>
-    requires { IsScratchOf rules.now.rules scratch.old }
-    ensures own { IsScratchOf rules.now.rules scratch.new }
-    ensures found { IfOk result (λ context.
-        option_copied context ≡ context_for rules.now (path_of path.now) asked) }
-    ensures count { steps.new ≤ steps.old + 1 }
-{
-    let found = look_up_path(alloc, rules, path, asked, scratch, steps)?;
-    Ok(given_at(rules, found))
 }
 
 fn any_or(kind: Option<EntryKind>) -> Asked
@@ -60,23 +37,16 @@ fn find_path<'a, L: Ledger>(
     alloc: Global,
     lookup: &Lookup<'a>,
     path: &'a NormPath,
-    scratch: &mut Scratch,
+    finder: &mut Finder<'a>,
     steps: &mut Steps<L>,
 ) -> Result<Message<'a>, OutOfMemory>
-    requires { IsScratchOf lookup.now.rules.now.rules scratch.old }
-    ensures own { IsScratchOf lookup.now.rules.now.rules scratch.new }
+    requires { IsFinderOf lookup.now.rules.now finder.old }
+    ensures own { IsFinderOf lookup.now.rules.now finder.new }
     ensures message { IfOk result (λ message. message_of message
         ≡ found_message lookup.now.rules.now lookup.now.kind lookup.now.bare path.now) }
 {
     let path = path.path();
-    let context = find_context(
-        alloc,
-        lookup.rules,
-        &path,
-        any_or(lookup.kind),
-        scratch,
-        steps,
-    )?;
+    let context = finder.find_context(alloc, &path, any_or(lookup.kind), steps)?;
     Ok(Message::Found {
         path,
         context,
@@ -98,9 +68,9 @@ fn add_all_found<'a, L: Ledger>(
         (found_messages lookup.now.rules.now lookup.now.kind lookup.now.bare paths.now)) }
 {
     let mut steps = Steps::<L>::open(blank);
-    let mut scratch = Scratch::new(alloc, &lookup.rules.rules)?;
+    let mut finder = Finder::new(alloc, lookup.rules)?;
     'paths: for path in paths {
-        let message = find_path(alloc, lookup, path, &mut scratch, &mut steps)?;
+        let message = find_path(alloc, lookup, path, &mut finder, &mut steps)?;
         add_line(alloc, &message, to)?;
     }
     Ok(())

@@ -1,8 +1,8 @@
 ghost use Rattle.std.specs.Prelude.{◌≡◌, ◌<◌, ◌^◌, IfOk, length};
-ghost use Rattle.spec_match.specs.Scratches.{IsScratchOf};
+ghost use Rattle.path_lookups.specs.Finders.{IsFinderOf};
 
 use crate::{
-    Lookup, LookupWords, Verification, add_found_report, add_verified_report, find_context,
+    Finder, Lookup, LookupWords, PathRules, Verification, add_found_report, add_verified_report,
     is_unverified, read_lookup, verify,
 };
 use context_syntax::TypeNames;
@@ -11,9 +11,8 @@ use file_roles::Part;
 use find_records::{Format, RecordLimits, read_records};
 use input_output::MemSource;
 use label_base::{Asked, Bytes, EntryKind, Fault, OutOfMemory, Row, Steps};
-use label_rules::{Rules, look_up_path};
+use label_rules::ListedRules;
 use path_subs::{SubList, Subs, read_subs};
-use spec_match::{RuleSet, Scratch};
 use spec_reader::read_specs;
 use std::alloc::Global;
 use std::marker::Brand;
@@ -48,17 +47,35 @@ fn both_of(alloc: Global, first: &[u8], second: &[u8]) -> Result<Subs, Fail>
     })
 }
 
-fn rules_with(alloc: Global, specs: &[u8], first: &[u8], second: &[u8]) -> Result<Rules, Fail>
+fn listed_with(
+    alloc: Global,
+    specs: &[u8],
+    first: &[u8],
+    second: &[u8],
+) -> Result<ListedRules, Fail>
     requires specs { length specs.now < 2 ^ 32 }
     requires first { length first.now < 2 ^ 32 }
     requires second { length second.now < 2 ^ 32 }
 {
     let subs = both_of(alloc, first, second)?;
-    Ok(Rules {
-        subs,
-        types: TypeNames::new(alloc),
-        rules: RuleSet::new(alloc, read_specs(alloc, specs, Part::Base, 9)?)?,
-    })
+    let specs = read_specs(alloc, specs, Part::Base, 9)?;
+    Ok(ListedRules::new(specs, subs, TypeNames::new(alloc)))
+}
+
+// Rules for so many paths.
+fn rules_with(
+    alloc: Global,
+    specs: &[u8],
+    first: &[u8],
+    second: &[u8],
+    paths: usize,
+) -> Result<PathRules, Fail>
+    requires specs { length specs.now < 2 ^ 32 }
+    requires first { length first.now < 2 ^ 32 }
+    requires second { length second.now < 2 ^ 32 }
+{
+    let listed = listed_with(alloc, specs, first, second)?;
+    Ok(PathRules::new(alloc, listed, paths)?)
 }
 
 fn paths_of(alloc: Global, texts: &[&[u8]]) -> Result<Row<NormPath>, Fail> {
@@ -71,7 +88,7 @@ fn paths_of(alloc: Global, texts: &[&[u8]]) -> Result<Row<NormPath>, Fail> {
 
 fn found(
     alloc: Global,
-    rules: &Rules,
+    rules: &PathRules,
     paths: &Row<NormPath>,
     kind: Option<EntryKind>,
 ) -> Result<Bytes, OutOfMemory> {
@@ -87,7 +104,7 @@ fn found(
 
 fn found_by(
     alloc: Global,
-    rules: &Rules,
+    rules: &PathRules,
     texts: &[&[u8]],
     kind: Option<EntryKind>,
 ) -> Result<Bytes, Fail> {
@@ -95,7 +112,32 @@ fn found_by(
     Ok(found(alloc, rules, &paths, kind)?)
 }
 
-// What is found for paths, told without these where no kind is.
+// For few and for many paths.
+const FEW: usize = 1;
+
+const MANY: usize = 99;
+
+// What is found for paths, told without these where no kind is, by rules for so many.
+fn found_for(
+    alloc: Global,
+    specs: &[u8],
+    texts: &[&[u8]],
+    kind: Option<EntryKind>,
+    paths: usize,
+) -> Result<Bytes, Fail>
+    requires { length specs.now < 2 ^ 32 }
+{
+    let rules = rules_with(
+        alloc,
+        specs,
+        b"/myweb /run/web\n",
+        b"/run /var/run\n",
+        paths,
+    )?;
+    found_by(alloc, &rules, texts, kind)
+}
+
+// What is found where paths are few, if it is what is found where they are many.
 fn found_of(
     alloc: Global,
     specs: &[u8],
@@ -104,8 +146,12 @@ fn found_of(
 ) -> Result<Bytes, Fail>
     requires { length specs.now < 2 ^ 32 }
 {
-    let rules = rules_with(alloc, specs, b"/myweb /run/web\n", b"/run /var/run\n")?;
-    found_by(alloc, &rules, texts, kind)
+    let few = found_for(alloc, specs, texts, kind, FEW)?;
+    let many = found_for(alloc, specs, texts, kind, MANY)?;
+    if few.as_slice() != many.as_slice() {
+        return Ok(Bytes::new(alloc));
+    }
+    Ok(few)
 }
 
 #[test]
@@ -185,7 +231,7 @@ fn without_a_kind_all_specifications_apply(rt: HostRuntime) -> Result<(), Fail> 
 // The lines, and how many of the paths are not verified.
 fn verified(
     alloc: Global,
-    rules: &Rules,
+    rules: &PathRules,
     tree: &Tree,
     paths: &Row<NormPath>,
     report: &mut Bytes,
@@ -203,7 +249,7 @@ fn verified(
 
 fn verified_by(
     alloc: Global,
-    rules: &Rules,
+    rules: &PathRules,
     tree: &Tree,
     texts: &[&[u8]],
     report: &mut Bytes,
@@ -218,10 +264,11 @@ fn verified_over(
     tree: &Tree,
     texts: &[&[u8]],
     report: &mut Bytes,
+    paths: usize,
 ) -> Result<u32, Fail>
     requires { length specs.now < 2 ^ 32 }
 {
-    let rules = rules_with(alloc, specs, b"", b"")?;
+    let rules = rules_with(alloc, specs, b"", b"", paths)?;
     verified_by(alloc, &rules, tree, texts, report)
 }
 
@@ -231,18 +278,19 @@ fn verified_of(
     records: &[u8],
     texts: &[&[u8]],
     report: &mut Bytes,
+    paths: usize,
 ) -> Result<u32, Fail>
     requires { length specs.now < 2 ^ 32 }
 {
     let tree = tree_of(alloc, records)?;
-    verified_over(alloc, specs, &tree, texts, report)
+    verified_over(alloc, specs, &tree, texts, report, paths)
 }
 
-#[test]
-fn paths_are_verified(rt: HostRuntime) -> Result<(), Fail> {
-    let mut report = Bytes::new(rt.alloc());
-    let unverified = verified_of(
-        rt.alloc(),
+// The lines of four paths of three entries, and how many of them are not verified, by rules for so
+// many.
+fn four_verified(alloc: Global, report: &mut Bytes, paths: usize) -> Result<u32, Fail> {
+    verified_of(
+        alloc,
         b"/srv/.* u:r:var_t:s0\n/srv/n <<none>>\n",
         b"f 1 60 w:r:var_t:s0 /srv/a\0f 1 61 u:r:tmp_t:s0 /srv/b\0f 1 62  /srv/n\0",
         [
@@ -252,8 +300,15 @@ fn paths_are_verified(rt: HostRuntime) -> Result<(), Fail> {
             b"/srv/n".as_slice(),
         ]
         .as_slice(),
-        &mut report,
-    )?;
+        report,
+        paths,
+    )
+}
+
+#[test]
+fn paths_are_verified(rt: HostRuntime) -> Result<(), Fail> {
+    let mut report = Bytes::new(rt.alloc());
+    let unverified = four_verified(rt.alloc(), &mut report, FEW)?;
     assert_eq!(rt; unverified, 2);
     assert_eq!(rt;
         report.as_slice(),
@@ -262,58 +317,74 @@ fn paths_are_verified(rt: HostRuntime) -> Result<(), Fail> {
     Ok(())
 }
 
-// What a look-up of one path tells: its index, whether a context is found, and whether it is not
-// verified.
-fn told_of<L: Ledger>(
+#[test]
+fn few_and_many_paths_are_verified_alike(rt: HostRuntime) -> Result<(), Fail> {
+    let mut few = Bytes::new(rt.alloc());
+    let unverified = four_verified(rt.alloc(), &mut few, FEW)?;
+    let mut many = Bytes::new(rt.alloc());
+    assert_eq!(rt; four_verified(rt.alloc(), &mut many, MANY)?, unverified);
+    assert_eq!(rt; many.as_slice(), few.as_slice());
+    Ok(())
+}
+
+#[test]
+fn few_and_many_paths_are_found_alike(rt: HostRuntime) -> Result<(), Fail> {
+    let texts = [b"/x/a".as_slice(), b"/run/x".as_slice(), b"/y".as_slice()];
+    let few = found_for(rt.alloc(), TYPED, texts.as_slice(), None, FEW)?;
+    let many = found_for(rt.alloc(), TYPED, texts.as_slice(), None, MANY)?;
+    assert_eq!(rt; few.as_slice(), many.as_slice());
+    Ok(())
+}
+
+// What a look-up of one path tells: whether a context is found, and whether it is not verified.
+fn told_of<'a, L: Ledger>(
     alloc: Global,
-    rules: &Rules,
-    tree: &Tree,
-    path: &PathRef<'_>,
-    scratch: &mut Scratch,
+    by: &Verification<'a>,
+    path: &PathRef<'a>,
+    finder: &mut Finder<'a>,
     blank: Blank,
-) -> Result<(Option<u32>, bool, bool), OutOfMemory>
-    requires own { IsScratchOf rules.now.rules scratch.old }
+) -> Result<(bool, bool), OutOfMemory>
+    requires own { IsFinderOf by.now.rules.now finder.old }
     requires name { blank.name ≡ L.name }
     requires parts { blank.parts ≡ L.parts }
     requires some { 0 < blank.parts }
 {
     let mut steps = Steps::<L>::open(blank);
-    let index = look_up_path(alloc, rules, path, Asked::Any, scratch, &mut steps)?;
-    let context = find_context(alloc, rules, path, Asked::Any, scratch, &mut steps)?;
-    let is_found = context.is_some();
+    let message = verify(alloc, by, path, finder, &mut steps)?;
+    let context = finder.find_context(alloc, path, Asked::Any, &mut steps)?;
+    Ok((context.is_some(), is_unverified(&message)))
+}
+
+fn told_by<'a>(
+    alloc: Global,
+    rules: &'a PathRules,
+    tree: &'a Tree,
+    path: &PathRef<'a>,
+) -> Result<(bool, bool), OutOfMemory> {
+    let mut finder = Finder::new(alloc, rules)?;
     let by = Verification {
         rules,
         tree,
         kind: None,
     };
-    let message = verify(alloc, &by, path, scratch, &mut steps)?;
-    Ok((index, is_found, is_unverified(&message)))
+    told_of::<Brand>(alloc, &by, path, &mut finder, Blank::new(1))
 }
 
-fn told_by(
-    alloc: Global,
-    rules: &Rules,
-    tree: &Tree,
-    path: &PathRef<'_>,
-) -> Result<(Option<u32>, bool, bool), OutOfMemory> {
-    let mut scratch = Scratch::new(alloc, &rules.rules)?;
-    told_of::<Brand>(alloc, rules, tree, path, &mut scratch, Blank::new(1))
-}
-
-fn told_over(alloc: Global, rules: &Rules, tree: &Tree) -> Result<(Option<u32>, bool, bool), Fail> {
+fn told_over(alloc: Global, rules: &PathRules, tree: &Tree) -> Result<(bool, bool), Fail> {
     let path = NormPath::read(alloc, b"/a")?;
     Ok(told_by(alloc, rules, tree, &path.path())?)
 }
 
-fn told_with(alloc: Global, tree: &Tree) -> Result<(Option<u32>, bool, bool), Fail> {
-    let rules = rules_with(alloc, b"/a u:r:a_t:s0\n", b"", b"")?;
+fn told_with(alloc: Global, tree: &Tree, paths: usize) -> Result<(bool, bool), Fail> {
+    let rules = rules_with(alloc, b"/a u:r:a_t:s0\n", b"", b"", paths)?;
     told_over(alloc, &rules, tree)
 }
 
 #[test]
 fn one_path_is_looked_up(rt: HostRuntime) -> Result<(), Fail> {
     let tree = tree_of(rt.alloc(), b"f 1 2 ? /a\0")?;
-    assert!(rt; told_with(rt.alloc(), &tree)? == (Some(0), true, true));
+    assert!(rt; told_with(rt.alloc(), &tree, FEW)? == (true, true));
+    assert!(rt; told_with(rt.alloc(), &tree, MANY)? == (true, true));
     Ok(())
 }
 

@@ -3,14 +3,15 @@ ghost use Rattle.run_input.specs.Files.{Reads};
 ghost use Rattle.path_lookups.specs.Plan.{rules_found};
 
 use crate::answer::answer_of;
+use crate::path_rules::PathRules;
 use crate::words::LookupWords;
 use context_syntax::TypeNames;
 use file_roles::FileList;
 use find_records::Format;
 use input_output::Store;
 use label_base::OutOfMemory;
-use label_rules::Rules;
-use policy_files::{add_policy, read_specifications, read_substitutions};
+use label_rules::ListedRules;
+use policy_files::{add_policy, read_spec_list, read_substitutions};
 use run_endings::Ending;
 use run_faults::Cause;
 use std::alloc::Global;
@@ -18,17 +19,31 @@ use tool_runs::Tool;
 use tree_model::Tree;
 
 // Reads the specifications, then the substitutions; no look-up asks for customizable types.
-fn read_found<S: Store>(alloc: Global, list: &FileList, store: &mut S) -> Result<Rules, Cause>
+fn read_listed<S: Store>(
+    alloc: Global,
+    list: &FileList,
+    store: &mut S,
+) -> Result<ListedRules, Cause>
     ensures { Reads S.files S.calls S.read_faults S.write_faults (rules_found list.now)
         store.old store.new result }
 {
-    let rules = read_specifications(alloc, list, 0, store)?;
+    let specs = read_spec_list(alloc, list, 0, store)?;
     let subs = read_substitutions(alloc, list, 0, store)?;
-    Ok(Rules {
-        rules,
-        subs,
-        types: TypeNames::new(alloc),
-    })
+    Ok(ListedRules::new(specs, subs, TypeNames::new(alloc)))
+}
+
+// Reads the rules for look-ups of so many paths.
+fn read_found<S: Store>(
+    alloc: Global,
+    list: &FileList,
+    paths: usize,
+    store: &mut S,
+) -> Result<PathRules, Cause>
+    ensures { Reads S.files S.calls S.read_faults S.write_faults (rules_found list.now)
+        store.old store.new result }
+{
+    let rules = read_listed(alloc, list, store)?;
+    Ok(PathRules::new(alloc, rules, paths)?)
 }
 
 impl Tool for LookupWords {
@@ -36,7 +51,7 @@ impl Tool for LookupWords {
     ghost use Rattle.path_lookups.specs.Answer.{lookups_of};
     ghost use Rattle.path_lookups.specs.Plan.{lookup_names, lookup_records};
 
-    type Found = Rules;
+    type Found = PathRules;
 
     ghost reads = { lookup_names };
 
@@ -71,11 +86,11 @@ impl Tool for LookupWords {
         alloc: Global,
         list: &FileList,
         store: &mut S,
-    ) -> Result<Rules, Cause> {
-        read_found(alloc, list, store)
+    ) -> Result<PathRules, Cause> {
+        read_found(alloc, list, self.paths.len(), store)
     }
 
-    fn answer(&self, alloc: Global, found: &Rules, tree: &Tree) -> Result<Ending, Cause> {
+    fn answer(&self, alloc: Global, found: &PathRules, tree: &Tree) -> Result<Ending, Cause> {
         Ok(answer_of(alloc, self, found, tree)?)
     }
 }

@@ -3,18 +3,17 @@ ghost use Rattle.std.specs.Option.{option_copied};
 ghost use Rattle.file_paths.specs.PathRef.{path_of};
 ghost use Rattle.report_text.specs.Message.{message_of};
 ghost use Rattle.report_text.specs.Texts.{report_of};
-ghost use Rattle.spec_match.specs.Scratches.{IsScratchOf};
+ghost use Rattle.path_lookups.specs.Finders.{IsFinderOf};
 ghost use Rattle.path_lookups.specs.Verified.{count_unverified, entry_message, is_but_user};
 ghost use Rattle.path_lookups.specs.Verified.{is_unverified, kind_or, label_message};
 ghost use Rattle.path_lookups.specs.Verified.{verified_message, verified_messages};
 
-use crate::found::find_context;
+use crate::finder::Finder;
+use crate::path_rules::PathRules;
 use context_syntax::{Context, Label};
 use file_paths::{NormPath, PathRef};
 use label_base::{Asked, Bytes, EntryKind, OutOfMemory, Steps};
-use label_rules::Rules;
 use report_text::{Message, add_line};
-use spec_match::Scratch;
 use std::alloc::Global;
 use std::marker::Brand;
 use std::sync::ledger::{Blank, Ledger};
@@ -23,7 +22,7 @@ use tree_model::Tree;
 /// By which rules and in which tree paths are verified, and as which kind.
 #[derive(Clone, Copy)]
 pub struct Verification<'a> {
-    pub rules: &'a Rules,
+    pub rules: &'a PathRules,
     pub tree: &'a Tree,
     /// Where none is told, it is the entry's.
     pub kind: Option<EntryKind>,
@@ -80,19 +79,19 @@ fn entry_message<'a, L: Ledger>(
     by: &Verification<'a>,
     path: &PathRef<'a>,
     e: u32,
-    scratch: &mut Scratch,
+    finder: &mut Finder<'a>,
     steps: &mut Steps<L>,
 ) -> Result<Message<'a>, OutOfMemory>
     requires entry { e < length by.now.tree.now }
-    requires own { IsScratchOf by.now.rules.now.rules scratch.old }
-    ensures own { IsScratchOf by.now.rules.now.rules scratch.new }
+    requires own { IsFinderOf by.now.rules.now finder.old }
+    ensures own { IsFinderOf by.now.rules.now finder.new }
     ensures message { IfOk result (λ message. message_of message
         ≡ entry_message by.now.rules.now by.now.tree.now by.now.kind (path_of path.now) (Some e)) }
     ensures count { steps.new ≤ steps.old + 1 }
 {
     let tree = by.tree;
     let asked = kind_or(by.kind, tree.entry(e).kind);
-    let wanted = find_context(alloc, by.rules, path, asked, scratch, steps)?;
+    let wanted = finder.find_context(alloc, path, asked, steps)?;
     Ok(label_message(path, tree.label(tree.group(e)), wanted))
 }
 
@@ -104,18 +103,18 @@ pub fn verify<'a, L: Ledger>(
     alloc: Global,
     by: &Verification<'a>,
     path: &PathRef<'a>,
-    scratch: &mut Scratch,
+    finder: &mut Finder<'a>,
     steps: &mut Steps<L>,
 ) -> Result<Message<'a>, OutOfMemory>
-    requires { IsScratchOf by.now.rules.now.rules scratch.old }
-    ensures own { IsScratchOf by.now.rules.now.rules scratch.new }
+    requires { IsFinderOf by.now.rules.now finder.old }
+    ensures own { IsFinderOf by.now.rules.now finder.new }
     ensures message { IfOk result (λ message. message_of message
         ≡ verified_message by.now.rules.now by.now.tree.now by.now.kind (path_of path.now)) }
     ensures count { steps.new ≤ steps.old + 1 }
 {
     match by.tree.find(path) {
         None => Ok(Message::NoRecord { path: *path }),
-        Some(e) => entry_message(alloc, by, path, e, scratch, steps),
+        Some(e) => entry_message(alloc, by, path, e, finder, steps),
     }
 }
 
@@ -146,10 +145,10 @@ fn add_all_verified<'a, L: Ledger>(
         (verified_messages by.now.rules.now by.now.tree.now by.now.kind paths.now)) }
 {
     let mut steps = Steps::<L>::open(blank);
-    let mut scratch = Scratch::new(alloc, &by.rules.rules)?;
+    let mut finder = Finder::new(alloc, by.rules)?;
     let mut unverified = 0;
     'paths: for path in paths {
-        let message = verify(alloc, by, &path.path(), &mut scratch, &mut steps)?;
+        let message = verify(alloc, by, &path.path(), &mut finder, &mut steps)?;
         add_line(alloc, &message, to)?;
         unverified += u32::from(is_unverified(&message));
     }

@@ -150,18 +150,20 @@ pub fn read_types<S: Store>(
     types_in(alloc, &bytes)
 }
 
-/// Reads the specifications of a policy by its number, and makes them ready for look-ups: the base
-/// file, then `.homedirs`, then `.local`.
+/// Reads the specifications of a policy by its number: the base file, then `.homedirs`, then
+/// `.local`, in the order in which the last match decides.
 ///
 /// The error is a failed read, or the first refusal.
-pub fn read_specifications<S: Store>(
+pub fn read_spec_list<S: Store>(
     alloc: Global,
     list: &FileList,
     version: u32,
     store: &mut S,
-) -> Result<RuleSet, Cause>
-    ensures { Reads S.files S.calls S.read_faults S.write_faults (version_specs list.now version)
+) -> Result<Row<Spec>, Cause>
+    ensures read { Reads S.files S.calls S.read_faults S.write_faults
+        (version_specs list.now version)
         store.old store.new result }
+    ensures few { IfOk result (λ specs. length specs < 2 ^ 32) }
 {
     let role = FileRole {
         part: Part::Base,
@@ -180,6 +182,21 @@ pub fn read_specifications<S: Store>(
         version,
     };
     let local = read_specs_part(alloc, list, role, room, store)?;
-    let list = ordered(alloc, first, home, local)?;
-    Ok(RuleSet::new(alloc, list)?)
+    Ok(ordered(alloc, first, home, local)?)
+}
+
+/// Reads the specifications of a policy by its number, and makes them ready for look-ups.
+///
+/// The error is a failed read, or the first refusal.
+pub fn read_specifications<S: Store>(
+    alloc: Global,
+    list: &FileList,
+    version: u32,
+    store: &mut S,
+) -> Result<RuleSet, Cause>
+    ensures { Reads S.files S.calls S.read_faults S.write_faults (version_specs list.now version)
+        store.old store.new result }
+{
+    let specs = read_spec_list(alloc, list, version, store)?;
+    Ok(RuleSet::new(alloc, specs)?)
 }

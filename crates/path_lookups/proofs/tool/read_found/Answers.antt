@@ -1,26 +1,10 @@
-use Rattle.std.proofs.Common.{ap, sym}
-use Rattle.std.specs.Prelude.{Ok}
-use Rattle.context_syntax.specs.TypeNames.{NameSet}
-use Rattle.policy_files.specs.Rules.{rules_with}
-use Rattle.path_lookups.specs.Plan.{rules_found}
-use Rattle.run_input.proofs.ReadsLemmas.{followed, refused, valued}
+use Rattle.policy_files.proofs.UnmadeLemmas.{refused_alike, unmade}
 use Rattle.path_lookups.proofs.tool.read_found.Goals as goal
 
 pub returns-in_err-rules : goal.returns-in_err-rules
-unfolding rules_found
 returns-in_err-rules g c =
-    refused _ _ _ _ _ _ _ _ _ _ c.from_residual.ensures.1 c.in_err-rules.ensures
+    refused_alike _ _ _ _ _ _ _ _ _ c.from_residual.ensures.1 c.in_err-rules.ensures
 
-pub returns-in_err-subs : goal.returns-in_err-subs
-unfolding rules_found
-returns-in_err-subs g c =
-    followed _ _ _ _ _ _ _ _ _ _ _ c.in_ok-rules.ensures
-    (refused _ _ _ _ _ _ _ _ _ _ c.from_residual-in_err-subs.ensures.1 c.in_err-subs.ensures)
-
-pub returns : goal.returns
-unfolding rules_found
-returns g c =
-    followed _ _ _ _ _ _ _ _ _ _ _ c.in_ok-rules.ensures
-    (valued _ _ _ _ _ _ _ _ _ _ c.in_ok-subs.ensures
-    (λ fs. ap (λ (types : NameSet). Ok (rules_with c.in_ok-rules.rules c.in_ok-subs.subs types))
-    (sym c.new.ensures)))
+pub returns-in_err-new : goal.returns-in_err-new
+returns-in_err-new g c =
+    unmade _ _ _ _ _ _ _ _ _ c.from_residual-in_err-new.ensures.1 c.in_ok-rules.ensures
