@@ -6,7 +6,7 @@ use Rattle.std.proofs.lemmas.Nat.{mod_below}
 use Rattle.std.proofs.lemmas.List.{get_or-map, length-map, take_more}
 use Rattle.tree_model.specs.Links.{same_inode}
 use Rattle.tree_model.specs.GroupLists.{AreGroups, AreGroupHeads, AreNext, next_at}
-use Rattle.tree_model.specs.Firsts.{AreBucketed, inode_bucket, first_with_inode, firsts_of}
+use Rattle.tree_model.specs.Firsts.{AreBucketed, inode_bucket, first_with_inode}
 use Rattle.tree_model.proofs.NameLemmas.{next_is}
 use Rattle.tree_model.proofs.NumberingLemmas.{Inode}
 use Rattle.tree_model.proofs.FirstLemmas.{exact, first_upto, inode_in, own_first, same_first}
@@ -109,13 +109,11 @@ module _ (inodes : List Inode) (buckets first next : List ℕ)
         → found ≡ its_first
     along_found same = omega (arith, a.upto, first_upto inodes (inode_in inodes e) found same)
 
--- the first entries with one more
-pub firsts_next : (inodes : List Inode) (e first : ℕ) (firsts firsts' : List ℕ) → e < length inodes
-    → first ≡ first_with_inode inodes (inode_in inodes e)
-    → firsts ≡ take e (firsts_of inodes) → firsts' ≡ firsts ++ first ∷ []
-    → firsts' ≡ take (e + 1) (firsts_of inodes)
-firsts_next inodes e first firsts firsts' l f old new =
-    new ∙ ap₂ (λ xs x. xs ++ x ∷ []) old
-    (f ∙ sym (get_or-map (first_with_inode inodes) inodes e (0, 0) 0 l))
-    ∙ sym (take_more (firsts_of inodes) e 0
-    (omega (arith, l, length-map inodes (first_with_inode inodes))))
+-- what each inode has, with one more
+pub each_next : (f : Inode → ℕ) (inodes : List Inode) (e x : ℕ) (xs xs' : List ℕ)
+    → e < length inodes → x ≡ f (inode_in inodes e)
+    → xs ≡ take e (map f inodes) → xs' ≡ xs ++ x ∷ []
+    → xs' ≡ take (e + 1) (map f inodes)
+each_next f inodes e x xs xs' l is old new =
+    new ∙ ap₂ (λ ys y. ys ++ y ∷ []) old (is ∙ sym (get_or-map f inodes e (0, 0) 0 l))
+    ∙ sym (take_more (map f inodes) e 0 (omega (arith, l, length-map inodes f)))

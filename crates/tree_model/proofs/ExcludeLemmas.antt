@@ -10,12 +10,12 @@ use Rattle.std.specs.declared.cmp.Ordering.TheVariants.{Less, Equal, Greater}
 use Rattle.file_paths.specs.Path.{Path, at_or_below, path_cmp}
 use Rattle.find_records.specs.Record.{Record}
 use Rattle.tree_model.specs.Extents.{EndsFrom, entry_at, extent_of}
-use Rattle.tree_model.specs.LiveLists.{IsCleared, IsClearedTo, IsFilled}
+use Rattle.tree_model.specs.LiveLists.{IsCleared, IsFilled}
 use Rattle.find_records.specs.Places.{no_record}
 use Rattle.tree_model.specs.Tree.{ByPath, IsFrom}
 use Rattle.tree_model.proofs.AboveLemmas.{below_chain, below_itself, between, not_before}
 use Rattle.tree_model.proofs.ExtentLemmas.{extent_has, extent_told}
-use Rattle.tree_model.proofs.MarkLemmas.{cleared_all, cleared_more, cleared_none}
+use Rattle.tree_model.proofs.MarkLemmas.{IsClearedTo, cleared_all, cleared_more, cleared_none}
 use Rattle.tree_model.proofs.HeadLemmas.{path_total}
 use Rattle.tree_model.proofs.SameLemmas.{path_exact, same_path_is}
 

@@ -13,8 +13,7 @@ use Rattle.std.proofs.lemmas.List.Sums.{prefix_len_passes, prefix_len_stops}
 use Rattle.tree_model.specs.Links.{same_inode}
 use Rattle.tree_model.specs.Groups.{inode_added, inodes_behind}
 use Rattle.tree_model.specs.GroupLists.{groups_behind}
-use Rattle.tree_model.specs.Firsts.{AreNumbered, count_next, first_with_inode, firsts_of}
-use Rattle.tree_model.specs.Firsts.{group_next}
+use Rattle.tree_model.specs.Firsts.{count_next, first_with_inode, firsts_of, group_next}
 use Rattle.tree_model.proofs.GroupLemmas.{groups_are, groups_within, length_behind, no_place}
 use Rattle.tree_model.proofs.GroupLemmas.{same_itself}
 use Rattle.tree_model.proofs.NumberingLemmas.{Inode}
@@ -167,6 +166,11 @@ module _ (inodes : List Inode) (e : ℕ) (l : e < length inodes) where
         (is_seen (list_any (same_inode own) seen) refl)
 
 -- ---- one entry more
+
+-- the groups of the entries before one, and how many groups these have
+pub record AreNumbered (inodes : List Inode) (e : ℕ) (groups : List ℕ) (count : ℕ) : Type 0 where
+  pub groups_are : groups ≡ take e (groups_behind [] inodes)
+  pub count_is : count ≡ length (inodes_behind [] (take e inodes))
 
 module _ (inodes : List Inode) (e count : ℕ) (groups : List ℕ) (l : e < length inodes)
     (n : AreNumbered inodes e groups count) where

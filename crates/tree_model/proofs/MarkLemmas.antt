@@ -7,8 +7,7 @@ use Rattle.std.proofs.lemmas.Bool.{cases_lt, cases_eq, and_parts, eq-eqb, ne_eqb
 use Rattle.std.proofs.lemmas.Bool.{and_from, false_from_ne_true}
 use Rattle.label_base.specs.Bounded.{implies}
 use Rattle.label_base.proofs.BoundedLemmas.{all_at, all_from, implies_at}
-use Rattle.tree_model.specs.LiveLists.{IsFilled, AreMarkedLive, IsMarkedTo, IsCleared, IsClearedTo}
-use Rattle.tree_model.specs.LiveLists.{stays_in}
+use Rattle.tree_model.specs.LiveLists.{IsFilled, AreMarkedLive, IsMarkedTo, IsCleared, stays_in}
 use Rattle.tree_model.specs.ExtentEnds.{AreEnds, within_extent}
 use Rattle.tree_model.proofs.ClosedLemmas.{run_parts, run_from, implied}
 
@@ -184,6 +183,13 @@ pub marked_one : (o : ℕ) (old : List Bool) → o < length old
     → AreMarkedLive (λ e. o == e) old (set old o true)
 marked_one o old l =
     record { sized = length-set old o true; marks = λ e m. one_mark o e old l (cases_eq e o) }
+
+-- the flags before c of the entries that pass are cleared, and the others stay
+pub record IsClearedTo (passes : ℕ → Bool) (c : ℕ) (old new : List Bool) : Type 0 where
+  pub sized : length new ≡ length old
+  pub before : (e : ℕ) → e < c → e < length old
+      → get_or new e false ≡ (get_or old e false && not (passes e))
+  pub behind : (e : ℕ) → c ≤ e → e < length old → get_or new e false ≡ get_or old e false
 
 -- nothing cleared yet
 pub cleared_none : (p : ℕ → Bool) (c : ℕ) (old : List Bool)

@@ -1,6 +1,6 @@
 -- The first entry of each inode: how groups are numbered.
-use Rattle.std.specs.Prelude.{◌≡◌, ℕ, ◌+◌, ◌*◌, ◌<◌, ◌^◌, ◌%◌, ◌/◌, nat_lt, true, List, [], length}
-use Rattle.std.specs.Prelude.{map, take, get_or, Option, Some, None, if◌then◌else◌}
+use Rattle.std.specs.Prelude.{◌≡◌, ℕ, ◌+◌, ◌*◌, ◌<◌, ◌^◌, ◌%◌, ◌/◌, nat_lt, true, List, length, map}
+use Rattle.std.specs.Prelude.{get_or, Option, Some, None, if◌then◌else◌}
 use Rattle.std.specs.BTreeMap as tree
 use Rattle.std.specs.BTreeMap.{BTreeMap}
 use Rattle.std.specs.List.{position_or_len}
@@ -8,8 +8,7 @@ use Rattle.std.specs.Ordering.{nat_cmp, ordering_then}
 use Rattle.std.specs.declared.cmp.Ordering.{Ordering}
 use Rattle.tree_model.specs.declared.firsts.TheConstants.{MIX}
 use Rattle.tree_model.specs.Links.{same_inode}
-use Rattle.tree_model.specs.GroupLists.{AreGroupHeads, AreNext, groups_behind}
-use Rattle.tree_model.specs.Groups.{inodes_behind}
+use Rattle.tree_model.specs.GroupLists.{AreGroupHeads, AreNext}
 
 -- where the inode is met first
 abbrev pub first_with_inode : List (ℕ × ℕ) → ℕ × ℕ → ℕ
@@ -28,11 +27,6 @@ group_next groups count first =
 
 abbrev pub count_next : List ℕ → ℕ → ℕ → ℕ
 count_next groups count first = if nat_lt first (length groups) then count else count + 1
-
--- the groups of the entries before one, and how many groups these have
-pub record AreNumbered (inodes : List (ℕ × ℕ)) (e : ℕ) (groups : List ℕ) (count : ℕ) : Type 0 where
-  pub groups_are : groups ≡ take e (groups_behind [] inodes)
-  pub count_is : count ≡ length (inodes_behind [] (take e inodes))
 
 -- ---- entries by buckets
 

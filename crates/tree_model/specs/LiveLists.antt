@@ -70,13 +70,6 @@ pub record KeepsFlags (live : List Bool) (dead : List ℕ) (count : ℕ) : Type 
   pub count_is : count ≡ length live
   pub dead_are : AreDead live 0 dead
 
--- the flags before c of the entries that pass are cleared, and the others stay
-pub record IsClearedTo (passes : ℕ → Bool) (c : ℕ) (old new : List Bool) : Type 0 where
-  pub sized : length new ≡ length old
-  pub before : (e : ℕ) → e < c → e < length old
-      → get_or new e false ≡ (get_or old e false && not (passes e))
-  pub behind : (e : ℕ) → c ≤ e → e < length old → get_or new e false ≡ get_or old e false
-
 -- the flags of so many entries are what a test tells of them
 pub record AreFlags (count : ℕ) (test : ℕ → Bool) (live : List Bool) : Type 0 where
   pub sized : length live ≡ count

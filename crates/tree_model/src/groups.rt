@@ -12,7 +12,7 @@ ghost use Rattle.tree_model.specs.Tree.{ByPath};
 
 use crate::closed::closed_by;
 use crate::counted::clear_counted;
-use crate::firsts::{Inode, firsts_of};
+use crate::firsts::{Inodes, firsts_of};
 use crate::sorted::Sorted;
 use label_base::OutOfMemory;
 use std::alloc::Global;
@@ -33,25 +33,15 @@ fn is_counted(counted: bool, links: Option<u64>) -> bool
     counted || links.is_some()
 }
 
-// The inodes of entries, and whether an entry has a link count.
-#[derive(Drop)]
-struct Inodes {
-    inodes: Vec<Inode>,
-    counted: bool,
-}
-
-fn list_inodes(alloc: Global, sorted: &Sorted) -> Result<Inodes, OutOfMemory>
-    ensures inodes { IfOk result (λ listed. listed.inodes.items ≡ map inode_of sorted.now) }
-    ensures counted { IfOk result (λ listed. listed.counted ≡ false → AreUncounted sorted.now) }
+// Whether an entry has a link count.
+fn has_counts(sorted: &Sorted) -> bool
+    ensures { result ≡ false → AreUncounted sorted.now }
 {
-    let mut inodes = Vec::with_capacity(alloc, sorted.len() as usize)?;
     let mut counted = false;
     'entries: for e in 0..sorted.len() {
-        let entry = sorted.entry(e);
-        inodes.push((entry.device, entry.inode))?;
-        counted = is_counted(counted, entry.links);
+        counted = is_counted(counted, sorted.entry(e).links);
     }
-    Ok(Inodes { inodes, counted })
+    counted
 }
 
 // Adds the group of the next entry: a new one, unless the first entry of its inode has one.
@@ -100,13 +90,12 @@ pub fn number_groups(alloc: Global, sorted: &Sorted) -> Result<Numbering, OutOfM
         numbering.counted ≡ false → AreUncounted sorted.now) }
 {
     let _count = sorted.len();
-    let listed = list_inodes(alloc, sorted)?;
-    let firsts = firsts_of(alloc, listed.inodes.as_slice())?;
+    let firsts = firsts_of(alloc, &Inodes::new(sorted))?;
     let (group_of, count) = number_by(alloc, firsts.as_slice())?;
     Ok(Numbering {
         group_of,
         count,
-        counted: listed.counted,
+        counted: has_counts(sorted),
     })
 }
 

@@ -100,14 +100,24 @@ fn key_of(records: &Records, parent: u32, place: u32) -> Option<PathKey<'_>> {
     Some(path.key())
 }
 
-// The entries of a directory, in the order of their names.
-fn sorted_names<'r>(
+// Places by their directories.
+#[derive(Clone, Copy)]
+struct ByDirectory<'a> {
+    records: &'a Records,
+    // For each place the next one of its directory.
+    next: &'a [u32],
+    // For each directory its first entry.
+    first: &'a [u32],
+}
+
+// The entries of a directory from the first one on, in the order of their names.
+fn sorted_names<'a>(
     alloc: Global,
-    records: &'r Records,
-    next: &[u32],
+    places: &ByDirectory<'a>,
     parent: u32,
     first: u32,
-) -> Result<Vec<(PathKey<'r>, u32)>, OutOfMemory> {
+) -> Result<Vec<(PathKey<'a>, u32)>, OutOfMemory> {
+    let records = places.records;
     let mut names = Vec::new(alloc);
     let mut place = first;
     'names: for _ in 0..records.len() {
@@ -115,7 +125,7 @@ fn sorted_names<'r>(
             break;
         };
         names.push((key, place))?;
-        place = at(next, place);
+        place = at(places.next, place);
     }
     names.sort_unstable();
     Ok(names)
@@ -124,57 +134,48 @@ fn sorted_names<'r>(
 // Puts the entries of a directory on the pile, the first one last.
 fn pile(
     alloc: Global,
-    records: &Records,
-    next: &[u32],
+    places: &ByDirectory<'_>,
     parent: u32,
     first: u32,
     piled: &mut Vec<u32>,
 ) -> Result<(), OutOfMemory> {
-    if at(next, first) >= records.len() {
-        if first < records.len() {
+    let count = places.records.len();
+    if at(places.next, first) >= count {
+        if first < count {
             piled.push(first)?;
         }
         return Ok(());
     }
-    let names = sorted_names(alloc, records, next, parent, first)?;
+    let names = sorted_names(alloc, places, parent, first)?;
     'sorted: for name in names.as_slice().iter().rev() {
         piled.push(name.1)?;
     }
     Ok(())
 }
 
-// Puts what is on the pile in order, each directory before what is in it. Each place is given with
-// the next one of its directory, and each directory with its first entry.
+// Puts what is on the pile in order, each directory before what is in it.
 fn put_below(
     alloc: Global,
-    records: &Records,
-    next: &[u32],
-    first: &[u32],
+    places: &ByDirectory<'_>,
     piled: &mut Vec<u32>,
 ) -> Result<Vec<u32>, OutOfMemory> {
-    let mut order = Vec::with_capacity(alloc, records.len() as usize)?;
-    'places: for _ in 0..records.len() {
+    let count = places.records.len();
+    let mut order = Vec::with_capacity(alloc, count as usize)?;
+    'places: for _ in 0..count {
         let Some(place) = piled.pop() else {
             break;
         };
         order.push(place)?;
-        let inside = at(first, place);
-        pile(alloc, records, next, place, inside, piled)?;
+        pile(alloc, places, place, at(places.first, place), piled)?;
     }
     Ok(order)
 }
 
 // The order of a tree's entries, from those of no directory on.
-fn order_from(
-    alloc: Global,
-    records: &Records,
-    next: &[u32],
-    first: &[u32],
-    top: u32,
-) -> Result<Vec<u32>, OutOfMemory> {
+fn order_from(alloc: Global, places: &ByDirectory<'_>, top: u32) -> Result<Vec<u32>, OutOfMemory> {
     let mut piled = Vec::new(alloc);
-    pile(alloc, records, next, NONE, top, &mut piled)?;
-    put_below(alloc, records, next, first, &mut piled)
+    pile(alloc, places, NONE, top, &mut piled)?;
+    put_below(alloc, places, &mut piled)
 }
 
 // The order of a tree's entries, where each place is given with that of its directory.
@@ -184,7 +185,12 @@ fn order_below(
     mut next: Vec<u32>,
 ) -> Result<Vec<u32>, OutOfMemory> {
     let (first, top) = first_ones(alloc, records.len(), next.as_mut_slice())?;
-    order_from(alloc, records, next.as_slice(), first.as_slice(), top)
+    let places = ByDirectory {
+        records,
+        next: next.as_slice(),
+        first: first.as_slice(),
+    };
+    order_from(alloc, &places, top)
 }
 
 /// The order in which the records stand.

@@ -67,33 +67,42 @@ fn admit_entry(sorted: &Sorted, ends: &[u32], choice: &Choice, live: &mut Vec<bo
     mark_operand(sorted, ends, live, choice, o);
 }
 
+// What the operands before one admit, and the indices of those that no entry has.
+#[derive(Drop)]
+struct Admitted {
+    live: Vec<bool>,
+    absent: Row<u32>,
+}
+
 // Marks what the operand with an index admits, or notes that no entry has its path.
 fn admit_operand(
     sorted: &Sorted,
     ends: &[u32],
     choice: &Choice,
     index: u32,
-    live: &mut Vec<bool>,
-    absent: &mut Row<u32>,
+    admitted: &mut Admitted,
 ) -> Result<(), OutOfMemory>
     requires by_path { ByPath sorted.now }
     requires ends { EndsFrom 0 sorted.now ends.now }
     requires within { index < length choice.now.operands }
     requires flags { AreFlags (length sorted.now)
-        (is_admitted choice.now sorted.now (take index choice.now.operands)) live.old.items }
+        (is_admitted choice.now sorted.now (take index choice.now.operands))
+        admitted.old.live.items }
     ensures flags { AreFlags (length sorted.now)
-        (is_admitted choice.now sorted.now (take (index + 1) choice.now.operands)) live.new.items }
+        (is_admitted choice.now sorted.now (take (index + 1) choice.now.operands))
+        admitted.new.live.items }
     ensures absent { OnOk result (
-        absent.new ++ absent_from (index + 1) sorted.now (drop (index + 1) choice.now.operands)
-        ≡ absent.old ++ absent_from index sorted.now (drop index choice.now.operands)) }
+        admitted.new.absent
+        ++ absent_from (index + 1) sorted.now (drop (index + 1) choice.now.operands)
+        ≡ admitted.old.absent ++ absent_from index sorted.now (drop index choice.now.operands)) }
 {
     let path = choice.operands.get(index as usize).path();
     match sorted.find(&path) {
         Some(o) => {
-            admit_entry(sorted, ends, choice, live, o);
+            admit_entry(sorted, ends, choice, &mut admitted.live, o);
             Ok(())
         }
-        None => absent.push(index),
+        None => admitted.absent.push(index),
     }
 }
 
@@ -139,17 +148,19 @@ pub fn select_in(
     ensures value { IfOk result (λ selected. selected ≡ selected_by choice.now sorted.now) }
     ensures count { IfOk result (λ selected. length selected.live ≡ length sorted.now) }
 {
-    let mut live = vec![in alloc; false; sorted.len() as usize]?;
-    let mut absent = Row::new(alloc);
+    let mut admitted = Admitted {
+        live: vec![in alloc; false; sorted.len() as usize]?,
+        absent: Row::new(alloc),
+    };
     'operands: for index in 0..choice.operands.len() as u32 {
-        admit_operand(sorted, ends, choice, index, &mut live, &mut absent)?;
+        admit_operand(sorted, ends, choice, index, &mut admitted)?;
     }
-    exclude_all(sorted, ends, choice, &mut live);
-    let dead = all_dead(alloc, live.as_slice())?;
+    exclude_all(sorted, ends, choice, &mut admitted.live);
+    let dead = all_dead(alloc, admitted.live.as_slice())?;
     Ok(Selected {
         dead,
         count: sorted.len(),
-        absent,
+        absent: admitted.absent,
     })
 }
 

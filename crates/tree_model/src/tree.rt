@@ -83,7 +83,7 @@ fn keep_beside(alloc: Global, sorted: &Sorted) -> Result<Kept, OutOfMemory>
     ensures { IfOk result (λ kept.
         IsTreeKept sorted.now kept.ends.items kept.groups kept.directories.items) }
 {
-    // First of all that is made, since what numbers the inodes takes most room and is dropped then.
+    // First of all that is made, since what numbers the inodes is dropped then.
     let numbering = number_groups(alloc, sorted)?;
     let ends = all_ends(alloc, sorted)?;
     let groups = make_groups(alloc, sorted, numbering, ends.as_slice())?;

@@ -2,7 +2,7 @@ use Rattle.std.proofs.Common.{◌≡◌, ◌-◌, ◌≤◌, length}
 use Rattle.file_paths.specs.Path.{at_or_below}
 use Rattle.file_paths.specs.PathRef.{path_of}
 use Rattle.tree_model.specs.Extents.{entry_at}
-use Rattle.tree_model.specs.LiveLists.{IsClearedTo}
+use Rattle.tree_model.proofs.MarkLemmas.{IsClearedTo}
 use Rattle.tree_model.proofs.exclude.clear_below.Given as goal
 
 abbrev pub invariant-extents : goal.invariant-extents

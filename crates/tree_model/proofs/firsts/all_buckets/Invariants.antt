@@ -2,5 +2,5 @@ use Rattle.std.proofs.Common.{◌≡◌, map, take}
 use Rattle.tree_model.specs.Firsts.{inode_bucket}
 use Rattle.tree_model.proofs.firsts.all_buckets.Given as goal
 
-abbrev pub invariant-inodes : goal.invariant-inodes
-invariant-inodes l = l.buckets.items ≡ map (inode_bucket l.count) (take l.inode-index l.inodes)
+abbrev pub invariant-entries : goal.invariant-entries
+invariant-entries l = l.buckets.items ≡ take l.e (map (inode_bucket l.count) l.inodes)

@@ -6,13 +6,13 @@ use Rattle.tree_model.proofs.firsts.firsts_by_buckets.Goals as goal
 pub make_chains-requires : goal.make_chains-requires
 make_chains-requires c =
     buckets_are_groups c.args.inodes.now c.as_slice.result.now c.max-count.result
-    (omega (arith, c.max-count.ensures)) c.requires
+    (omega (arith, c.max-count.ensures)) (omega (arith, c.len.ensures))
     (c.as_slice.ensures.value ∙ c.in_ok-buckets.ensures)
 
 pub firsts_along-requires : goal.firsts_along-requires
 firsts_along-requires c =
     bucketed c.args.inodes.now c.as_slice-2.result.now c.max-count.result c.as_slice-3.result.now
-    c.as_slice-4.result.now (omega (arith, c.max-count.ensures)) c.requires
+    c.as_slice-4.result.now (omega (arith, c.max-count.ensures)) (omega (arith, c.len.ensures))
     (c.as_slice-2.ensures.value ∙ c.in_ok-buckets.ensures)
     (ap length c.as_slice-3.ensures.value ∙ c.in_ok-chains.ensures.count)
     (subst (λ bs. AreGroupHeads bs 0 c.as_slice-3.result.now)

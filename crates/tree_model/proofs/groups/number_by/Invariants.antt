@@ -1,5 +1,6 @@
 use Rattle.std.proofs.Common.{◌≡◌, ◌≤◌, ℕ, List}
-use Rattle.tree_model.specs.Firsts.{AreNumbered, firsts_of}
+use Rattle.tree_model.specs.Firsts.{firsts_of}
+use Rattle.tree_model.proofs.FirstLemmas.{AreNumbered}
 use Rattle.tree_model.proofs.groups.number_by.Given as goal
 
 abbrev pub invariant-entries : goal.invariant-entries

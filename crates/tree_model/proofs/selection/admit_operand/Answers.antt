@@ -28,7 +28,7 @@ returns-in-Some-clause-absent c =
     ap (λ p. find_in p c.args.sorted.now) (sym c.path-path.ensures) ∙ sym c.find.ensures
     ∙ c.in-Some.is in
     absent_found c.args.index c.in-Some.o c.args.sorted.now c.args.choice.now.operands
-    c.get.result.now c.args.absent.now c.get.ensures there
+    c.get.result.now c.args.admitted.now.absent c.get.ensures there
 
 pub returns-in-None-clause-flags : goal.returns-in-None-clause-flags
 returns-in-None-clause-flags c =
@@ -39,7 +39,8 @@ returns-in-None-clause-flags c =
     (is_admitted c.args.choice.now c.args.sorted.now
     (take c.args.index c.args.choice.now.operands))
     (is_admitted c.args.choice.now c.args.sorted.now
-    (take (c.args.index + 1) c.args.choice.now.operands)) c.args.live.now.items c.requires.flags
+    (take (c.args.index + 1) c.args.choice.now.operands)) c.args.admitted.now.live.items
+    c.requires.flags
     (λ e. admitted_more c.args.choice.now c.args.sorted.now c.args.choice.now.operands c.args.index
     c.get.result.now None c.get.ensures there e
     ∙ or_false (is_admitted c.args.choice.now c.args.sorted.now
@@ -52,4 +53,4 @@ returns-in-None-clause-absent c =
     ∙ c.in-None.is in
     on_ok_weaker c.push.result
     (absent_none c.args.index c.args.sorted.now c.args.choice.now.operands c.get.result.now
-    c.args.absent.now c.push.new.self c.get.ensures there) c.push.ensures.ok
+    c.args.admitted.now.absent c.push.new.self c.get.ensures there) c.push.ensures.ok

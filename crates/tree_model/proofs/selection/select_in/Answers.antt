@@ -30,5 +30,6 @@ returns-clause-value c =
     (live_is c.exclude_all.new.live.items c.in_ok-dead.dead.items c.len-2.result kept
     ∙ flags_are (length c.args.sorted.now) (is_chosen c.args.choice.now c.args.sorted.now)
     c.exclude_all.new.live.items c.exclude_all.ensures)
-    (absent_end c.operands.index c.args.sorted.now c.args.choice.now.operands c.operands.absent _
-    (omega (arith, c.operands-test.false, c.len-index-end.ensures)) c.operands.invariant.absent)
+    (absent_end c.operands.index c.args.sorted.now c.args.choice.now.operands
+    c.operands.admitted.absent _ (omega (arith, c.operands-test.false, c.len-index-end.ensures))
+    c.operands.invariant.absent)
