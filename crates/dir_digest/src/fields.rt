@@ -147,7 +147,7 @@ pub(crate) fn add_spec(spec: &Spec, to: &mut Bytes) -> Result<(), OutOfMemory>
     ensures read { OnOk result (IsReadSpec spec.now) }
     ensures added { OnOk result (to.new ≡ to.old ++ spec_bytes spec.now) }
 {
-    add_field(spec.text.as_slice(), to)?;
+    add_field(spec.text(), to)?;
     add_field(kind_field(spec.kind), to)?;
     add_decision(&spec.decision, to)
 }

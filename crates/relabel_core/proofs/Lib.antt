@@ -5,6 +5,7 @@ pub mod CountLemmas
 pub mod SelectedLemmas
 pub mod FormatLemmas
 pub mod StoredLemmas
+pub mod CoveredLemmas
 pub mod SweptLemmas
 pub mod CountsLemmas
 pub mod ChangeLemmas

@@ -1,7 +1,7 @@
 -- What is noted of the entries that were looked up.
 use Rattle.std.proofs.Common.{◌≡◌, ◌≢◌, ◌∙◌, sym, refl, ap, ap₂, subst, ℕ, zero, suc, ◌+◌, ◌<◌, ◌≤◌}
 use Rattle.std.proofs.Common.{◌^◌, ◌==◌, ◌&&◌, Bool, true, false, List, [], ◌∷◌, ◌++◌, length}
-use Rattle.std.proofs.Common.{replicate, set, Option, Some, None, IfSome, arith, inl, inr}
+use Rattle.std.proofs.Common.{set, Option, Some, None, IfSome, arith, inl, inr}
 use Rattle.std.proofs.Common.{if◌then◌else◌, eq-eqb, ne_eqb, add-one, length-append, length-set}
 use Rattle.std.proofs.Common.{get_or-set_same, get_or-set_other}
 use Rattle.std.specs.Prelude.{filter, is_some, is_none, nat_lt, option_and_then}
@@ -13,7 +13,7 @@ use Rattle.label_base.specs.Bounded.{all_numbers, found_or, least_below}
 use Rattle.label_base.proofs.BoundedLemmas.{least_case, below_or_last}
 use Rattle.tree_model.specs.Groups.{group_of, groups_in}
 use Rattle.relabel_core.specs.Numbers.{IsNumberPut, as_found, entered_at, entered_if, found_in}
-use Rattle.relabel_core.specs.Numbers.{found_number, put_at}
+use Rattle.relabel_core.specs.Numbers.{found_number, no_numbers, put_at}
 use Rattle.relabel_core.specs.Walk.{Walk, can_win, walk_count, deciding, is_wanted, one_if, walked}
 use Rattle.relabel_core.specs.Walk.{walked_below, wanted, wanted_below, winner}
 use Rattle.label_rules.specs.LookUp.{given_at}
@@ -163,6 +163,12 @@ wins_is : (w : Walk) (e : ℕ) → is_some (given_at w.rules.rules (deciding w e
 unfolding wanted
 wins_is w e = refl
 
+-- what decides an entry gives a context where one is decided for it
+pub gives_is : (w : Walk) (e : ℕ) (found : Option ℕ) (flag : Bool) → found ≡ deciding w e
+    → flag ≡ is_some (given_at w.rules.rules found) → flag ≡ is_wanted w e
+gives_is w e found flag is flag_is =
+    flag_is ∙ ap (λ f. is_some (given_at w.rules.rules f)) is ∙ wins_is w e
+
 pub noted_more : (w : Walk) (e : ℕ) (decided winners more_decided more_winners : List ℕ)
     (found : Option ℕ) (flag : Bool)
     → AreNoted w e decided winners → e < walk_count w → e < NONE → found ≡ deciding w e
@@ -174,8 +180,7 @@ pub noted_more : (w : Walk) (e : ℕ) (decided winners more_decided more_winners
 noted_more w e decided winners more_decided more_winners found flag noted inside l is flag_is small
     put_is_at w_is =
     let put = put_is decided more_decided e found small put_is_at in
-    let wins : flag ≡ is_some (wanted w e) = flag_is ∙ ap (λ f. is_some (given_at w.rules.rules f))
-    is ∙ wins_is w e in
+    let wins : flag ≡ is_wanted w e = gives_is w e found flag is flag_is in
     record {
       each_entry = put.room ∙ noted.each_entry;
       decided_are = λ k before.
@@ -198,11 +203,11 @@ noted_more w e decided winners more_decided more_winners found flag noted inside
     }
 
 -- nothing is noted before the first entry
-none_in : (n g : ℕ) → g < n → found_in (replicate n NONE) g ≡ None
+pub none_in : (n g : ℕ) → g < n → found_in (no_numbers n) g ≡ None
 none_in n g l = ap as_found (get_or-replicate n g NONE NONE l)
 
-pub none_noted : (w : Walk) (decided winners : List ℕ) → decided ≡ replicate (walk_count w) NONE
-    → winners ≡ replicate (groups_in w.entries) NONE
+pub none_noted : (w : Walk) (decided winners : List ℕ) → decided ≡ no_numbers (walk_count w)
+    → winners ≡ no_numbers (groups_in w.entries)
     → AreNoted w 0 decided winners
 none_noted w decided winners d v = record {
   each_entry = ap length d ∙ length-replicate (walk_count w) NONE;
@@ -211,8 +216,8 @@ none_noted w decided winners d v = record {
   winners_are = λ g within. ap (λ ns. found_in ns g) v ∙ none_in (groups_in w.entries) g within;
 }
 
-pub room_noted : (w : Walk) (decided winners : List ℕ) → decided ≡ replicate (walk_count w) NONE
-    → winners ≡ replicate (groups_in w.entries) NONE
+pub room_noted : (w : Walk) (decided winners : List ℕ) → decided ≡ no_numbers (walk_count w)
+    → winners ≡ no_numbers (groups_in w.entries)
     → HasWalkRoom w decided winners
 room_noted w decided winners d v = record {
   each_entry = ap length d ∙ length-replicate (walk_count w) NONE;

@@ -1,12 +1,15 @@
 -- How the digests of a dump are kept, section by section.
 use Rattle.std.proofs.Common.{◌≡◌, ◌∙◌, sym, refl, ap, ℕ, ◌==◌, Bool, true, false, List, [], ◌∷◌}
-use Rattle.std.proofs.Common.{◌++◌, Option, Some, None, if◌then◌else◌, append-nil}
+use Rattle.std.proofs.Common.{◌++◌, Option, Some, None, if◌then◌else◌, append-nil, arith, cond}
+use Rattle.std.proofs.Common.{length}
 use std.Path.{fun_ext}
 use Rattle.std.specs.Prelude.{filter, map}
 use Rattle.std.specs.List.{flat_map, last_or}
 use Rattle.std.specs.BTreeMap.{BTreeMap, is_at as is_at_key}
 use Rattle.std.specs.Map.{lookup}
-use Rattle.std.specs.Ordering.{nat_cmp}
+use Rattle.std.specs.Cmp.{nat_cmp_is}
+use Rattle.std.specs.Ordering.{is_eq, nat_cmp}
+use Rattle.std.specs.declared.cmp.Ordering.TheVariants.{Equal}
 use Rattle.std.proofs.lemmas.Grind.{flat_map-append}
 use Rattle.std.proofs.lemmas.List.{map-append}
 use Rattle.std.proofs.lemmas.List.Elements.{filter-append}
@@ -114,3 +117,25 @@ section_of_none kept entries section none = λ e.
 pub empty_keeps_none : (kept : BTreeMap ℕ (List ℕ)) → kept.entries ≡ []
     → digests_in kept ≡ no_digests
 empty_keeps_none kept none = fun_ext (λ (d : ℕ). ap (λ es. lookup (is_at_key (nat_cmp d)) es) none)
+
+none_found : (entries : List (ℕ × List ℕ))
+    → ((d : ℕ) → lookup (is_at_key (nat_cmp d)) entries ≡ None) → length entries ≡ 0
+none_found [] none = refl
+none_found (entry ∷ entries) none =
+    let here : Some entry.1 ≡ None =
+    ap (λ order. cond (is_eq order) (Some entry.1) (lookup (is_at_key (nat_cmp entry.0)) entries))
+    (nat_cmp_is entry.0 entry.0 Equal refl) ∙ none entry.0 in
+    absurd cc
+
+-- no entry is there where none is found
+pub none_kept : (kept : BTreeMap ℕ (List ℕ)) → digests_in kept ≡ no_digests
+    → length kept.entries ≡ 0
+none_kept kept none = none_found kept.entries (λ d. ap (λ digests. digests d) none)
+
+pub empty_kept : (kept : BTreeMap ℕ (List ℕ)) → length kept.entries ≡ 0
+    → digests_in kept ≡ no_digests
+empty_kept kept none = empty_keeps_none kept (no_items kept.entries none)
+  where
+    no_items : (entries : List (ℕ × List ℕ)) → length entries ≡ 0 → entries ≡ []
+    no_items [] e = refl
+    no_items (entry ∷ entries) e = absurd (omega (arith, e))

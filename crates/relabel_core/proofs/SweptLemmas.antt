@@ -1,83 +1,34 @@
 -- What is found of the directories, entry by entry.
-use Rattle.std.proofs.Common.{◌≡◌, ◌∙◌, sym, refl, ap, ap₂, ℕ, zero, suc, ◌+◌, ◌<◌, ◌≤◌, ◌==◌, ◌&&◌}
-use Rattle.std.proofs.Common.{◌||◌, Bool, true, false, not, List, [], ◌∷◌, ◌++◌, length, get_or}
-use Rattle.std.proofs.Common.{Option, Some, None, inl, inr, arith, if◌then◌else◌, eq-eqb, ne_eqb}
-use Rattle.std.proofs.Common.{add-one, length-append}
+use Rattle.std.proofs.Common.{◌≡◌, ◌∙◌, sym, refl, ap, ap₂, ℕ, ◌+◌, ◌<◌, ◌≤◌, ◌==◌, ◌&&◌, ◌||◌}
+use Rattle.std.proofs.Common.{Bool, true, false, not, List, [], ◌∷◌, ◌++◌, length, get_or, Option}
+use Rattle.std.proofs.Common.{Some, None, inl, inr, arith, if◌then◌else◌, eq-eqb, ne_eqb}
+use Rattle.std.proofs.Common.{length-append}
 use Rattle.std.specs.Prelude.{is_some, nat_le, nat_lt}
 use Rattle.std.specs.BTreeMap.{BTreeMap}
-use Rattle.std.proofs.lemmas.Bool.{and_parts, cases_eq, cases_lt, le-leb, le-ltb, lt-ltb, or_parts}
-use Rattle.std.proofs.lemmas.Bool.{and_right, and_left, false_from_ne_true}
+use Rattle.std.proofs.lemmas.Bool.{and_parts, cases_eq, cases_lt, le-ltb, lt-ltb, or_parts}
+use Rattle.std.proofs.lemmas.Bool.{and_right, and_left}
 use Rattle.std.proofs.lemmas.List.{get_or_append_left}
 use Rattle.std.proofs.Math.Seq.{get_or-append_seam}
 use Rattle.label_base.specs.Bounded.{all_below, any_below, implies}
-use Rattle.label_base.proofs.BoundedLemmas.{all_at, any_at, any_has, any_same, implies_at}
-use Rattle.label_base.proofs.BoundedLemmas.{none_from}
+use Rattle.label_base.proofs.BoundedLemmas.{all_at, implies_at, none_from}
 use Rattle.tree_model.specs.Extents.{in_extent, is_directory}
 use Rattle.tree_model.specs.Groups.{closed_at}
 use Rattle.tree_model.specs.Selection.{whole_at}
 use Rattle.tree_model.specs.Tree.{ByPath}
-use Rattle.tree_model.proofs.ExtentLemmas.{in_behind, in_chain, in_itself}
-use Rattle.relabel_core.specs.Swept.{AreSwept, AreSweeping, is_covered, is_first, is_not, meets}
-use Rattle.relabel_core.specs.Swept.{needed, renewal, renews, skip_of, uses_digests}
+use Rattle.tree_model.proofs.ExtentLemmas.{in_itself}
+use Rattle.relabel_core.specs.Swept.{AreSwept, AreSweeping, is_first, is_not, meets, needed}
+use Rattle.relabel_core.specs.Swept.{renewal, renews, skip_of, uses_digests}
 use Rattle.relabel_core.specs.Stored.{AddsDigest, digests_in, stored_before}
 use Rattle.relabel_core.specs.Walk.{Walk, walk_count, digest_now, is_current, is_live, is_renewed}
 use Rattle.relabel_core.specs.Walk.{is_skipped, is_skipped_first, is_whole, skippable, skips}
 use Rattle.relabel_core.specs.Walk.{walked}
 use Rattle.relabel_core.specs.declared.swept.Skip.{Skip}
 use Rattle.relabel_core.specs.declared.swept.Skip.TheVariants.{Not, First, Below}
+use Rattle.relabel_core.proofs.CoveredLemmas.{IsPassed, covers_none, passed_below, passed_by}
+use Rattle.relabel_core.proofs.CoveredLemmas.{passed_over, skipped_is}
 use Rattle.relabel_core.proofs.StoredLemmas.{empty_keeps_none}
 
--- ---- tests
-
-or_none : (b : Bool) → (b || false) ≡ b
-or_none true = refl
-or_none false = refl
-
-and_true : (a b : Bool) → b ≡ true → (a && b) ≡ a
-and_true true true h = refl
-and_true false b h = refl
-and_true true false h = absurd cc
-
--- a test that holds only where another one does adds nothing to it
-absorbed : (a b : Bool) → (b ≡ true → a ≡ true) → (a || b) ≡ a
-absorbed true b h = refl
-absorbed false true h = sym (h refl)
-absorbed false false h = refl
-
--- numbers from a place on that don't pass don't count
-any_shrinks : (n k : ℕ) (p : ℕ → Bool) → k ≤ n → ((j : ℕ) → k ≤ j → j < n → p j ≡ false)
-    → any_below n p ≡ any_below k p
-any_shrinks zero k p l h = let same : zero ≡ k = omega (arith, l) in ap (λ m. any_below m p) same
-any_shrinks (suc n) k p l h =
-    elim (cases_lt n k) [
-      | inl lt ↦ (let same : suc n ≡ k = omega (arith, l, lt) in ap (λ m. any_below m p) same)
-      | inr ge ↦ ap (λ b. any_below n p || b) (h n ge (omega arith)) ∙ or_none (any_below n p)
-          ∙ any_shrinks n k p ge (λ j a b. h j a (omega (arith, b)))
-    ]
-
--- ---- whether an entry is skipped
-
--- by whether it may be skipped itself, and whether it is below a skipped one
-told : Bool → Bool → Skip
-told s c = if s && not c then First else if c || s then Below else Not
-
-told_below : (s c : Bool) → c ≡ true → told s c ≡ Below
-unfolding told
-told_below true true h = refl
-told_below false true h = refl
-told_below s false h = absurd cc
-
-told_first : (s c : Bool) → s ≡ true → c ≡ false → told s c ≡ First
-unfolding told
-told_first true false h k = refl
-told_first false c h k = absurd cc
-told_first true true h k = absurd cc
-
-told_not : (s c : Bool) → s ≡ false → c ≡ false → told s c ≡ Not
-unfolding told
-told_not false false h k = refl
-told_not true c h k = absurd cc
-told_not false true h k = absurd cc
+-- ---- what is renewed
 
 -- nothing is renewed where the entry is skipped
 none_if : (dry o live skipped whole : Bool) (digest : List ℕ) → skipped ≡ true
@@ -106,51 +57,6 @@ kept_if false false true true false true s digest h f = refl
 kept_if false false false true false true s digest h f = refl
 
 module _ (w : Walk) (up : ByPath w.entries) where
-  -- an entry is below none behind it
-  not_behind : (e d : ℕ) → e < d → d < walk_count w → in_extent w.entries d e ≡ false
-  not_behind e d l m =
-      false_from_ne_true (in_extent w.entries d e)
-      (λ h. let from = in_behind w.entries up d e m h in omega (arith, from, l))
-
-  skipped_at : (e : ℕ) → e < walk_count w → is_skipped w e ≡ (is_covered w e e || skippable w e)
-  unfolding is_skipped
-  skipped_at e l =
-      any_shrinks (walk_count w) (suc e) (λ d. skippable w d && in_extent w.entries d e)
-      (omega (arith, l))
-      (λ d a b. and_right (skippable w d) (in_extent w.entries d e)
-      (not_behind e d (omega (arith, a)) b))
-      ∙ ap (λ b. is_covered w e e || b)
-      (and_true (skippable w e) (in_extent w.entries e e) (in_itself w.entries up e))
-
-  not_other : (e d : ℕ) → e ≤ d → d < walk_count w
-      → (skippable w d && in_extent w.entries d e && not (d == e)) ≡ false
-  not_other e d l m =
-      elim (cases_eq d e) [
-        | inl same ↦ and_right (skippable w d && in_extent w.entries d e) (not (d == e))
-            (ap not (eq-eqb d e same))
-        | inr differ ↦
-            and_left (skippable w d && in_extent w.entries d e) (not (d == e))
-            (and_right (skippable w d) (in_extent w.entries d e)
-            (not_behind e d (omega (arith, l, differ)) m))
-      ]
-
-  first_at : (e : ℕ) → e < walk_count w → is_skipped_first w e
-      ≡ (skippable w e && not (is_covered w e e))
-  unfolding is_skipped_first
-  first_at e l =
-      ap (λ b. skippable w e && not b)
-      (any_shrinks (walk_count w) e (λ d. skippable w d && in_extent w.entries d e && not (d == e))
-      (omega (arith, l)) (λ d a b. not_other e d a b)
-      ∙ any_same e (λ d. skippable w d && in_extent w.entries d e && not (d == e))
-      (λ d. skippable w d && in_extent w.entries d e)
-      (λ d a. and_true (skippable w d && in_extent w.entries d e) (not (d == e))
-      (ap not (ne_eqb d e (λ s. omega (arith, a, s))))))
-
-  skip_told : (e : ℕ) → e < walk_count w → skip_of w e ≡ told (skippable w e) (is_covered w e e)
-  unfolding told
-  skip_told e l = ap₂ (λ f s. if f then First else if s then Below else Not) (first_at e l)
-      (skipped_at e l)
-
   -- a whole directory is asked for itself
   whole_live : (e : ℕ) → e < walk_count w → is_whole w e ≡ true → is_live w e ≡ true
   whole_live e l h =
@@ -177,37 +83,7 @@ module _ (w : Walk) (up : ByPath w.entries) where
       (is_skipped w e) (is_whole w e) (is_some (w.stored e))
       (digest_now w e) h (whole_live e l)
 
-  -- ---- what is covered behind an entry
-
-  one_more : (e x : ℕ) → is_covered w (e + 1) x
-      ≡ (is_covered w e x || (skippable w e && in_extent w.entries e x))
-  one_more e x = ap (λ m. is_covered w m x) (add-one e)
-
-  -- what is below an entry that is below a skipped one is below that one
-  covered_chain : (e x : ℕ) → is_covered w e e ≡ true → (skippable w e && in_extent w.entries e x)
-      ≡ true → is_covered w e x ≡ true
-  covered_chain e x c h =
-      let above = any_has e (λ d. skippable w d && in_extent w.entries d e) c in
-      let parts = and_parts (skippable w above.0) (in_extent w.entries above.0 e) above.2 in
-      let here = and_parts (skippable w e) (in_extent w.entries e x) h in
-      any_at e (λ d. skippable w d && in_extent w.entries d x) above.0 above.1
-      (and_true (skippable w above.0) (in_extent w.entries above.0 x)
-      (in_chain w.entries up above.0 e x parts.1 here.1) ∙ parts.0)
-
 -- ---- what is told of an entry
-
-told_skips : (s c : Bool) → not (is_not (told s c)) ≡ (c || s)
-unfolding told
-told_skips true true = refl
-told_skips true false = refl
-told_skips false true = refl
-told_skips false false = refl
-
-pub skipped_is : (w : Walk) (up : ByPath w.entries) (e : ℕ) (skip : Skip) → e < walk_count w
-    → skip ≡ skip_of w e → not (is_not skip) ≡ is_skipped w e
-skipped_is w up e skip l is =
-    ap (λ s. not (is_not s)) (is ∙ skip_told w up e l)
-    ∙ told_skips (skippable w e) (is_covered w e e) ∙ sym (skipped_at w up e l)
 
 first_if : (f s : Bool) → is_first (if f then First else if s then Below else Not) ≡ f
 first_if true s = refl
@@ -300,32 +176,35 @@ unchanged w e made before is =
     kept_more (renewal w) e made made None before
     (nothing_added made e (before e ∙ before_none (renewal w) e e (omega arith))) (sym is)
 
-or_true : (b : Bool) → (b || true) ≡ true
-or_true true = refl
-or_true false = refl
+-- whatever the entry is, as one has passed it
+passed : (w : Walk) (e end next : ℕ) (skips now : List Skip) (made new : BTreeMap ℕ (List ℕ))
+    (skip : Skip)
+    → AreSweeping w e end skips made → IsPassed w e skip next → now ≡ skips ++ skip ∷ []
+    → ((x : ℕ) → digests_in new x ≡ stored_before (renewal w) (e + 1) x)
+    → AreSweeping w (e + 1) next now new
+passed w e end next skips now made new skip old at is made_are = record {
+  each_entry = sized_more skips now skip e old.each_entry is;
+  skips_are = skips_more w e skips now skip old.each_entry old.skips_are at.skip_is is;
+  covered_are = at.covers;
+  made_are = made_are;
+}
+
+-- nothing is made where it is skipped
+passed_skipped : (w : Walk) (up : ByPath w.entries) (e end next : ℕ) (skips now : List Skip)
+    (made : BTreeMap ℕ (List ℕ)) (skip : Skip)
+    → AreSweeping w e end skips made → e < walk_count w → IsPassed w e skip next
+    → not (is_not skip) ≡ true → now ≡ skips ++ skip ∷ [] → AreSweeping w (e + 1) next now made
+passed_skipped w up e end next skips now made skip old l at does is =
+    passed w e end next skips now made made skip old at is
+    (unchanged w e made old.made_are
+    (renewal_skipped w up e (sym (skipped_is w up e skip l at.skip_is) ∙ does)))
 
 pub passing_below : (w : Walk) (up : ByPath w.entries) (e end : ℕ) (skips now : List Skip)
     (made : BTreeMap ℕ (List ℕ)) → AreSweeping w e end skips made
     → e < walk_count w → e < end → now ≡ skips ++ Below ∷ [] → AreSweeping w (e + 1) end now made
 passing_below w up e end skips now made old l below is =
-    let covered : is_covered w e e ≡ true = old.covered_are e (omega arith) l
-    ∙ lt-ltb e end below in
-    let skipped : is_skipped w e ≡ true = skipped_at w up e l
-    ∙ ap (λ b. b || skippable w e) covered in
-    record {
-      each_entry = sized_more skips now Below e old.each_entry is;
-      skips_are = skips_more w e skips now Below old.each_entry old.skips_are
-          (sym (skip_told w up e l ∙ told_below (skippable w e) (is_covered w e e) covered)) is;
-      covered_are = λ x a b.
-          one_more w up e x
-          ∙ absorbed (is_covered w e x) (skippable w e && in_extent w.entries e x)
-          (covered_chain w up e x covered)
-          ∙ old.covered_are x (omega (arith, a)) b;
-      made_are = unchanged w e made old.made_are (renewal_skipped w up e skipped);
-    }
-
-run_behind : (e x end : ℕ) → e ≤ x → (nat_le e x && nat_lt x end) ≡ nat_lt x end
-run_behind e x end l = ap (λ b. b && nat_lt x end) (le-leb e x l)
+    passed_skipped w up e end end skips now made Below old l
+    (passed_below w up e end old.covered_are l below) refl is
 
 pub passing_over : (w : Walk) (up : ByPath w.entries) (e end extent : ℕ) (skips now : List Skip)
     (made : BTreeMap ℕ (List ℕ))
@@ -333,29 +212,8 @@ pub passing_over : (w : Walk) (up : ByPath w.entries) (e end extent : ℕ) (skip
     → ((x : ℕ) → x < walk_count w → in_extent w.entries e x ≡ (nat_le e x && nat_lt x extent))
     → now ≡ skips ++ First ∷ [] → AreSweeping w (e + 1) extent now made
 passing_over w up e end extent skips now made old l outside over run is =
-    let clear : is_covered w e e ≡ false = old.covered_are e (omega arith) l
-    ∙ le-ltb e end outside in
-    let skipped : is_skipped w e ≡ true = skipped_at w up e l ∙ ap (λ b. is_covered w e e || b) over
-    ∙ or_true (is_covered w e e) in
-    record {
-      each_entry = sized_more skips now First e old.each_entry is;
-      skips_are = skips_more w e skips now First old.each_entry old.skips_are
-          (sym (skip_told w up e l ∙ told_first (skippable w e) (is_covered w e e) over clear)) is;
-      covered_are = λ x a b.
-          one_more w up e x
-          ∙ ap₂ (λ c s. c || (s && in_extent w.entries e x)) (old.covered_are x (omega (arith, a)) b
-          ∙ le-ltb x end (omega (arith, a, outside))) over
-          ∙ run x b ∙ run_behind e x extent (omega (arith, a));
-      made_are = unchanged w e made old.made_are (renewal_skipped w up e skipped);
-    }
-
--- an entry behind all that is skipped, which may not be skipped itself, isn't
-pub left_out : (w : Walk) (up : ByPath w.entries) (e end : ℕ) (skips : List Skip)
-    (made : BTreeMap ℕ (List ℕ)) → AreSweeping w e end skips made
-    → e < walk_count w → end ≤ e → skippable w e ≡ false → is_skipped w e ≡ false
-left_out w up e end skips made old l outside by =
-    skipped_at w up e l
-    ∙ ap₂ (λ c s. c || s) (old.covered_are e (omega arith) l ∙ le-ltb e end outside) by
+    passed_skipped w up e end extent skips now made First old l
+    (passed_over w up e end extent old.covered_are l outside over run) refl is
 
 pub passing_by : (w : Walk) (up : ByPath w.entries) (e end : ℕ) (skips now : List Skip)
     (made new : BTreeMap ℕ (List ℕ)) (renewed : Option (List ℕ))
@@ -363,19 +221,9 @@ pub passing_by : (w : Walk) (up : ByPath w.entries) (e end : ℕ) (skips now : L
     → renewed ≡ renewal w e
     → AddsDigest made new e renewed → now ≡ skips ++ Not ∷ [] → AreSweeping w (e + 1) end now new
 passing_by w up e end skips now made new renewed old l outside by told_renewed adds is =
-    let clear : is_covered w e e ≡ false = old.covered_are e (omega arith) l
-    ∙ le-ltb e end outside in
-    let left : is_skipped w e ≡ false = skipped_at w up e l ∙ ap₂ (λ c s. c || s) clear by in
-    record {
-      each_entry = sized_more skips now Not e old.each_entry is;
-      skips_are = skips_more w e skips now Not old.each_entry old.skips_are
-          (sym (skip_told w up e l ∙ told_not (skippable w e) (is_covered w e e) by clear)) is;
-      covered_are = λ x a b.
-          one_more w up e x ∙ ap (λ s. is_covered w e x || (s && in_extent w.entries e x)) by
-          ∙ or_none (is_covered w e x)
-          ∙ old.covered_are x (omega (arith, a)) b;
-      made_are = kept_more (renewal w) e made new renewed old.made_are adds told_renewed;
-    }
+    passed w e end end skips now made new Not old
+    (passed_by w up e end old.covered_are l outside by) is
+    (kept_more (renewal w) e made new renewed old.made_are adds told_renewed)
 
 -- ---- whether the digest that is found is the stored one
 
@@ -402,7 +250,7 @@ pub start : (w : Walk) (skips : List Skip) (made : BTreeMap ℕ (List ℕ)) → 
 start w skips made none empty = record {
   each_entry = ap length none;
   skips_are = λ e l. absurd (omega (arith, l));
-  covered_are = λ e a b. sym (le-ltb e 0 (omega arith));
+  covered_are = covers_none w;
   made_are = λ e. ap (λ digests. digests e) (empty_keeps_none made empty)
       ∙ sym (before_none (renewal w) 0 e (omega arith));
 }

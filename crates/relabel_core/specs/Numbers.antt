@@ -1,5 +1,6 @@
 -- Rows of numbers, in which a place may have none.
 use Rattle.std.specs.Prelude.{◌≡◌, ◌≢◌, ℕ, ◌<◌, Bool, true, false, List, length, get_or, set}
+use Rattle.std.specs.Prelude.{replicate}
 use Rattle.std.specs.Prelude.{Option, Some, None, is_none, nat_lt, ◌==◌, ◌&&◌, if◌then◌else◌}
 use Rattle.relabel_core.specs.declared.numbers.TheConstants.{NONE}
 
@@ -15,6 +16,10 @@ found_in numbers i = as_found (get_or numbers i NONE)
 abbrev pub found_number : Option ℕ → ℕ
 found_number None = NONE
 found_number (Some number) = number
+
+-- so many places without a number
+abbrev pub no_numbers : ℕ → List ℕ
+no_numbers count = replicate count NONE
 
 -- a number put at an index where none is
 abbrev pub entered_at : List ℕ → ℕ → ℕ → List ℕ

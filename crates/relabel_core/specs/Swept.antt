@@ -67,11 +67,14 @@ meets may stored (Some digest) = may && is_current stored digest
 abbrev pub is_covered : Walk → ℕ → ℕ → Bool
 is_covered w n e = any_below n (λ d. skippable w d && in_extent w.entries d e)
 
--- what is found of the entries before n. Of those from n on, the ones before `end` are below a
--- skipped one.
+-- of the entries from n on, those before `end` are at or below a directory before n that is skipped
+abbrev pub SkipEndsAt : Walk → ℕ → ℕ → Type 0
+SkipEndsAt w n end = (e : ℕ) → n ≤ e → e < walk_count w → is_covered w n e ≡ nat_lt e end
+
+-- what is found of the entries before n, and where what is skipped ends behind them
 pub record AreSweeping (w : Walk) (n end : ℕ) (skips : List Skip) (made : BTreeMap ℕ (List ℕ))
     : Type 0 where
   pub each_entry : length skips ≡ n
   pub skips_are : (e : ℕ) → e < n → get_or skips e Not ≡ skip_of w e
-  pub covered_are : (e : ℕ) → n ≤ e → e < walk_count w → is_covered w n e ≡ nat_lt e end
+  pub covered_are : SkipEndsAt w n end
   pub made_are : (e : ℕ) → digests_in made e ≡ stored_before (renewal w) n e

@@ -1,7 +1,7 @@
 ghost use Rattle.std.specs.Prelude.{◌≡◌, ◌<◌, false, is_some, true};
 ghost use Rattle.std.specs.Option.{option_copied};
 ghost use Rattle.relabel_core.specs.Changes.{digest_change, is_void, unless_stored};
-ghost use Rattle.relabel_core.specs.DigestAfter.{digest_seen, void_if};
+ghost use Rattle.relabel_core.specs.DigestAfter.{after_by, digest_seen, void_if};
 ghost use Rattle.relabel_core.specs.Swept.{renewal};
 ghost use Rattle.relabel_core.specs.Walk.{digest_after, has_changed_name};
 ghost use Rattle.relabel_core.specs.Walked.{walk_of};
@@ -67,8 +67,10 @@ pub fn digest_after(
     requires changed { (walk_of input.now).options.dry ≡ false
         → is_some ((walk_of input.now).stored d) ≡ true
         → changed ≡ has_changed_name (walk_of input.now) d }
-    ensures { digest_seen result ((walk_of input.now).stored d)
+    ensures seen { digest_seen result ((walk_of input.now).stored d)
         ≡ digest_after (walk_of input.now) d }
+    ensures kind { result ≡ after_by (renewal (walk_of input.now) d)
+        (is_void (walk_of input.now) d) }
 {
     match renewed {
         Some(digest) => DigestAfter::Anew(digest),

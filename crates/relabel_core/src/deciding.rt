@@ -22,6 +22,13 @@ pub fn is_walked(input: &WalkInput<'_>, e: u32, skipped: bool) -> bool
     input.chosen.is_live(e) && !skipped
 }
 
+/// An entry that a walk comes to, and whether it is skipped.
+#[derive(Clone, Copy)]
+pub struct Visit {
+    pub entry: u32,
+    pub skipped: bool,
+}
+
 /// The index of the specification that decides an entry, of which it is known whether it is
 /// skipped. There is none where no specification does, nor where the entry isn't looked at. It
 /// counts at most one step, and none for an entry that isn't looked at.
@@ -29,23 +36,28 @@ pub fn is_walked(input: &WalkInput<'_>, e: u32, skipped: bool) -> bool
 pub fn decide_entry<L: Ledger>(
     alloc: Global,
     input: &WalkInput<'_>,
-    e: u32,
-    skipped: bool,
+    at: Visit,
     scratch: &mut Scratch,
     steps: &mut Steps<L>,
 ) -> Result<Option<u32>, OutOfMemory>
     requires fit { IsFit input.now }
-    requires entry { e < walk_count (walk_of input.now) }
-    requires skipped { skipped ≡ is_skipped (walk_of input.now) e }
+    requires entry { at.entry < walk_count (walk_of input.now) }
+    requires skipped { at.skipped ≡ is_skipped (walk_of input.now) at.entry }
     requires own { IsScratchOf input.now.rules.now.rules scratch.old }
     ensures own { IsScratchOf input.now.rules.now.rules scratch.new }
-    ensures found { IfOk result (λ found. found ≡ deciding (walk_of input.now) e) }
+    ensures found { IfOk result (λ found. found ≡ deciding (walk_of input.now) at.entry) }
     ensures within { IfOk result (λ found.
         IfSome found (λ i. i < length input.now.rules.now.rules)) }
-    ensures count { steps.new ≤ steps.old + one_if (walked (walk_of input.now) e) }
+    ensures count { steps.new ≤ steps.old + one_if (walked (walk_of input.now) at.entry) }
 {
-    if !is_walked(input, e, skipped) {
+    if !is_walked(input, at.entry, at.skipped) {
         return Ok(None);
     }
-    look_up(alloc, input.rules, &input.tree.entry(e), scratch, steps)
+    look_up(
+        alloc,
+        input.rules,
+        &input.tree.entry(at.entry),
+        scratch,
+        steps,
+    )
 }

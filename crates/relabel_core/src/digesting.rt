@@ -1,4 +1,4 @@
-ghost use Rattle.std.specs.Prelude.{◌≡◌, ◌<◌, IfOk};
+ghost use Rattle.std.specs.Prelude.{◌≡◌, ◌<◌, [], IfOk};
 ghost use Rattle.dir_digest.specs.Listings.{basis_in};
 ghost use Rattle.dir_digest.specs.Basis.{is_whole_mode};
 ghost use Rattle.spec_match.specs.Scratches.{IsScratchOf};
@@ -24,7 +24,8 @@ pub struct Buffers {
 
 /// Buffers for a walk by these rules.
 pub fn buffers_for(alloc: Global, rules: &Rules) -> Result<Buffers, OutOfMemory>
-    ensures { IfOk result (λ buffers. IsScratchOf rules.now.rules buffers.scratch) }
+    ensures own { IfOk result (λ buffers. IsScratchOf rules.now.rules buffers.scratch) }
+    ensures listing { IfOk result (λ buffers. buffers.listing ≡ []) }
 {
     let scratch = Scratch::new(alloc, &rules.rules)?;
     Ok(Buffers {

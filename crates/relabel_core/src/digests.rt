@@ -22,9 +22,10 @@ pub struct Digests<'w, 'a> {
 
 impl<'w, 'a> Digests<'w, 'a> {
     ghost use Rattle.std.specs.Prelude.{◌<◌, false, is_some, true};
-    ghost use Rattle.relabel_core.specs.Changes.{digest_change, digest_changes};
-    ghost use Rattle.relabel_core.specs.DigestAfter.{digest_seen};
+    ghost use Rattle.relabel_core.specs.Changes.{digest_change, digest_changes, is_void};
+    ghost use Rattle.relabel_core.specs.DigestAfter.{after_by, digest_seen};
     ghost use Rattle.relabel_core.specs.Digests.{walk_before};
+    ghost use Rattle.relabel_core.specs.Swept.{renewal};
     ghost use Rattle.relabel_core.specs.Walk.{walk_count, digest_after, has_changed_name};
 
     /// The walk after which they are.
@@ -58,8 +59,10 @@ impl<'w, 'a> Digests<'w, 'a> {
     /// [`Options::dry`]: crate::Options::dry
     pub fn at(&self, d: u32) -> DigestAfter
         requires { d < walk_count (walk_before self.now) }
-        ensures { digest_seen result ((walk_before self.now).stored d)
+        ensures seen { digest_seen result ((walk_before self.now).stored d)
             ≡ digest_after (walk_before self.now) d }
+        ensures kind { result ≡ after_by (renewal (walk_before self.now) d)
+            (is_void (walk_before self.now) d) }
     {
         let walked = self.walked;
         digest_after(&walked.input, d, walked.renewed(d), self.does_rise(d))

@@ -10,49 +10,39 @@ ghost use Rattle.relabel_core.specs.Walked.{IsFit, walk_of};
 use crate::digesting::{Buffers, listings_by};
 use crate::finding::{find_directory, renewed_digest, uses_digests};
 use crate::input::WalkInput;
-use crate::swept::{Skip, Swept};
+use crate::swept::{Cursor, Skip, Swept};
 use dir_digest::{Digest, Listings};
 use label_base::OutOfMemory;
 use std::alloc::Global;
 use std::collections::BTreeMap;
 
 // An entry below a skipped directory.
-fn sweep_below(
-    input: &WalkInput<'_>,
-    e: u32,
-    end: u32,
-    swept: &mut Swept,
-) -> Result<u32, OutOfMemory>
+fn sweep_below(input: &WalkInput<'_>, at: Cursor, swept: &mut Swept) -> Result<u32, OutOfMemory>
     requires fit { IsFit input.now }
-    requires entry { e < walk_count (walk_of input.now) }
-    requires below { e < end }
-    requires swept { AreSweeping (walk_of input.now) e end
+    requires entry { at.entry < walk_count (walk_of input.now) }
+    requires below { at.entry < at.end }
+    requires swept { AreSweeping (walk_of input.now) at.entry at.end
         swept.old.skips.items swept.old.made }
-    ensures { IfOk result (λ end. AreSweeping (walk_of input.now) (e + 1) end
+    ensures { IfOk result (λ end. AreSweeping (walk_of input.now) (at.entry + 1) end
         swept.new.skips.items swept.new.made) }
 {
     swept.skips.push(Skip::Below)?;
-    Ok(end)
+    Ok(at.end)
 }
 
 // A directory that is skipped, with all below it.
-fn sweep_skipped(
-    input: &WalkInput<'_>,
-    e: u32,
-    end: u32,
-    swept: &mut Swept,
-) -> Result<u32, OutOfMemory>
+fn sweep_skipped(input: &WalkInput<'_>, at: Cursor, swept: &mut Swept) -> Result<u32, OutOfMemory>
     requires fit { IsFit input.now }
-    requires entry { e < walk_count (walk_of input.now) }
-    requires outside { end ≤ e }
-    requires over { skippable (walk_of input.now) e ≡ true }
-    requires swept { AreSweeping (walk_of input.now) e end
+    requires entry { at.entry < walk_count (walk_of input.now) }
+    requires outside { at.end ≤ at.entry }
+    requires over { skippable (walk_of input.now) at.entry ≡ true }
+    requires swept { AreSweeping (walk_of input.now) at.entry at.end
         swept.old.skips.items swept.old.made }
-    ensures { IfOk result (λ end. AreSweeping (walk_of input.now) (e + 1) end
+    ensures { IfOk result (λ end. AreSweeping (walk_of input.now) (at.entry + 1) end
         swept.new.skips.items swept.new.made) }
 {
     swept.skips.push(Skip::First)?;
-    Ok(input.tree.extent(e))
+    Ok(input.tree.extent(at.entry))
 }
 
 // Keeps the digest that a directory gets anew, if it gets one.
@@ -76,56 +66,62 @@ fn keep_renewed(
 // An entry that isn't skipped.
 fn sweep_unskipped(
     input: &WalkInput<'_>,
-    e: u32,
-    end: u32,
+    at: Cursor,
     found: Option<Digest>,
     swept: &mut Swept,
 ) -> Result<u32, OutOfMemory>
     requires fit { IsFit input.now }
-    requires entry { e < walk_count (walk_of input.now) }
-    requires outside { end ≤ e }
-    requires over { skippable (walk_of input.now) e ≡ false }
-    requires found { found ≡ needed (walk_of input.now) e }
-    requires swept { AreSweeping (walk_of input.now) e end
+    requires entry { at.entry < walk_count (walk_of input.now) }
+    requires outside { at.end ≤ at.entry }
+    requires over { skippable (walk_of input.now) at.entry ≡ false }
+    requires found { found ≡ needed (walk_of input.now) at.entry }
+    requires swept { AreSweeping (walk_of input.now) at.entry at.end
         swept.old.skips.items swept.old.made }
-    ensures { IfOk result (λ end. AreSweeping (walk_of input.now) (e + 1) end
+    ensures { IfOk result (λ end. AreSweeping (walk_of input.now) (at.entry + 1) end
         swept.new.skips.items swept.new.made) }
 {
-    let renewed = renewed_digest(input, e, found, false);
-    keep_renewed(e, renewed, &mut swept.made)?;
+    let renewed = renewed_digest(input, at.entry, found, false);
+    keep_renewed(at.entry, renewed, &mut swept.made)?;
     swept.skips.push(Skip::Not)?;
-    Ok(end)
+    Ok(at.end)
+}
+
+// What directories are swept by.
+#[derive(Clone, Copy)]
+struct Sweep<'s, 'a, 'l> {
+    input: &'s WalkInput<'a>,
+    listings: &'s Listings<'l>,
 }
 
 // Finds whether one entry more is skipped, and makes its digest where anything depends on it. It
 // answers where the extent of the last directory that is skipped ends.
 fn sweep_entry(
     alloc: Global,
-    input: &WalkInput<'_>,
-    e: u32,
-    end: u32,
-    listings: &Listings<'_>,
+    sweep: &Sweep<'_, '_, '_>,
+    at: Cursor,
     buffers: &mut Buffers,
     swept: &mut Swept,
 ) -> Result<u32, OutOfMemory>
-    requires fit { IsFit input.now }
-    requires entry { e < walk_count (walk_of input.now) }
-    requires listings { basis_in listings.now ≡ basis_by input.now.rules.now input.now.options }
-    requires own { IsScratchOf input.now.rules.now.rules buffers.old.scratch }
-    requires swept { AreSweeping (walk_of input.now) e end
+    requires fit { IsFit sweep.now.input.now }
+    requires entry { at.entry < walk_count (walk_of sweep.now.input.now) }
+    requires listings { basis_in sweep.now.listings.now
+        ≡ basis_by sweep.now.input.now.rules.now sweep.now.input.now.options }
+    requires own { IsScratchOf sweep.now.input.now.rules.now.rules buffers.old.scratch }
+    requires swept { AreSweeping (walk_of sweep.now.input.now) at.entry at.end
         swept.old.skips.items swept.old.made }
-    ensures own { IsScratchOf input.now.rules.now.rules buffers.new.scratch }
-    ensures swept { IfOk result (λ end. AreSweeping (walk_of input.now) (e + 1) end
-        swept.new.skips.items swept.new.made) }
+    ensures own { IsScratchOf sweep.now.input.now.rules.now.rules buffers.new.scratch }
+    ensures swept { IfOk result (λ end. AreSweeping (walk_of sweep.now.input.now) (at.entry + 1)
+        end swept.new.skips.items swept.new.made) }
 {
-    if e < end {
-        return sweep_below(input, e, end, swept);
+    let input = sweep.input;
+    if at.entry < at.end {
+        return sweep_below(input, at, swept);
     }
-    let found = find_directory(alloc, input, e, listings, buffers)?;
+    let found = find_directory(alloc, input, at.entry, sweep.listings, buffers)?;
     if found.skippable {
-        return sweep_skipped(input, e, end, swept);
+        return sweep_skipped(input, at, swept);
     }
-    sweep_unskipped(input, e, end, found.digest, swept)
+    sweep_unskipped(input, at, found.digest, swept)
 }
 
 fn sweep_all(
@@ -141,10 +137,11 @@ fn sweep_all(
     ensures swept { IfOk result (λ swept.
         AreSwept (walk_of input.now) swept.skips.items swept.made) }
 {
+    let sweep = Sweep { input, listings };
     let mut swept = Swept::none(alloc);
     let mut end = 0;
-    'entries: for e in 0..input.tree.len() {
-        end = sweep_entry(alloc, input, e, end, listings, buffers, &mut swept)?;
+    'entries: for entry in 0..input.tree.len() {
+        end = sweep_entry(alloc, &sweep, Cursor { entry, end }, buffers, &mut swept)?;
     }
     Ok(swept)
 }

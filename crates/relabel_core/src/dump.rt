@@ -61,26 +61,32 @@ fn does_change(change: &Option<ContextRef<'_>>, digest: &Option<Digest>) -> bool
     }
 }
 
-/// Adds at the end the section of a path whose label changes to a context, or whose digest to this
-/// one; nothing where neither does. A buffer is lent in which the context is spelled.
+/// What the label and the digest of a path change to, where they change.
+#[derive(Clone, Copy)]
+pub struct PathChanges<'s, 'a> {
+    pub path: &'s PathRef<'a>,
+    pub label: &'s Option<ContextRef<'a>>,
+    pub digest: &'s Option<Digest>,
+}
+
+/// Adds at the end the section of a path whose label or whose digest changes; nothing where neither
+/// does. A buffer is lent in which the context is spelled.
 pub fn add_section_of(
     alloc: Global,
-    path: &PathRef<'_>,
-    change: &Option<ContextRef<'_>>,
-    digest: &Option<Digest>,
+    changes: &PathChanges<'_, '_>,
     spelled: &mut Bytes,
     to: &mut Bytes,
 ) -> Result<(), OutOfMemory>
     ensures { OnOk result (to.new ≡ to.old
-        ++ optional_section (section_by (path_of path.now)
-        (option_map context_lent change.now) digest.now)) }
+        ++ optional_section (section_by (path_of changes.now.path.now)
+        (option_map context_lent changes.now.label.now) changes.now.digest.now)) }
 {
-    if !does_change(change, digest) {
+    if !does_change(changes.label, changes.digest) {
         return Ok(());
     }
-    add_name(alloc, path, to)?;
-    add_label(change, spelled, to)?;
-    add_digest(digest, to)?;
+    add_name(alloc, changes.path, to)?;
+    add_label(changes.label, spelled, to)?;
+    add_digest(changes.digest, to)?;
     end_section(to)?;
     Ok(())
 }
@@ -100,15 +106,12 @@ impl<'w, 'a> Digests<'w, 'a> {
             ≡ to.old ++ optional_section (section_at (walk_before self.now) e)) }
     {
         let walked = self.walked();
-        let change = walked.change_at(e);
-        add_section_of(
-            alloc,
-            &walked.path(e),
-            &change,
-            &self.change_at(e),
-            spelled,
-            to,
-        )?;
+        let changes = PathChanges {
+            path: &walked.path(e),
+            label: &walked.change_at(e),
+            digest: &self.change_at(e),
+        };
+        add_section_of(alloc, &changes, spelled, to)?;
         Ok(())
     }
 }

@@ -19,6 +19,16 @@ use label_rules::{
 };
 use report_text::Message;
 
+/// What is found of one entry of a walk.
+#[derive(Clone, Copy)]
+pub struct EntryFound {
+    pub skip: Skip,
+    pub decided: Option<u32>,
+    pub winner: Option<u32>,
+    /// What decides the winner.
+    pub winning: Option<u32>,
+}
+
 /// What is known of one entry of a walk: whether it is skipped, which specification decides it, and
 /// the winner of its group with the specification that decides that one. What becomes of its label
 /// and its line are made from this alone.
@@ -82,7 +92,8 @@ pub fn group_change<'a>(
     given_in(&group_verdict(input, g, wanted))
 }
 
-fn is_at(found: Option<u32>, e: u32) -> bool
+/// Whether an entry is the one that was found.
+pub fn is_found_at(found: Option<u32>, e: u32) -> bool
     ensures { result ≡ is_found_at found e }
 {
     match found {
@@ -116,26 +127,20 @@ impl<'a> Known<'a> {
     };
 
     /// What is known of an entry of a walk.
-    pub fn new(
-        input: &WalkInput<'a>,
-        e: u32,
-        skip: Skip,
-        decided: Option<u32>,
-        winner: Option<u32>,
-        winning: Option<u32>,
-    ) -> Known<'a>
+    pub fn new(input: &WalkInput<'a>, e: u32, found: EntryFound) -> Known<'a>
         requires fit { IsFit input.now }
-        requires known { IsEntryKnown (walk_of input.now) e skip decided winner winning }
+        requires known { IsEntryKnown (walk_of input.now) e found.skip found.decided found.winner
+            found.winning }
         ensures walk { walk_known result ≡ walk_of input.now }
         ensures index { index_known result ≡ e }
     {
         Known {
             input: *input,
             index: e,
-            skip,
-            decided,
-            winner,
-            winning,
+            skip: found.skip,
+            decided: found.decided,
+            winner: found.winner,
+            winning: found.winning,
         }
     }
 
@@ -212,7 +217,7 @@ impl<'a> Known<'a> {
         ensures { label_seen result
             ≡ label_with (walk_known self.now) self.now.index self.now.winner }
     {
-        if is_at(self.winner, self.index) {
+        if is_found_at(self.winner, self.index) {
             return group_label(&self.input, self.group(), self.wanted_by_winner());
         }
         LabelAfter::Kept(self.old_label())
@@ -231,7 +236,7 @@ impl<'a> Known<'a> {
         ensures { option_map context_lent result
             ≡ change_with (walk_known self.now) self.now.index self.now.winner }
     {
-        if is_at(self.winner, self.index) {
+        if is_found_at(self.winner, self.index) {
             return group_change(&self.input, self.group(), self.wanted_by_winner());
         }
         None
@@ -311,7 +316,7 @@ impl<'a> Known<'a> {
         ensures { option_map message_of result
             ≡ decided_line (walk_known self.now) self.now.index self.now.winner }
     {
-        if is_at(self.winner, self.index) {
+        if is_found_at(self.winner, self.index) {
             return self.winner_line();
         }
         self.conflict()

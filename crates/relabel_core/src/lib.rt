@@ -26,21 +26,22 @@ mod walked;
 mod walking;
 
 pub use after::{DigestAfter, digest_after, digest_change, unless_stored};
-pub use deciding::{decide_entry, is_walked};
+pub use counts::{LabelChanges, count_at, count_changed};
+pub use deciding::{Visit, decide_entry, is_walked};
 pub use digesting::{Buffers, buffers_for, digest_of, listings_by};
 pub use digests::Digests;
 pub use directories::sweep_directories;
-pub use dump::add_section_of;
+pub use dump::{PathChanges, add_section_of};
 pub use finding::{Finding, find_directory, renewed_digest, uses_digests};
 pub use input::{WalkInput, walk_input};
-pub use known::{Known, group_change, group_label, group_verdict};
+pub use known::{EntryFound, Known, group_change, group_label, group_verdict, is_found_at};
 pub use laws::table_walk_is_walk;
 pub use next::{label_of, next_digests, next_labels};
 pub use noting::{Noted, note_entry};
 pub use options::Options;
 pub use report::{add_absent_of, no_flags, operand_at, raise, unflagged_line};
 pub use stored::Stored;
-pub use swept::{Skip, Swept, does_skip, is_first, is_skipped};
+pub use swept::{Cursor, Skip, Swept, does_skip, is_first, is_skipped};
 pub use walked::Walked;
 pub use walking::walk;
 

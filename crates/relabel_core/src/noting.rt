@@ -1,6 +1,8 @@
 ghost use Rattle.std.specs.Prelude.{◌≡◌, ◌+◌, ◌<◌, ◌^◌, IfOk, IfSome, length};
-ghost use Rattle.relabel_core.specs.Numbers.{IsNumberPut, found_in};
-ghost use Rattle.relabel_core.specs.Walk.{walk_count, deciding};
+ghost use Rattle.tree_model.specs.Groups.{group_of, groups_in};
+ghost use Rattle.relabel_core.specs.Numbers.{IsNumberPut, entered_if, found_in, found_number};
+ghost use Rattle.relabel_core.specs.Numbers.{no_numbers, put_at};
+ghost use Rattle.relabel_core.specs.Walk.{walk_count, deciding, is_wanted};
 ghost use Rattle.relabel_core.specs.Walked.{AreNoted, HasWalkRoom, IsFit, walk_of};
 
 use crate::input::WalkInput;
@@ -37,6 +39,10 @@ impl Noted {
             HasWalkRoom (walk_of input.now) noted.decided.items noted.winners.items) }
         ensures none { IfOk result (λ noted.
             AreNoted (walk_of input.now) 0 noted.decided.items noted.winners.items) }
+        ensures decided { IfOk result (λ noted.
+            noted.decided.items ≡ no_numbers (walk_count (walk_of input.now))) }
+        ensures winners { IfOk result (λ noted.
+            noted.winners.items ≡ no_numbers (groups_in input.now.tree.now)) }
     {
         let decided = no_numbers(alloc, input.tree.len())?;
         let winners = no_numbers(alloc, input.tree.groups())?;
@@ -87,7 +93,12 @@ pub fn note_entry(input: &WalkInput<'_>, e: u32, found: Option<u32>, noted: &mut
     requires within { IfSome found (λ i. i < length input.now.rules.now.rules) }
     requires noted { AreNoted (walk_of input.now) e
         noted.old.decided.items noted.old.winners.items }
-    ensures { AreNoted (walk_of input.now) (e + 1) noted.new.decided.items noted.new.winners.items }
+    ensures noted { AreNoted (walk_of input.now) (e + 1)
+        noted.new.decided.items noted.new.winners.items }
+    ensures decided { noted.new.decided.items
+        ≡ put_at noted.old.decided.items e (found_number found) }
+    ensures winners { noted.new.winners.items ≡ entered_if (is_wanted (walk_of input.now) e)
+        noted.old.winners.items (group_of input.now.tree.now e) e }
 {
     let _ = input.rules.rules.len();
     let group = input.tree.group(e);

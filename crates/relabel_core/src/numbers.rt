@@ -1,6 +1,6 @@
-ghost use Rattle.std.specs.Prelude.{◌≡◌, IfOk, replicate};
+ghost use Rattle.std.specs.Prelude.{◌≡◌, IfOk};
 ghost use Rattle.relabel_core.specs.Numbers.{as_found, entered_at, entered_if, found_in};
-ghost use Rattle.relabel_core.specs.Numbers.{found_number, put_at};
+ghost use Rattle.relabel_core.specs.Numbers.{found_number, no_numbers, put_at};
 
 use label_base::OutOfMemory;
 use std::alloc::Global;
@@ -71,7 +71,7 @@ pub fn put_number(numbers: &mut Vec<u32>, i: u32, found: Option<u32>)
 
 /// So many places without a number.
 pub fn no_numbers(alloc: Global, count: u32) -> Result<Vec<u32>, OutOfMemory>
-    ensures { IfOk result (λ numbers. numbers.items ≡ replicate count NONE) }
+    ensures { IfOk result (λ numbers. numbers.items ≡ no_numbers count) }
 {
     let mut numbers = Vec::with_capacity(alloc, count as usize)?;
     'places: for _ in 0..count {

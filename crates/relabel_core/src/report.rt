@@ -131,7 +131,7 @@ fn line_of_spec(rules: &Rules, i: u32) -> Option<Message<'_>>
     match spec_at(rules, Some(i)) {
         None => None,
         Some(spec) => Some(Message::NoMatches {
-            text: spec.text.as_slice(),
+            text: spec.text(),
             kind: spec.kind,
             context: given_by(spec),
         }),

@@ -1,5 +1,5 @@
 ghost use Rattle.std.specs.Prelude.{◌≡◌, ℕ, ◌<◌, ◌^◌, ◌∷◌, [], IfOk, None, OnOk, Some, false};
-ghost use Rattle.std.specs.Prelude.{get_or, length, true};
+ghost use Rattle.std.specs.Prelude.{◌↔◌, IsTrue, get_or, length};
 ghost use Rattle.std.specs.Option.{option_copied};
 ghost use Rattle.file_paths.specs.PathRef.{path_of};
 ghost use Rattle.tree_model.specs.Extents.{is_directory};
@@ -212,7 +212,7 @@ impl Stored {
 
     // Whether no digest is stored.
     pub(crate) fn is_empty(&self) -> bool
-        ensures { result ≡ true → digests_of self.now ≡ no_digests }
+        ensures { IsTrue result ↔ (digests_of self.now ≡ no_digests) }
     {
         self.kept.is_empty()
     }

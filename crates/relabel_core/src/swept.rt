@@ -23,6 +23,14 @@ pub enum Skip {
     Below,
 }
 
+/// An entry that one has come to. Of the entries from it on, those before `end` are at or below a
+/// directory before it that is skipped.
+#[derive(Clone, Copy)]
+pub struct Cursor {
+    pub entry: u32,
+    pub end: u32,
+}
+
 /// What is found of the directories before any entry is looked up: which entries are skipped, and
 /// the digests that are made anew.
 pub struct Swept {

@@ -5,7 +5,7 @@ ghost use Rattle.relabel_core.specs.Walked.{AreWalkAnswers, IsFit, walk_of};
 
 use crate::deciding::is_walked;
 use crate::input::WalkInput;
-use crate::known::{Known, group_label};
+use crate::known::{EntryFound, Known, group_label};
 use crate::noting::Noted;
 use crate::swept::{Swept, is_skipped};
 use context_syntax::{Context, ContextRef};
@@ -170,14 +170,13 @@ impl<'a> Walked<'a> {
         ensures index { index_known result ≡ e }
     {
         let winner = self.winner(e);
-        Known::new(
-            &self.input,
-            e,
-            self.swept.skip(e),
-            self.deciding(e),
+        let found = EntryFound {
+            skip: self.swept.skip(e),
+            decided: self.deciding(e),
             winner,
-            self.winning(winner),
-        )
+            winning: self.winning(winner),
+        };
+        Known::new(&self.input, e, found)
     }
 
     /// The context that is decided for an entry, if one is.

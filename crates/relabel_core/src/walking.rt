@@ -5,7 +5,7 @@ ghost use Rattle.relabel_core.specs.Walk.{walked_below};
 ghost use Rattle.relabel_core.specs.Walked.{AreWalkAnswers, IsFit, walk_of};
 ghost use Rattle.relabel_core.specs.Answer.{walk_in};
 
-use crate::deciding::decide_entry;
+use crate::deciding::{Visit, decide_entry};
 use crate::digesting::{Buffers, buffers_for};
 use crate::directories::sweep_directories;
 use crate::input::WalkInput;
@@ -33,10 +33,10 @@ fn note_entries<L: Ledger>(
         ≤ steps.old + walked_below (walk_of input.now) (length input.now.tree.now) }
 {
     let mut noted = Noted::none(alloc, input)?;
-    'entries: for e in 0..input.tree.len() {
-        let skipped = is_skipped(input, swept, e);
-        let found = decide_entry(alloc, input, e, skipped, scratch, steps)?;
-        note_entry(input, e, found, &mut noted);
+    'entries: for entry in 0..input.tree.len() {
+        let skipped = is_skipped(input, swept, entry);
+        let found = decide_entry(alloc, input, Visit { entry, skipped }, scratch, steps)?;
+        note_entry(input, entry, found, &mut noted);
     }
     Ok(noted)
 }

@@ -13,22 +13,30 @@ use file_paths::PathRef;
 use label_base::{Bytes, EntryKind, OutOfMemory};
 use std::alloc::Global;
 
+// A label that changes, or with `dry` would change.
+#[derive(Clone, Copy)]
+struct LabelChange<'s, 'a> {
+    path: &'s PathRef<'a>,
+    from: &'s Label,
+    to: &'s ContextRef<'a>,
+    dry: bool,
+}
+
 fn add_relabel(
     alloc: Global,
-    path: &PathRef<'_>,
-    from: &Label,
-    to: &ContextRef<'_>,
-    dry: bool,
+    change: &LabelChange<'_, '_>,
     text: &mut Bytes,
 ) -> Result<(), OutOfMemory>
     ensures { OnOk result (text.new ≡ text.old
-        ++ message_text (value.Relabel (path_of path.now) from.now (context_lent to.now) dry)) }
+        ++ message_text (value.Relabel (path_of change.now.path.now) change.now.from.now
+        (context_lent change.now.to.now) change.now.dry)) }
 {
-    add(relabel_words(dry), text)?;
-    add_path(alloc, path, text)?;
+    add(relabel_words(change.dry), text)?;
+    add_path(alloc, change.path, text)?;
     add(FROM, text)?;
-    add_label(alloc, from, text)?;
+    add_label(alloc, change.from, text)?;
     add(TO, text)?;
+    let to = change.to;
     to.add(text)
 }
 
@@ -155,7 +163,15 @@ fn add_message(alloc: Global, message: &Message<'_>, text: &mut Bytes) -> Result
             from,
             to,
             dry,
-        } => add_relabel(alloc, path, from, to, *dry, text),
+        } => {
+            let change = LabelChange {
+                path,
+                from,
+                to,
+                dry: *dry,
+            };
+            add_relabel(alloc, &change, text)
+        }
         Message::Customized { path, label } => add_customized(alloc, path, label, text),
         Message::Conflict {
             first,

@@ -24,38 +24,44 @@ pub fn text_for(alloc: Global, texts: u32) -> Bytes
     }
 }
 
-// Adds so many texts, one after the other.
+// Texts in a row, and by how many workers at once they are made.
+#[derive(Clone, Copy)]
+struct Stretch {
+    first: u32,
+    count: u32,
+    workers: u32,
+}
+
+// Adds the texts of a stretch, one after the other.
 fn add_stretch<T: Texts>(
     alloc: Global,
     texts: &T,
-    first: u32,
-    count: u32,
+    part: Stretch,
     mut to: Bytes,
 ) -> Result<Bytes, OutOfMemory>
-    requires within { first + count ≤ T.count texts.now }
-    requires few { first + count < 2 ^ 32 }
-    ensures { IfOk result (λ made. made ≡ to ++ stretch (T.text texts.now) first count) }
+    requires within { part.first + part.count ≤ T.count texts.now }
+    requires few { part.first + part.count < 2 ^ 32 }
+    ensures { IfOk result (λ made. made ≡ to ++ stretch (T.text texts.now) part.first part.count) }
 {
     let mut buffer = Bytes::new(alloc);
-    'texts: for i in 0..count {
-        texts.add(alloc, first + i, &mut buffer, &mut to)?;
+    'texts: for i in 0..part.count {
+        texts.add(alloc, part.first + i, &mut buffer, &mut to)?;
     }
     Ok(to)
 }
 
-// Adds so many texts, one after the other, as one piece.
+// Adds the texts of a stretch, one after the other, as one piece.
 fn add_piece<T: Texts>(
     alloc: Global,
     texts: &T,
-    first: u32,
-    count: u32,
+    part: Stretch,
     mut to: PiecedText,
 ) -> Result<PiecedText, OutOfMemory>
-    requires within { first + count ≤ T.count texts.now }
-    requires few { first + count < 2 ^ 32 }
-    ensures { IfOk result (λ made. made ≡ to ++ stretch (T.text texts.now) first count) }
+    requires within { part.first + part.count ≤ T.count texts.now }
+    requires few { part.first + part.count < 2 ^ 32 }
+    ensures { IfOk result (λ made. made ≡ to ++ stretch (T.text texts.now) part.first part.count) }
 {
-    to.push(add_stretch(alloc, texts, first, count, text_for(alloc, count))?)?;
+    to.push(add_stretch(alloc, texts, part, text_for(alloc, part.count))?)?;
     Ok(to)
 }
 
@@ -67,23 +73,26 @@ fn last_share(count: u32, workers: u32) -> u32
     count / workers
 }
 
-// Adds so many texts: a thread makes those of the last worker, as one piece, while the caller sees
-// to those of the others.
+// Adds the texts of a stretch: a thread makes those of the last worker, as one piece, while the
+// caller sees to those of the others.
 #[cycle(stretches)]
 fn add_parted<R: Threads + Sync, T: Texts + Sync>(
     rt: &R,
     alloc: Global,
     texts: &T,
-    first: u32,
-    count: u32,
-    workers: u32,
+    part: Stretch,
     to: PiecedText,
 ) -> Result<PiecedText, OutOfMemory>
-    requires within { first + count ≤ T.count texts.now }
-    requires few { first + count < 2 ^ 32 }
-    requires workers { 1 < workers }
-    ensures { IfOk result (λ made. made ≡ to ++ stretch (T.text texts.now) first count) }
+    requires within { part.first + part.count ≤ T.count texts.now }
+    requires few { part.first + part.count < 2 ^ 32 }
+    requires workers { 1 < part.workers }
+    ensures { IfOk result (λ made. made ≡ to ++ stretch (T.text texts.now) part.first part.count) }
 {
+    let Stretch {
+        first,
+        count,
+        workers,
+    } = part;
     let others = workers - 1;
     let back = last_share(count, workers);
     let front = count - back;
@@ -94,38 +103,50 @@ fn add_parted<R: Threads + Sync, T: Texts + Sync>(
             requires { IsSync T.row × (middle + back ≤ T.count texts.now)
                 × (middle + back < 2 ^ 32) }
             ensures { IfOk result (λ made. made ≡ stretch (T.text texts.entry.now) middle back) }
-        { add_stretch(alloc, texts, middle, back, text_for(alloc, back)) },
+        {
+            let behind = Stretch {
+                first: middle,
+                count: back,
+                workers: 1,
+            };
+            add_stretch(alloc, texts, behind, text_for(alloc, back))
+        },
         || -> Result<PiecedText, OutOfMemory>
             requires { IsSync R.row × IsSync T.row × (first + front ≤ T.count texts.now)
                 × (first + front < 2 ^ 32) }
             ensures { IfOk result (λ made.
                 made ≡ to ++ stretch (T.text texts.entry.now) first front) }
-        { add_stretches(rt, alloc, texts, first, front, others, to) },
+        {
+            let before = Stretch {
+                first,
+                count: front,
+                workers: others,
+            };
+            add_stretches(rt, alloc, texts, before, to)
+        },
     );
     let mut made = made?;
     made.push(made_behind?)?;
     Ok(made)
 }
 
-// Adds so many texts, by so many workers at once.
+// Adds the texts of a stretch, by its workers at once.
 #[cycle(stretches)]
 fn add_stretches<R: Threads + Sync, T: Texts + Sync>(
     rt: &R,
     alloc: Global,
     texts: &T,
-    first: u32,
-    count: u32,
-    workers: u32,
+    part: Stretch,
     to: PiecedText,
 ) -> Result<PiecedText, OutOfMemory>
-    requires within { first + count ≤ T.count texts.now }
-    requires few { first + count < 2 ^ 32 }
-    ensures { IfOk result (λ made. made ≡ to ++ stretch (T.text texts.now) first count) }
+    requires within { part.first + part.count ≤ T.count texts.now }
+    requires few { part.first + part.count < 2 ^ 32 }
+    ensures { IfOk result (λ made. made ≡ to ++ stretch (T.text texts.now) part.first part.count) }
 {
-    if workers < 2 {
-        return add_piece(alloc, texts, first, count, to);
+    if part.workers < 2 {
+        return add_piece(alloc, texts, part, to);
     }
-    add_parted(rt, alloc, texts, first, count, workers, to)
+    add_parted(rt, alloc, texts, part, to)
 }
 
 /// Adds so many texts at the end of one, in the order of their numbers, by so many workers at once,
@@ -142,5 +163,10 @@ pub fn add_texts<R: Threads + Sync, T: Texts + Sync>(
     requires { count ≤ T.count texts.now }
     ensures { IfOk result (λ made. made ≡ to ++ stretch (T.text texts.now) 0 count) }
 {
-    add_stretches(rt, alloc, texts, 0, count, workers.min(MOST_AT_ONCE), to)
+    let part = Stretch {
+        first: 0,
+        count,
+        workers: workers.min(MOST_AT_ONCE),
+    };
+    add_stretches(rt, alloc, texts, part, to)
 }

@@ -22,31 +22,37 @@ use std::mem::forget;
 use tool_words::Usage;
 use tree_model::Tree;
 
+// A tool that runs, and the files that it reads.
+#[derive(Drop)]
+struct Running<'r, T> {
+    alloc: Global,
+    tool: &'r T,
+    list: &'r FileList,
+}
+
 // Asks a tool, and writes its answer: all texts are made before the first byte is written, and the
 // file is written before the report.
 fn end_run<T: Tool, S: Store, O: Sink>(
-    alloc: Global,
-    tool: &T,
-    list: &FileList,
+    run: &Running<'_, T>,
     found: &T::Found,
     tree: &Tree,
     store: &mut S,
     out: &mut O,
 ) -> Cause
-    requires fit { T.IsFit tool.now }
+    requires fit { T.IsFit run.now.tool.now }
     requires tree { length tree.now < 2 ^ 31 }
-    requires of_format { AreTaken (T.records tool.now) tree.now }
-    requires list { list.now ≡ T.reads tool.now }
-    ensures { Ended (T.reads tool.now) (T.output tool.now)
-        (T.answered tool.now found.now tree.now)
+    requires of_format { AreTaken (T.records run.now.tool.now) tree.now }
+    requires list { run.now.list.now ≡ T.reads run.now.tool.now }
+    ensures { Ended (T.reads run.now.tool.now) (T.output run.now.tool.now)
+        (T.answered run.now.tool.now found.now tree.now)
         (store_seen S.Store store.old) (store_seen S.Store store.new)
         (sink_seen O.Sink out.old) (sink_seen O.Sink out.new) result }
 {
-    let ending = match tool.answer(alloc, found, tree) {
+    let ending = match run.tool.answer(run.alloc, found, tree) {
         Ok(ending) => ending,
-        Err(refusal) => return refuse(alloc, list, refusal, out),
+        Err(refusal) => return refuse(run.alloc, run.list, refusal, out),
     };
-    match save(alloc, &ending, store) {
+    match save(run.alloc, &ending, store) {
         Ok(()) => finish(&ending, out),
         Err(SaveFault::Failed) => lose_dump(out),
         Err(SaveFault::OutOfMemory) => give_up(out),
@@ -55,55 +61,53 @@ fn end_run<T: Tool, S: Store, O: Sink>(
 
 // Runs a tool whose files were read and say this: reads the input, then asks the tool.
 fn run_found<T: Tool, S: Store, I: Source, O: Sink>(
-    alloc: Global,
-    tool: &T,
-    list: &FileList,
+    run: &Running<'_, T>,
     found: &T::Found,
     store: &mut S,
     input: &mut I,
     out: &mut O,
 ) -> Cause
-    requires fit { T.IsFit tool.now }
-    requires list { list.now ≡ T.reads tool.now }
+    requires fit { T.IsFit run.now.tool.now }
+    requires list { run.now.list.now ≡ T.reads run.now.tool.now }
     ensures { (before : S)
-        → Reads S.files S.calls S.read_faults S.write_faults (T.files_say tool.now) before store.old
-        (Ok found.now)
-        → (T.reads tool.now ≡ [] → store.old ≡ before)
-        → (T.reads tool.now ≡ [] → (known : Files)
-        → (T.files_say tool.now known).says ≡ Ok found.now)
-        → Run (Ok (plan_by (T.reads tool.now) (T.records tool.now) (T.is_soft tool.now)
-        (T.output tool.now) (T.files_say tool.now) (T.answered tool.now)))
+        → Reads S.files S.calls S.read_faults S.write_faults (T.files_say run.now.tool.now)
+        before store.old (Ok found.now)
+        → (T.reads run.now.tool.now ≡ [] → store.old ≡ before)
+        → (T.reads run.now.tool.now ≡ [] → (known : Files)
+        → (T.files_say run.now.tool.now known).says ≡ Ok found.now)
+        → Run (Ok (plan_by (T.reads run.now.tool.now) (T.records run.now.tool.now)
+        (T.is_soft run.now.tool.now) (T.output run.now.tool.now) (T.files_say run.now.tool.now)
+        (T.answered run.now.tool.now)))
         (outside S.Store I.Source O.Sink before input.old out.old)
         (outside S.Store I.Source O.Sink store.new input.new out.new) result }
 {
-    let tree = match read_entries(alloc, tool.record_format(), input) {
+    let tree = match read_entries(run.alloc, run.tool.record_format(), input) {
         Ok(tree) => tree,
-        Err(refusal) => return refuse(alloc, list, refusal, out),
+        Err(refusal) => return refuse(run.alloc, run.list, refusal, out),
     };
-    end_run(alloc, tool, list, found, &tree, store, out)
+    end_run(run, found, &tree, store, out)
 }
 
 // Runs a tool that reads these files: reads them before the input.
 fn run_listed<T: Tool, S: Store, I: Source, O: Sink>(
-    alloc: Global,
-    tool: &T,
-    list: &FileList,
+    run: &Running<'_, T>,
     store: &mut S,
     input: &mut I,
     out: &mut O,
 ) -> Cause
-    requires fit { T.IsFit tool.now }
-    requires list { list.now ≡ T.reads tool.now }
-    ensures { Run (Ok (plan_by (T.reads tool.now) (T.records tool.now) (T.is_soft tool.now)
-        (T.output tool.now) (T.files_say tool.now) (T.answered tool.now)))
+    requires fit { T.IsFit run.now.tool.now }
+    requires list { run.now.list.now ≡ T.reads run.now.tool.now }
+    ensures { Run (Ok (plan_by (T.reads run.now.tool.now) (T.records run.now.tool.now)
+        (T.is_soft run.now.tool.now) (T.output run.now.tool.now) (T.files_say run.now.tool.now)
+        (T.answered run.now.tool.now)))
         (outside S.Store I.Source O.Sink store.old input.old out.old)
         (outside S.Store I.Source O.Sink store.new input.new out.new) result }
 {
-    let found = match tool.read_files(alloc, list, store) {
+    let found = match run.tool.read_files(run.alloc, run.list, store) {
         Ok(found) => found,
-        Err(refusal) => return refuse(alloc, list, refusal, out),
+        Err(refusal) => return refuse(run.alloc, run.list, refusal, out),
     };
-    let cause = run_found(alloc, tool, list, &found, store, input, out);
+    let cause = run_found(run, &found, store, input, out);
     // The process ends behind this, and takes the memory of a whole policy back at once.
     forget(found);
     cause
@@ -127,7 +131,12 @@ fn run_tool<T: Tool, S: Store, I: Source, O: Sink>(
         Ok(list) => list,
         Err(_) => return give_up(out),
     };
-    run_listed(alloc, tool, &list, store, input, out)
+    let run = Running {
+        alloc,
+        tool,
+        list: &list,
+    };
+    run_listed(&run, store, input, out)
 }
 
 /// Runs a tool by what its words were read as: what they ask for, or the first that is wrong.

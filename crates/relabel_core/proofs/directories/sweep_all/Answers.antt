@@ -12,5 +12,5 @@ entries-init c = record {
 
 pub returns-clause-swept : goal.returns-clause-swept
 returns-clause-swept c =
-    done (walk_of c.args.input.now) c.entries.e c.entries.end _ _
-    (omega (arith, c.entries-test.false, c.len-e-end.ensures)) c.entries.invariant.swept
+    done (walk_of c.args.input.now) c.entries.entry c.entries.end _ _
+    (omega (arith, c.entries-test.false, c.len-entry-end.ensures)) c.entries.invariant.swept

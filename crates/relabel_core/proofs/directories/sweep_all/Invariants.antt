@@ -7,5 +7,5 @@ use Rattle.relabel_core.proofs.directories.sweep_all.Given as goal
 abbrev pub invariant-entries : goal.invariant-entries
 invariant-entries l = record {
   own : IsScratchOf l.input.rules.now.rules l.buffers.scratch;
-  swept : AreSweeping (walk_of l.input) l.e l.end l.swept.skips.items l.swept.made;
+  swept : AreSweeping (walk_of l.input) l.entry l.end l.swept.skips.items l.swept.made;
 }

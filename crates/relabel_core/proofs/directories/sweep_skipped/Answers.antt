@@ -4,7 +4,7 @@ use Rattle.relabel_core.proofs.directories.sweep_skipped.Goals as goal
 
 pub returns : goal.returns
 returns c =
-    passing_over (walk_of c.args.input.now) c.requires.fit.by_path c.args.e c.args.end
+    passing_over (walk_of c.args.input.now) c.requires.fit.by_path c.args.at.entry c.args.at.end
     c.extent.result c.args.swept.now.skips.items c.push.new.self.items
     c.args.swept.now.made c.requires.swept c.requires.entry c.requires.outside c.requires.over
     c.extent.ensures.run c.in_ok-push.ensures.items

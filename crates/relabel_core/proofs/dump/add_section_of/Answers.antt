@@ -7,14 +7,16 @@ use Rattle.relabel_core.proofs.dump.add_section_of.Goals as goal
 
 pub returns-then-not-does_change : goal.returns-then-not-does_change
 returns-then-not-does_change c =
-    none_written (path_of c.args.path.now) (option_map context_lent c.args.change.now)
-    c.args.digest.now c.args.to.now
+    let changes = c.args.changes.now in
+    none_written (path_of changes.path.now) (option_map context_lent changes.label.now)
+    changes.digest.now c.args.to.now
     (sym c.does_change.ensures ∙ c.if-not-does_change.true)
 
 pub returns : goal.returns
 returns c =
-    whole_written (path_of c.args.path.now) (option_map context_lent c.args.change.now)
-    c.args.digest.now c.args.to.now
+    let changes = c.args.changes.now in
+    whole_written (path_of changes.path.now) (option_map context_lent changes.label.now)
+    changes.digest.now c.args.to.now
     c.add_name.new.text c.add_label.new.to c.add_digest.new.to c.end_section.new.text
     (sym c.does_change.ensures ∙ c.if-not-does_change.false)
     c.in_ok-add_name.ensures c.in_ok-add_label.ensures c.in_ok-add_digest.ensures

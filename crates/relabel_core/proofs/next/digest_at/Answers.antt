@@ -8,4 +8,4 @@ returns c =
     c.in_ok-digest.ensures
     ∙ ap (λ stored. digest_seen c.at.result stored)
     (c.get.ensures ∙ ap (λ (w : Walk). w.stored c.args.d) c.walked-walked.ensures)
-    ∙ c.at.ensures
+    ∙ c.at.ensures.seen

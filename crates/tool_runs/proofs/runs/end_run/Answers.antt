@@ -56,7 +56,7 @@ returns-in-Err-Failed g c =
       read_counts = saved.reads;
       behind = record {
         cause_is = c.lose_dump.ensures.cause;
-        line = c.lose_dump.ensures.line (g.T.Tool.reads c.args.tool.now);
+        line = c.lose_dump.ensures.line (g.T.Tool.reads c.args.run.now.tool.now);
       };
     })
 
@@ -76,6 +76,6 @@ returns g c =
       read_counts = saved.reads;
       behind = record {
         cause_is = c.give_up.ensures.cause;
-        line = c.give_up.ensures.line (g.T.Tool.reads c.args.tool.now);
+        line = c.give_up.ensures.line (g.T.Tool.reads c.args.run.now.tool.now);
       };
     })

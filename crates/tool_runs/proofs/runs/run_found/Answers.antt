@@ -8,7 +8,7 @@ use Rattle.tool_runs.proofs.runs.run_found.Goals as goal
 pub returns-in-Err : goal.returns-in-Err
 returns-in-Err g c before accepted unread alone =
     let given = rw c.record_format.ensures at c.in-Err.ensures in
-    ended_by_input _ _ _ _ _ _ _ _ c.in-Err.refusal c.refuse.result c.args.list.now
+    ended_by_input _ _ _ _ _ _ _ _ c.in-Err.refusal c.refuse.result c.args.run.now.list.now
     c.args.found.now c.refuse.ensures.cause c.requires.list
     (reads_seen g.S.Store _ _ _ _ accepted)
     (record {

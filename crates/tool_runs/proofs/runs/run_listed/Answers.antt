@@ -6,7 +6,7 @@ use Rattle.tool_runs.proofs.runs.run_listed.Goals as goal
 
 pub returns-in-Err : goal.returns-in-Err
 returns-in-Err g c =
-    ended_by_file _ _ _ _ _ _ _ _ c.in-Err.refusal c.refuse.result c.args.list.now
+    ended_by_file _ _ _ _ _ _ _ _ c.in-Err.refusal c.refuse.result c.args.run.now.list.now
     c.refuse.ensures.cause c.requires.list (reads_seen g.S.Store _ _ _ _ c.in-Err.ensures.reads)
     (λ none. ap (store_seen g.S.Store) (c.in-Err.ensures.unread none)) c.in-Err.ensures.alone refl
     c.refuse.ensures.line

@@ -11,5 +11,5 @@ returns c =
     ∙ ap (λ section. c.args.to.now ++ optional_section section)
     (section_told (walk_before c.args.self.now) c.args.e _ _ _
     (c.path.ensures ∙ ap (λ w. path_at w c.args.e) c.walked-walked.ensures)
-    (c.change_at-change.ensures ∙ ap (λ w. change_at w c.args.e) c.walked-walked.ensures)
-    c.change_at.ensures)
+    (c.change_at.ensures ∙ ap (λ w. change_at w c.args.e) c.walked-walked.ensures)
+    c.change_at-2.ensures)

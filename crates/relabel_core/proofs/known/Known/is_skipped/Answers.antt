@@ -1,6 +1,6 @@
 use Rattle.std.proofs.Common.{◌∙◌}
 use Rattle.relabel_core.specs.Walked.{walk_of}
-use Rattle.relabel_core.proofs.SweptLemmas.{skipped_is}
+use Rattle.relabel_core.proofs.CoveredLemmas.{skipped_is}
 use Rattle.relabel_core.proofs.known.Known.is_skipped.Goals as goal
 
 pub returns : goal.returns
