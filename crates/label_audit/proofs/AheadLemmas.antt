@@ -1,17 +1,17 @@
 -- Looking ahead for labels that change.
-use Rattle.std.proofs.Common.{◌≡◌, ◌∙◌, sym, refl, ap, ap₂, ℕ, ◌+◌, ◌<◌, ◌≤◌, ◌&&◌, Bool, true}
-use Rattle.std.proofs.Common.{false, inl, inr, arith, subst}
+use Rattle.std.proofs.Common.{◌≡◌, ◌∙◌, sym, ap, ℕ, ◌+◌, ◌<◌, ◌≤◌, ◌&&◌, true, false, inl, inr}
+use Rattle.std.proofs.Common.{arith, subst}
 use Rattle.std.specs.Prelude.{nat_le, nat_lt}
-use Rattle.std.proofs.lemmas.Bool.{and_left, and_right, cases_lt, le-leb, le-ltb, lt-leb, lt-ltb}
-use Rattle.label_base.specs.Bounded.{any_below}
+use Rattle.std.proofs.lemmas.Bool.{and_from, and_left, and_right, cases_lt, le-leb, le-ltb, lt-leb}
+use Rattle.std.proofs.lemmas.Bool.{lt-ltb}
 use Rattle.label_base.proofs.BoundedLemmas.{any_at, none_from}
 use Rattle.tree_model.specs.Extents.{in_extent}
+use Rattle.relabel_core.specs.Swept.{SkipEndsAt}
 use Rattle.relabel_core.specs.Walk.{Walk, walk_count, has_changed_name, is_changed_name}
+use Rattle.relabel_core.proofs.CoveredLemmas.{covers_none}
 use Rattle.label_audit.specs.Ahead.{IsAhead}
-use Rattle.label_audit.specs.Skipping.{SkipEndsAt}
 use Rattle.label_audit.specs.declared.ahead.Ahead.{Ahead}
-use Rattle.label_audit.specs.declared.skipping.Cursor.{Cursor}
-use Rattle.label_audit.proofs.SkipLemmas.{covers_none}
+use Rattle.relabel_core.specs.declared.swept.Cursor.{Cursor}
 
 -- nothing was looked at
 pub none_ahead : (w : Walk) → IsAhead w 0 (record { clear = record { entry = 0; end = 0 } })
@@ -43,11 +43,6 @@ ahead_more w d end ahead now old same covers is =
       ];
     })
 
-both_true : (a b : Bool) → a ≡ true → b ≡ true → (a && b) ≡ true
-both_true true true h k = refl
-both_true false b h k = absurd cc
-both_true true false h k = absurd cc
-
 -- one that changes is at or below the directory
 pub found_changed : (w : Walk) (d e stop : ℕ) → stop ≤ walk_count w
     → ((x : ℕ) → x < walk_count w → in_extent w.entries d x ≡ (nat_le d x && nat_lt x stop))
@@ -56,8 +51,8 @@ unfolding has_changed_name
 found_changed w d e stop within run from before changed =
     let here : e < walk_count w = omega (arith, before, within) in
     sym (any_at (walk_count w) (λ x. in_extent w.entries d x && is_changed_name w x) e here
-    (both_true (in_extent w.entries d e) (is_changed_name w e)
-    (run e here ∙ both_true (nat_le d e) (nat_lt e stop) (le-leb d e from) (lt-ltb e stop before))
+    (and_from (in_extent w.entries d e) (is_changed_name w e)
+    (run e here ∙ and_from (nat_le d e) (nat_lt e stop) (le-leb d e from) (lt-ltb e stop before))
     changed))
 
 -- where one has looked to the end, none does

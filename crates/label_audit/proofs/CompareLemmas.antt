@@ -4,6 +4,7 @@ use Rattle.std.proofs.Common.{Bool, true, false, List, [], ◌∷◌, ◌++◌, 
 use Rattle.std.proofs.Common.{replicate, set, Option, Some, None, inl, inr, arith, eq-eqb, ne_eqb}
 use Rattle.std.proofs.Common.{add-one, append_assoc, if◌then◌else◌}
 use Rattle.std.specs.Prelude.{is_none, is_some, nat_lt, slice_get}
+use Rattle.std.proofs.Math.Bool.{or-false, or-true}
 use Rattle.std.proofs.lemmas.Bool.{cases_eq, cases_lt, le-ltb, lt-ltb}
 use Rattle.std.proofs.lemmas.List.{at_drop_all, at_drop_more, get_or-replicate, get_or-set_other}
 use Rattle.std.proofs.lemmas.List.{get_or-set_same, length-replicate, length-set, map-append}
@@ -99,14 +100,6 @@ three_compared one two three all xs ys zs p q r =
 
 -- ---- flags
 
-or_none : (b : Bool) → b ≡ (b || false)
-or_none true = refl
-or_none false = refl
-
-or_true : (b : Bool) → true ≡ (b || true)
-or_true true = refl
-or_true false = refl
-
 raised_length : (flags : List Bool) (found : Option ℕ) → length (raised_at flags found)
     ≡ length flags
 raised_length flags None = refl
@@ -118,7 +111,7 @@ raised_length flags (Some k) = elim (cases_lt k (length flags)) [
 
 raised_here : (flags : List Bool) (found : Option ℕ) (i : ℕ) → i < length flags
     → get_or (raised_at flags found) i false ≡ (get_or flags i false || is_found_at found i)
-raised_here flags None i l = or_none (get_or flags i false)
+raised_here flags None i l = sym (or-false (get_or flags i false))
 raised_here flags (Some k) i l = elim (cases_lt k (length flags)) [
   | inl lt ↦
       ap (λ b. get_or (if b then set flags k true else flags) i false) (lt-ltb k (length flags) lt)
@@ -126,16 +119,16 @@ raised_here flags (Some k) i l = elim (cases_lt k (length flags)) [
         | inl same ↦
             ap (λ j. get_or (set flags k true) j false) (sym same)
             ∙ get_or-set_same flags k true false lt
-            ∙ or_true (get_or flags i false) ∙ ap (λ b. get_or flags i false || b)
+            ∙ sym (or-true (get_or flags i false)) ∙ ap (λ b. get_or flags i false || b)
             (sym (eq-eqb k i same))
         | inr differ ↦
             get_or-set_other flags k i true false (λ s. differ (sym s))
-            ∙ or_none (get_or flags i false)
+            ∙ sym (or-false (get_or flags i false))
             ∙ ap (λ b. get_or flags i false || b) (sym (ne_eqb k i differ))
       ]
   | inr ge ↦
       ap (λ b. get_or (if b then set flags k true else flags) i false) (le-ltb k (length flags) ge)
-      ∙ or_none (get_or flags i false)
+      ∙ sym (or-false (get_or flags i false))
       ∙ ap (λ b. get_or flags i false || b) (sym (ne_eqb k i (λ s. omega (arith, l, ge, s))))
 ]
 

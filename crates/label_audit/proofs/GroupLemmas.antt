@@ -1,21 +1,20 @@
 -- The names of a group are skipped together, and the winner is the first of them that is wanted.
-use Rattle.std.proofs.Common.{◌≡◌, ◌∙◌, sym, refl, ap, ap₂, subst, ℕ, zero, suc, ◌+◌, ◌<◌, ◌≤◌}
-use Rattle.std.proofs.Common.{◌==◌, ◌&&◌, Bool, true, false, cond, not, List, [], ◌∷◌, ◌++◌, drop}
-use Rattle.std.proofs.Common.{filter, length, get_or, Option, Some, None, inl, inr, arith, eq-eqb}
-use Rattle.std.proofs.Common.{ne_eqb, if◌then◌else◌}
+use Rattle.std.proofs.Common.{◌≡◌, ◌∙◌, sym, refl, ap, subst, ℕ, zero, suc, ◌+◌, ◌<◌, ◌≤◌, ◌==◌}
+use Rattle.std.proofs.Common.{◌&&◌, Bool, true, false, cond, not, List, [], ◌∷◌, drop, filter}
+use Rattle.std.proofs.Common.{length, get_or, Option, Some, None, inl, inr, arith, eq-eqb, ne_eqb}
+use Rattle.std.proofs.Common.{if◌then◌else◌}
 use Rattle.std.specs.Prelude.{IfSome, is_some, option_and_then}
 use Rattle.std.specs.BTreeMap.{BTreeMap, get, is_at as is_at_key}
 use Rattle.std.specs.Map.{lookup}
 use Rattle.std.specs.Ordering.{nat_cmp}
 use Rattle.std.specs.List.{find}
 use Rattle.std.specs.Option.{option_or}
-use Rattle.std.proofs.lemmas.Bool.{and_left, and_parts, and_right, cases_Bool, cases_eq, cond_both}
-use Rattle.std.proofs.lemmas.Bool.{eqb-true}
+use Rattle.std.proofs.lemmas.Bool.{and_from, and_left, and_parts, and_right, cases_Bool, cases_eq}
+use Rattle.std.proofs.lemmas.Bool.{cond_both, eqb-true}
 use Rattle.std.proofs.lemmas.List.{at_drop_all, at_drop_more}
 use Rattle.std.proofs.lemmas.List.Elements.{filter-append}
 use Rattle.std.proofs.lemmas.List.Folds.{find-append}
-use Rattle.label_base.specs.Bounded.{all_below, all_numbers, any_below, found_or, implies}
-use Rattle.label_base.specs.Bounded.{least_below}
+use Rattle.label_base.specs.Bounded.{all_below, all_numbers, found_or, implies, least_below}
 use Rattle.label_base.proofs.BoundedLemmas.{all_at, any_at, any_has, count_numbers, implies_at}
 use Rattle.label_base.proofs.BoundedLemmas.{least_none}
 use Rattle.tree_model.specs.Extents.{entry_at, in_extent, is_directory}
@@ -23,9 +22,9 @@ use Rattle.tree_model.specs.Groups.{closed_at, group_of, holds_groups, holds_nam
 use Rattle.tree_model.specs.Selection.{whole_at}
 use Rattle.tree_model.proofs.DeadLemmas.{number_at}
 use Rattle.label_rules.specs.LookUp.{given_at, index_for}
-use Rattle.relabel_core.specs.Walk.{Walk, can_win, walk_count, deciding, digest_now, group_winner}
-use Rattle.relabel_core.specs.Walk.{is_current, is_live, is_skipped, is_wanted, is_whole, skippable}
-use Rattle.relabel_core.specs.Walk.{skips, walked, wanted, winner}
+use Rattle.relabel_core.specs.Walk.{Walk, can_win, walk_count, deciding, digest_now, is_current}
+use Rattle.relabel_core.specs.Walk.{is_live, is_skipped, is_wanted, is_whole, skippable, skips}
+use Rattle.relabel_core.specs.Walk.{walked, wanted, winner}
 use Rattle.label_audit.specs.Winners.{AreWinnersKept, IsWinner, no_winner, winner_if}
 use Rattle.label_audit.specs.declared.winners.Winner.{Winner}
 
@@ -62,11 +61,6 @@ whole_of w d h =
     inner.1).0 in
     (and_parts (holds_groups w.entries d) (holds_names w.entries d) closed).0
 
-both_true : (a b : Bool) → a ≡ true → b ≡ true → (a && b) ≡ true
-both_true true true h k = refl
-both_true false b h k = absurd cc
-both_true true false h k = absurd cc
-
 skipped_too : (w : Walk) (e k : ℕ) → e < walk_count w → k < walk_count w → group_of w.entries k
     ≡ group_of w.entries e → is_skipped w e ≡ true → is_skipped w k ≡ true
 unfolding is_skipped
@@ -74,7 +68,7 @@ skipped_too w e k l m same h =
     let above = any_has (walk_count w) (λ d. skippable w d && in_extent w.entries d e) h in
     let parts = and_parts (skippable w above.0) (in_extent w.entries above.0 e) above.2 in
     any_at (walk_count w) (λ d. skippable w d && in_extent w.entries d k) above.0 above.1
-    (both_true (skippable w above.0) (in_extent w.entries above.0 k) parts.0
+    (and_from (skippable w above.0) (in_extent w.entries above.0 k) parts.0
     (closed_holds w above.0 e k l m (whole_of w above.0 parts.0) parts.1 same))
 
 pub left_too : (w : Walk) (e k : ℕ) → e < walk_count w → k < walk_count w → group_of w.entries k

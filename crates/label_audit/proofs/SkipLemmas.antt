@@ -1,198 +1,45 @@
--- Whether an entry is skipped, by the directories before it.
-use Rattle.std.proofs.Common.{◌≡◌, ◌∙◌, sym, refl, ap, ap₂, ℕ, zero, suc, ◌+◌, ◌<◌, ◌≤◌, ◌==◌, ◌&&◌}
-use Rattle.std.proofs.Common.{◌||◌, Bool, true, false, not, Option, Some, None, List, inl, inr}
-use Rattle.std.proofs.Common.{arith, if◌then◌else◌, eq-eqb, ne_eqb, add-one}
+-- Whether an entry is skipped, as the audit keeps it.
+use Rattle.std.proofs.Common.{◌≡◌, ◌∙◌, sym, refl, ℕ, ◌<◌, ◌≤◌, ◌&&◌, true, false, not, List}
+use Rattle.std.proofs.Common.{Option, None}
 use Rattle.std.specs.Prelude.{nat_le, nat_lt}
-use Rattle.std.proofs.lemmas.Bool.{and_left, and_parts, and_right, cases_eq, cases_lt}
-use Rattle.std.proofs.lemmas.Bool.{false_from_ne_true, le-leb, le-ltb, lt-ltb}
-use Rattle.label_base.specs.Bounded.{any_below}
-use Rattle.label_base.proofs.BoundedLemmas.{any_at, any_has, any_same}
 use Rattle.tree_model.specs.Extents.{in_extent}
 use Rattle.tree_model.specs.Tree.{ByPath}
-use Rattle.tree_model.proofs.ExtentLemmas.{in_behind, in_chain, in_itself}
-use Rattle.relabel_core.specs.Swept.{is_covered, renewal, skip_of}
-use Rattle.relabel_core.specs.Walk.{Walk, walk_count, is_skipped, is_skipped_first, skippable}
+use Rattle.relabel_core.specs.Swept.{SkipEndsAt, is_not, renewal}
+use Rattle.relabel_core.specs.Walk.{Walk, walk_count, skippable}
 use Rattle.relabel_core.specs.declared.swept.Skip.{Skip}
 use Rattle.relabel_core.specs.declared.swept.Skip.TheVariants.{Not, First, Below}
+use Rattle.relabel_core.proofs.CoveredLemmas.{IsPassed, passed_below, passed_by, passed_over}
+use Rattle.relabel_core.proofs.CoveredLemmas.{skipped_is}
 use Rattle.relabel_core.proofs.SweptLemmas.{none_renewed_if_skipped}
-use Rattle.label_audit.specs.Skipping.{SkipEndsAt, IsSkipped}
-use Rattle.label_audit.specs.declared.skipping.Skipped.{Skipped}
+use Rattle.label_audit.specs.Skipping.{IsSkipped}
 
--- ---- tests
-
-or_none : (b : Bool) → (b || false) ≡ b
-or_none true = refl
-or_none false = refl
-
-or_true : (b : Bool) → (b || true) ≡ true
-or_true true = refl
-or_true false = refl
-
-and_true : (a b : Bool) → b ≡ true → (a && b) ≡ a
-and_true true true h = refl
-and_true false b h = refl
-and_true true false h = absurd cc
-
-absorbed : (a b : Bool) → (b ≡ true → a ≡ true) → (a || b) ≡ a
-absorbed true b h = refl
-absorbed false true h = sym (h refl)
-absorbed false false h = refl
-
--- numbers from a place on that don't pass don't count
-any_shrinks : (n k : ℕ) (p : ℕ → Bool) → k ≤ n → ((j : ℕ) → k ≤ j → j < n → p j ≡ false)
-    → any_below n p ≡ any_below k p
-any_shrinks zero k p l h = let same : zero ≡ k = omega (arith, l) in ap (λ m. any_below m p) same
-any_shrinks (suc n) k p l h =
-    elim (cases_lt n k) [
-      | inl lt ↦ (let same : suc n ≡ k = omega (arith, l, lt) in ap (λ m. any_below m p) same)
-      | inr ge ↦ ap (λ b. any_below n p || b) (h n ge (omega arith)) ∙ or_none (any_below n p)
-          ∙ any_shrinks n k p ge (λ j a b. h j a (omega (arith, b)))
-    ]
-
-told : Bool → Bool → Skip
-told s c = if s && not c then First else if c || s then Below else Not
-
-told_below : (s c : Bool) → c ≡ true → told s c ≡ Below
-unfolding told
-told_below true true h = refl
-told_below false true h = refl
-told_below s false h = absurd cc
-
-told_first : (s c : Bool) → s ≡ true → c ≡ false → told s c ≡ First
-unfolding told
-told_first true false h k = refl
-told_first false c h k = absurd cc
-told_first true true h k = absurd cc
-
-told_not : (s c : Bool) → s ≡ false → c ≡ false → told s c ≡ Not
-unfolding told
-told_not false false h k = refl
-told_not true c h k = absurd cc
-told_not false true h k = absurd cc
-
--- ---- an entry, and those before it
-
-not_behind : (w : Walk) → ByPath w.entries → (e d : ℕ) → e < d → d < walk_count w
-    → in_extent w.entries d e ≡ false
-not_behind w up e d l m =
-    false_from_ne_true (in_extent w.entries d e) (λ h. let from = in_behind w.entries up d e m h in
-    omega (arith, from, l))
-
-skipped_at : (w : Walk) → ByPath w.entries → (e : ℕ) → e < walk_count w
-    → is_skipped w e ≡ (is_covered w e e || skippable w e)
-unfolding is_skipped
-skipped_at w up e l =
-    any_shrinks (walk_count w) (suc e) (λ d. skippable w d && in_extent w.entries d e)
-    (omega (arith, l))
-    (λ d a b. and_right (skippable w d) (in_extent w.entries d e)
-    (not_behind w up e d (omega (arith, a)) b))
-    ∙ ap (λ b. is_covered w e e || b)
-    (and_true (skippable w e) (in_extent w.entries e e) (in_itself w.entries up e))
-
-not_other : (w : Walk) → ByPath w.entries → (e d : ℕ) → e ≤ d → d < walk_count w
-    → (skippable w d && in_extent w.entries d e && not (d == e)) ≡ false
-not_other w up e d l m =
-    elim (cases_eq d e) [
-      | inl same ↦ and_right (skippable w d && in_extent w.entries d e) (not (d == e))
-          (ap not (eq-eqb d e same))
-      | inr differ ↦
-          and_left (skippable w d && in_extent w.entries d e) (not (d == e))
-          (and_right (skippable w d) (in_extent w.entries d e)
-          (not_behind w up e d (omega (arith, l, differ)) m))
-    ]
-
-first_at : (w : Walk) → ByPath w.entries → (e : ℕ) → e < walk_count w → is_skipped_first w e
-    ≡ (skippable w e && not (is_covered w e e))
-unfolding is_skipped_first
-first_at w up e l =
-    ap (λ b. skippable w e && not b)
-    (any_shrinks (walk_count w) e (λ d. skippable w d && in_extent w.entries d e && not (d == e))
-    (omega (arith, l)) (λ d a b. not_other w up e d a b)
-    ∙ any_same e (λ d. skippable w d && in_extent w.entries d e && not (d == e))
-    (λ d. skippable w d && in_extent w.entries d e)
-    (λ d a. and_true (skippable w d && in_extent w.entries d e) (not (d == e))
-    (ap not (ne_eqb d e (λ s. omega (arith, a, s))))))
-
-skip_told : (w : Walk) → ByPath w.entries → (e : ℕ) → e < walk_count w
-    → skip_of w e ≡ told (skippable w e) (is_covered w e e)
-unfolding told
-skip_told w up e l = ap₂ (λ f s. if f then First else if s then Below else Not) (first_at w up e l)
-    (skipped_at w up e l)
-
-one_more : (w : Walk) (e x : ℕ) → is_covered w (e + 1) x
-    ≡ (is_covered w e x || (skippable w e && in_extent w.entries e x))
-one_more w e x = ap (λ m. is_covered w m x) (add-one e)
-
-covered_chain : (w : Walk) → ByPath w.entries → (e x : ℕ) → is_covered w e e ≡ true
-    → (skippable w e && in_extent w.entries e x) ≡ true → is_covered w e x ≡ true
-covered_chain w up e x c h =
-    let above = any_has e (λ d. skippable w d && in_extent w.entries d e) c in
-    let parts = and_parts (skippable w above.0) (in_extent w.entries above.0 e) above.2 in
-    let here = and_parts (skippable w e) (in_extent w.entries e x) h in
-    any_at e (λ d. skippable w d && in_extent w.entries d x) above.0 above.1
-    (and_true (skippable w above.0) (in_extent w.entries above.0 x)
-    (in_chain w.entries up above.0 e x parts.1 here.1) ∙ parts.0)
-
-run_behind : (e x end : ℕ) → e ≤ x → (nat_le e x && nat_lt x end) ≡ nat_lt x end
-run_behind e x end l = ap (λ b. b && nat_lt x end) (le-leb e x l)
-
--- ---- one entry more
+-- no digest is made of what is skipped
+skipped_as : (w : Walk) → ByPath w.entries → (e end : ℕ) (skip : Skip) → e < walk_count w
+    → IsPassed w e skip end → not (is_not skip) ≡ true
+    → IsSkipped w e (record { skip = skip; renewed = None; end = end })
+skipped_as w up e end skip l at does = record {
+  skip_is = at.skip_is;
+  renewed_is = sym (none_renewed_if_skipped w up e
+      (sym (skipped_is w up e skip l at.skip_is) ∙ does));
+  covers = at.covers;
+}
 
 pub passes_below : (w : Walk) → ByPath w.entries → (e end : ℕ) → SkipEndsAt w e end
     → e < walk_count w → e < end
     → IsSkipped w e (record { skip = Below; renewed = None; end = end })
 passes_below w up e end old l below =
-    let covered : is_covered w e e ≡ true = old e (omega arith) l ∙ lt-ltb e end below in
-    let skipped : is_skipped w e ≡ true = skipped_at w up e l
-    ∙ ap (λ b. b || skippable w e) covered in
-    record {
-      skip_is = sym (skip_told w up e l ∙ told_below (skippable w e) (is_covered w e e) covered);
-      renewed_is = sym (none_renewed_if_skipped w up e skipped);
-      covers = λ x a b.
-          one_more w e x
-          ∙ absorbed (is_covered w e x) (skippable w e && in_extent w.entries e x)
-          (covered_chain w up e x covered)
-          ∙ old x (omega (arith, a)) b;
-    }
+    skipped_as w up e end Below l (passed_below w up e end old l below) refl
 
 pub passes_over : (w : Walk) → ByPath w.entries → (e end extent : ℕ) → SkipEndsAt w e end
     → e < walk_count w → end ≤ e → skippable w e ≡ true
     → ((x : ℕ) → x < walk_count w → in_extent w.entries e x ≡ (nat_le e x && nat_lt x extent))
     → IsSkipped w e (record { skip = First; renewed = None; end = extent })
 passes_over w up e end extent old l outside over run =
-    let clear : is_covered w e e ≡ false = old e (omega arith) l ∙ le-ltb e end outside in
-    let skipped : is_skipped w e ≡ true = skipped_at w up e l ∙ ap (λ b. is_covered w e e || b) over
-    ∙ or_true (is_covered w e e) in
-    record {
-      skip_is = sym (skip_told w up e l ∙ told_first (skippable w e) (is_covered w e e) over clear);
-      renewed_is = sym (none_renewed_if_skipped w up e skipped);
-      covers = λ x a b.
-          one_more w e x
-          ∙ ap₂ (λ c s. c || (s && in_extent w.entries e x)) (old x (omega (arith, a)) b
-          ∙ le-ltb x end (omega (arith, a, outside))) over
-          ∙ run x b ∙ run_behind e x extent (omega (arith, a));
-    }
-
--- an entry that is below none, and may not be skipped itself, isn't
-pub left_out : (w : Walk) → ByPath w.entries → (e end : ℕ) → SkipEndsAt w e end → e < walk_count w
-    → end ≤ e → skippable w e ≡ false → is_skipped w e ≡ false
-left_out w up e end old l outside by =
-    skipped_at w up e l ∙ ap₂ (λ c s. c || s) (old e (omega arith) l ∙ le-ltb e end outside) by
+    skipped_as w up e extent First l (passed_over w up e end extent old l outside over run) refl
 
 pub passes_by : (w : Walk) → ByPath w.entries → (e end : ℕ) (renewed : Option (List ℕ))
     → SkipEndsAt w e end → e < walk_count w → end ≤ e → skippable w e ≡ false
     → renewed ≡ renewal w e → IsSkipped w e (record { skip = Not; renewed = renewed; end = end })
 passes_by w up e end renewed old l outside by is =
-    let clear : is_covered w e e ≡ false = old e (omega arith) l ∙ le-ltb e end outside in
-    record {
-      skip_is = sym (skip_told w up e l ∙ told_not (skippable w e) (is_covered w e e) by clear);
-      renewed_is = is;
-      covers = λ x a b.
-          one_more w e x ∙ ap (λ s. is_covered w e x || (s && in_extent w.entries e x)) by
-          ∙ or_none (is_covered w e x)
-          ∙ old x (omega (arith, a)) b;
-    }
-
--- nothing is before the first entry
-pub covers_none : (w : Walk) → SkipEndsAt w 0 0
-covers_none w = λ e a b. sym (le-ltb e 0 (omega arith))
+    let at = passed_by w up e end old l outside by in
+    record { skip_is = at.skip_is; renewed_is = is; covers = at.covers }

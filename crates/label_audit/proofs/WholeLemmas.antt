@@ -25,10 +25,14 @@ use Rattle.relabel_core.proofs.DumpLemmas.{section_more, sections_below}
 use Rattle.relabel_core.proofs.ReportLemmas.{report_append, text_more}
 use Rattle.label_audit.specs.Finding.{finding_by, finding_of}
 use Rattle.label_audit.specs.Pieces.{PlacedPiece, begins, differing, differing_in, dump_pieces}
-use Rattle.label_audit.specs.Pieces.{end_differs, entry_piece, entry_pieces, pieces_joined}
-use Rattle.label_audit.specs.Pieces.{operand_piece, operand_pieces, piece_placed, report_pieces}
-use Rattle.label_audit.specs.Pieces.{section_piece, spec_piece, spec_pieces}
+use Rattle.label_audit.specs.Pieces.{end_differs, entry_piece, entry_pieces, operand_piece}
+use Rattle.label_audit.specs.Pieces.{operand_pieces, piece_placed, report_pieces, section_piece}
+use Rattle.label_audit.specs.Pieces.{spec_piece, spec_pieces}
 use Rattle.label_audit.specs.Whole.{AreWhole}
+
+-- the texts of pieces, joined
+abbrev pub pieces_joined : List PlacedPiece → List ℕ
+pieces_joined pieces = flat_map (λ next. next.text) pieces
 
 -- ---- one list of pieces
 

@@ -1,7 +1,7 @@
 -- How far one has looked ahead for labels that change.
 use Rattle.std.specs.Prelude.{◌≡◌, ℕ, ◌<◌, ◌≤◌, false}
+use Rattle.relabel_core.specs.Swept.{SkipEndsAt}
 use Rattle.relabel_core.specs.Walk.{Walk, is_changed_name}
-use Rattle.label_audit.specs.Skipping.{SkipEndsAt}
 use Rattle.label_audit.specs.declared.ahead.Ahead.{Ahead}
 
 -- from the entry d on no name of a group whose label changes was met

@@ -1,7 +1,6 @@
 -- The pieces of which a report and a dump are made, and the first that a file doesn't hold.
 use Rattle.std.specs.Prelude.{ℕ, Bool, List, [], ◌∷◌, ◌++◌, length, map, get_or, take, drop, Option}
 use Rattle.std.specs.Prelude.{Some, None, if◌then◌else◌}
-use Rattle.std.specs.List.{flat_map}
 use Rattle.label_base.specs.Bounded.{all_numbers}
 use Rattle.label_base.specs.Text.{same_bytes}
 use Rattle.file_paths.specs.Path.{Path}
@@ -86,7 +85,3 @@ differing (next ∷ pieces) bytes =
 abbrev pub differing_in : List PlacedPiece → Option (List ℕ) → Option Piece
 differing_in pieces None = None
 differing_in pieces (Some bytes) = differing pieces bytes
-
--- the texts of pieces, joined
-abbrev pub pieces_joined : List PlacedPiece → List ℕ
-pieces_joined pieces = flat_map (λ next. next.text) pieces

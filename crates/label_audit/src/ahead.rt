@@ -1,15 +1,14 @@
 ghost use Rattle.std.specs.Prelude.{◌≡◌, ◌+◌, ◌<◌, ◌≤◌, IfOk, OnOk};
+ghost use Rattle.relabel_core.specs.Swept.{SkipEndsAt};
 ghost use Rattle.relabel_core.specs.Walk.{Walk, walk_count, has_changed_name, is_changed_name};
 ghost use Rattle.relabel_core.specs.Walked.{IsFit, walk_of};
 ghost use Rattle.label_audit.specs.Ahead.{IsAhead};
 ghost use Rattle.label_audit.specs.Looking.{AreReady};
-ghost use Rattle.label_audit.specs.Skipping.{SkipEndsAt};
 
 use crate::deciding::LookedUp;
 use crate::looking::{LookUps, decide_at, known_of, skip_at};
-use crate::skipping::Cursor;
 use label_base::OutOfMemory;
-use relabel_core::WalkInput;
+use relabel_core::{Cursor, WalkInput};
 use std::alloc::Global;
 
 /// How far one has looked ahead: from the entry that is audited to the one at `clear`, none is a

@@ -56,7 +56,7 @@ fn add_pattern(rules: &Rules, i: u32, text: &mut Bytes) -> Result<(), OutOfMemor
 {
     match spec_at(rules, Some(i)) {
         None => Ok(()),
-        Some(spec) => text.push(spec.text.as_slice()),
+        Some(spec) => text.push(spec.text()),
     }
 }
 

@@ -1,18 +1,16 @@
 ghost use Rattle.std.specs.Prelude.{◌≡◌, ◌<◌, ◌&&◌, IfOk, OnOk, None, is_some, not};
 ghost use Rattle.relabel_core.specs.Changes.{digest_change};
-ghost use Rattle.relabel_core.specs.Swept.{renewal};
+ghost use Rattle.relabel_core.specs.Swept.{SkipEndsAt, renewal};
 ghost use Rattle.relabel_core.specs.Walk.{walk_count};
 ghost use Rattle.relabel_core.specs.Walked.{IsFit, walk_of};
 ghost use Rattle.label_audit.specs.Ahead.{IsAhead};
 ghost use Rattle.label_audit.specs.Looking.{AreReady};
-ghost use Rattle.label_audit.specs.Skipping.{SkipEndsAt};
 
 use crate::ahead::{Ahead, has_changed};
 use crate::looking::{FoundEntry, LookUps};
-use crate::skipping::Cursor;
 use dir_digest::Digest;
 use label_base::OutOfMemory;
-use relabel_core::{WalkInput, digest_change, unless_stored};
+use relabel_core::{Cursor, WalkInput, digest_change, unless_stored};
 use std::alloc::Global;
 
 // Whether a digest is stored for an entry, and may give way to the void one.

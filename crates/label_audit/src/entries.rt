@@ -4,7 +4,7 @@ ghost use Rattle.file_paths.specs.PathRef.{path_of};
 ghost use Rattle.tree_model.specs.Extents.{entry_at};
 ghost use Rattle.relabel_core.specs.Changes.{optional_section, section_by};
 ghost use Rattle.relabel_core.specs.KnownEntry.{index_known, walk_known};
-ghost use Rattle.relabel_core.specs.Swept.{renewal};
+ghost use Rattle.relabel_core.specs.Swept.{SkipEndsAt, renewal};
 ghost use Rattle.relabel_core.specs.Report.{AreRaised};
 ghost use Rattle.relabel_core.specs.Walk.{walk_count};
 ghost use Rattle.relabel_core.specs.Walked.{IsFit, walk_of};
@@ -13,7 +13,6 @@ ghost use Rattle.label_audit.specs.Compared.{next_behind, behind_of, is_compared
 ghost use Rattle.label_audit.specs.Looking.{AreReady};
 ghost use Rattle.label_audit.specs.Pieces.{PlacedPiece, dump_pieces, entry_piece, entry_pieces};
 ghost use Rattle.label_audit.specs.Pieces.{piece_placed, section_piece};
-ghost use Rattle.label_audit.specs.Skipping.{SkipEndsAt};
 
 use crate::ahead::Ahead;
 use crate::compared::Compared;
@@ -21,12 +20,9 @@ use crate::deciding::LookedUp;
 use crate::digests::digest_at;
 use crate::lines::{ComparedReport, compare_line};
 use crate::looking::{FoundEntry, LookUps, decide_at, known_of, skip_at};
-use crate::skipping::Cursor;
-use context_syntax::ContextRef;
-use dir_digest::Digest;
 use file_paths::PathRef;
 use label_base::{Bytes, OutOfMemory};
-use relabel_core::{Known, WalkInput, add_section_of, raise};
+use relabel_core::{Cursor, Known, PathChanges, WalkInput, add_section_of, raise};
 use run_faults::Piece;
 use std::alloc::Global;
 use tree_model::Tree;
@@ -78,26 +74,18 @@ pub fn entry_path<'a>(tree: &'a Tree, e: u32) -> PathRef<'a>
     PathRef::of_text(b"")
 }
 
-// Makes the section of a path whose label and whose digest change to these.
+// Makes the section of a path.
 fn make_section(
     alloc: Global,
-    path: &PathRef<'_>,
-    change: &Option<ContextRef<'_>>,
-    digest: &Option<Digest>,
+    changes: &PathChanges<'_, '_>,
     texts: &mut Texts,
 ) -> Result<(), OutOfMemory>
     ensures { OnOk result (texts.new.section ≡ optional_section
-        (section_by (path_of path.now) (option_map context_lent change.now) digest.now)) }
+        (section_by (path_of changes.now.path.now)
+        (option_map context_lent changes.now.label.now) changes.now.digest.now)) }
 {
     texts.section.clear();
-    add_section_of(
-        alloc,
-        path,
-        change,
-        digest,
-        &mut texts.spelled,
-        &mut texts.section,
-    )?;
+    add_section_of(alloc, changes, &mut texts.spelled, &mut texts.section)?;
     Ok(())
 }
 
@@ -152,7 +140,12 @@ fn compare_section(
     let digest = digest_at(alloc, input, found, &mut audit.lookups, &mut audit.ahead)?;
     let change = found.known.change();
     let path = entry_path(input.tree, found.at.entry);
-    make_section(alloc, &path, &change, &digest, &mut audit.texts)?;
+    let changes = PathChanges {
+        path: &path,
+        label: &change,
+        digest: &digest,
+    };
+    make_section(alloc, &changes, &mut audit.texts)?;
     compare_dump(
         &mut audit.dump,
         Piece::Entry(found.at.entry),

@@ -1,19 +1,21 @@
 ghost use Rattle.std.specs.Prelude.{◌≡◌, ◌<◌, IfOk, OnOk};
 ghost use Rattle.tree_model.specs.Groups.{group_of};
 ghost use Rattle.relabel_core.specs.KnownEntry.{index_known, walk_known};
-ghost use Rattle.relabel_core.specs.Swept.{skip_of};
+ghost use Rattle.relabel_core.specs.Swept.{SkipEndsAt, skip_of};
 ghost use Rattle.relabel_core.specs.Walk.{walk_count, deciding, is_skipped};
 ghost use Rattle.relabel_core.specs.Walked.{IsFit, walk_of};
 ghost use Rattle.label_audit.specs.Looking.{AreReady};
-ghost use Rattle.label_audit.specs.Skipping.{SkipEndsAt, IsSkipped};
+ghost use Rattle.label_audit.specs.Skipping.{IsSkipped};
 ghost use Rattle.label_audit.specs.Winners.{IsWinner};
 
 use crate::deciding::{LookedUp, decide};
-use crate::skipping::{Cursor, Skipped, skip_entry};
+use crate::skipping::{Skipped, skip_entry};
 use crate::winners::{NO_WINNER, Winner, Winners, winner_of};
 use dir_digest::{Digest, Listings};
 use label_base::OutOfMemory;
-use relabel_core::{Buffers, Known, Skip, WalkInput, buffers_for, does_skip, listings_by};
+use relabel_core::{
+    Buffers, Cursor, EntryFound, Known, Skip, Visit, WalkInput, buffers_for, does_skip, listings_by,
+};
 use std::alloc::Global;
 
 /// What the entries of a walk are looked up with.
@@ -88,14 +90,13 @@ pub fn known_of<'a>(
     ensures index { IfOk result (λ known. index_known known ≡ own.entry) }
 {
     let winner = winner_unless(alloc, input, own, does_skip(skip), lookups)?;
-    Ok(Known::new(
-        input,
-        own.entry,
+    let found = EntryFound {
         skip,
-        own.spec,
-        winner.name,
-        winner.decided,
-    ))
+        decided: own.spec,
+        winner: winner.name,
+        winning: winner.decided,
+    };
+    Ok(Known::new(input, own.entry, found))
 }
 
 /// The specification that decides an entry of which it is known whether it is skipped.
@@ -113,8 +114,11 @@ pub fn decide_at(
     ensures ready { OnOk result (AreReady (walk_of input.now) lookups.new) }
     ensures found { IfOk result (λ found. found ≡ deciding (walk_of input.now) e) }
 {
-    let scratch = &mut lookups.buffers.scratch;
-    decide(alloc, input, e, does_skip(skip), scratch)
+    let at = Visit {
+        entry: e,
+        skipped: does_skip(skip),
+    };
+    decide(alloc, input, at, &mut lookups.buffers.scratch)
 }
 
 /// Finds whether an entry is skipped, and the digest that it gets anew.

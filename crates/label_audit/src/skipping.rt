@@ -1,24 +1,16 @@
 ghost use Rattle.std.specs.Prelude.{◌≡◌, ◌<◌, ◌≤◌, IfOk};
 ghost use Rattle.dir_digest.specs.Listings.{basis_in};
 ghost use Rattle.spec_match.specs.Scratches.{IsScratchOf};
-ghost use Rattle.relabel_core.specs.Swept.{needed};
+ghost use Rattle.relabel_core.specs.Swept.{SkipEndsAt, needed};
 ghost use Rattle.relabel_core.specs.DigestBasis.{basis_by};
 ghost use Rattle.relabel_core.specs.Walk.{walk_count, skippable};
 ghost use Rattle.relabel_core.specs.Walked.{IsFit, walk_of};
-ghost use Rattle.label_audit.specs.Skipping.{SkipEndsAt, IsSkipped};
+ghost use Rattle.label_audit.specs.Skipping.{IsSkipped};
 
 use dir_digest::{Digest, Listings};
 use label_base::OutOfMemory;
-use relabel_core::{Buffers, Finding, Skip, WalkInput, find_directory, renewed_digest};
+use relabel_core::{Buffers, Cursor, Finding, Skip, WalkInput, find_directory, renewed_digest};
 use std::alloc::Global;
-
-/// An entry that an audit has come to. Of the entries from it on, those before `end` are below a
-/// directory before it that is skipped.
-#[derive(Clone, Copy)]
-pub struct Cursor {
-    pub entry: u32,
-    pub end: u32,
-}
 
 /// What is found of an entry as a directory.
 #[derive(Clone, Copy)]

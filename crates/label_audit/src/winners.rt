@@ -11,7 +11,7 @@ ghost use Rattle.label_audit.specs.Winners.{AreWinnersKept, IsWinner, winner_if}
 use crate::deciding::{LookedUp, decide};
 use label_base::OutOfMemory;
 use label_rules::does_give;
-use relabel_core::WalkInput;
+use relabel_core::{Visit, WalkInput};
 use spec_match::Scratch;
 use std::alloc::Global;
 use std::collections::BTreeMap;
@@ -63,7 +63,11 @@ fn decide_name(
     ensures own { IsScratchOf input.now.rules.now.rules scratch.new }
     ensures found { IfOk result (λ found. found ≡ winner_if (walk_of input.now) e) }
 {
-    let spec = decide(alloc, input, e, false, scratch)?;
+    let at = Visit {
+        entry: e,
+        skipped: false,
+    };
+    let spec = decide(alloc, input, at, scratch)?;
     Ok(winner_if(input, LookedUp { entry: e, spec }))
 }
 

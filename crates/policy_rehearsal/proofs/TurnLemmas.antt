@@ -80,13 +80,12 @@ skipped_same w labels i =
 -- the counts rise where a label changes at or below an entry
 pub rise_over : (w : Walk) (labels : ℕ → Label) (d end : ℕ) (counts : List ℕ) → d < end
     → end ≤ walk_count w
-    → AreWalkCounts (walk_over w labels) (walk_count w) counts
+    → AreWalkCounts (walk_over w labels) (walk_count (walk_over w labels)) counts
     → ((e : ℕ) → e < walk_count w → in_extent w.entries d e ≡ (nat_le d e && nat_lt e end))
     → nat_lt (count_at counts d) (count_at counts end) ≡ has_changed_name (walk_over w labels) d
 rise_over w labels d end counts l m counted run =
     let s = differs w.entries labels in
-    rise_is (walk_over w labels) d end counts (omega (arith, l)) (omega (arith, m, s.count))
-    (subst (λ n. AreWalkCounts (walk_over w labels) n counts) (sym s.count) counted)
+    rise_is (walk_over w labels) d end counts (omega (arith, l)) (omega (arith, m, s.count)) counted
     (λ e h. (λ i. at_or_below (s.paths e i) (s.paths d i)) ∙ run e (omega (arith, h, s.count)))
 
 pub digest_anew : (w : Walk) (labels : ℕ → Label) (d : ℕ) (digest : List ℕ)
@@ -170,12 +169,11 @@ before_over w tree labels e own l =
 
 pub rise_seen : (w : Walk) (tree : List Record) (labels : ℕ → Label) (d end : ℕ) (counts : List ℕ)
     → w.entries ≡ tree → d < end → end ≤ length tree
-    → AreWalkCounts (walk_over w labels) (length tree) counts
+    → AreWalkCounts (walk_over w labels) (walk_count (walk_over w labels)) counts
     → ((e : ℕ) → e < length tree → in_extent tree d e ≡ (nat_le d e && nat_lt e end))
     → nat_lt (count_at counts d) (count_at counts end) ≡ has_changed_name (walk_over w labels) d
 rise_seen w tree labels d end counts own l m counted run =
-    rise_over w labels d end counts l (subst (λ es. end ≤ length es) (sym own) m)
-    (subst (λ es. AreWalkCounts (walk_over w labels) (length es) counts) (sym own) counted)
+    rise_over w labels d end counts l (subst (λ es. end ≤ length es) (sym own) m) counted
     (subst (λ es. (e : ℕ) → e < length es → in_extent es d e ≡ (nat_le d e && nat_lt e end))
     (sym own) run)
 

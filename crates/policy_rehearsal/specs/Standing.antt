@@ -10,19 +10,19 @@ use Rattle.relabel_runs.specs.Runs.{TreeRun, TreeState, state_after, walk_at}
 use Rattle.policy_rehearsal.specs.Lent.{turn_lent}
 use Rattle.policy_rehearsal.specs.Rehearsal.{rehearsed_run, turn_in}
 use Rattle.policy_rehearsal.specs.Seen.{labels_listed}
-use Rattle.policy_rehearsal.specs.declared.rehearsal.Asked.{Asked}
+use Rattle.policy_rehearsal.specs.declared.rehearsal.RehearsalInput.{RehearsalInput}
 use Rattle.policy_rehearsal.specs.declared.rehearsal.Standing.{Standing}
 use Rattle.policy_rehearsal.specs.declared.rehearsal.Taken.{Taken}
 
 -- what was selected is what the choice means, entries are of the format and can be numbered with
 -- the operands, and labels are changed
-pub record IsAsked (asked : Asked) : Type 0 where
+pub record IsAsked (asked : RehearsalInput) : Type 0 where
   pub chosen : asked.chosen.now ≡ selected_by asked.choice.now asked.tree.now
   pub format : AreOfFormat asked.options.format asked.tree.now
   pub few : length asked.tree.now + length asked.choice.now.operands < 2 ^ 32
   pub wet : asked.options.dry ≡ false
 
-abbrev pub run_asked : Asked → Rules → TreeRun
+abbrev pub run_asked : RehearsalInput → Rules → TreeRun
 run_asked asked rules = rehearsed_run asked.choice.now asked.options rules
 
 -- each group has a label, and directories alone have digests

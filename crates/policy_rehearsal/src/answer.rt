@@ -5,7 +5,7 @@ ghost use Rattle.policy_rehearsal.specs.Answer.{absent_by, rehearsal_of, end_by,
 ghost use Rattle.policy_rehearsal.specs.Lent.{rehearsed_lent};
 ghost use Rattle.policy_rehearsal.specs.Words.{AreFew};
 
-use crate::rehearsal::rehearse;
+use crate::rehearsal::{RehearsalInput, rehearse};
 use crate::rehearsed::Rehearsed;
 use crate::texts::add_text;
 use crate::words::RehearseWords;
@@ -72,7 +72,13 @@ fn answer_chosen(
     requires chosen { chosen.now ≡ selected_by words.now.choice tree.now }
     ensures { IfOk result (λ ending. ending ≡ rehearsal_of words.now policies.now tree.now) }
 {
-    let rehearsed = rehearse(alloc, tree, &words.choice, chosen, policies, words.options)?;
+    let asked = RehearsalInput {
+        tree,
+        choice: &words.choice,
+        chosen,
+        options: words.options,
+    };
+    let rehearsed = rehearse(alloc, &asked, policies)?;
     ending_of(alloc, words, tree, absent_in(words, chosen), &rehearsed)
 }
 

@@ -1,10 +1,8 @@
-ghost use Rattle.std.specs.Prelude.{◌≡◌, ℕ, ◌<◌, ◌+◌, ◌^◌, false, IfOk, None, length, map};
-ghost use Rattle.find_records.specs.Record.{AreOfFormat};
+ghost use Rattle.std.specs.Prelude.{◌≡◌, ℕ, ◌<◌, false, IfOk, None, map};
 ghost use Rattle.label_base.specs.Bounded.{all_numbers};
 ghost use Rattle.label_rules.specs.LabelAfter.{label_seen};
 ghost use Rattle.tree_model.specs.Extents.{is_directory};
 ghost use Rattle.tree_model.specs.Groups.{groups_in};
-ghost use Rattle.tree_model.specs.Selection.{selected_by};
 ghost use Rattle.relabel_core.specs.Answer.{walk_in};
 ghost use Rattle.relabel_core.specs.Stored.{digests_of};
 ghost use Rattle.relabel_core.specs.Walk.{digest_after, new_label};
@@ -29,13 +27,14 @@ use std::marker::Brand;
 use std::sync::ledger::{Blank, Ledger};
 use tree_model::{Choice, Selected, Tree};
 
-// What versions are asked for, and over which tree.
+/// What each version walks over, and how.
 #[derive(Clone, Copy)]
-pub struct Asked<'w, 'a> {
-    tree: &'a Tree,
-    choice: &'w Choice,
-    chosen: &'w Selected,
-    options: Options,
+pub struct RehearsalInput<'w, 'a> {
+    pub tree: &'a Tree,
+    pub choice: &'w Choice,
+    /// What was selected in the tree of the choice.
+    pub chosen: &'w Selected,
+    pub options: Options,
 }
 
 /// The state of a tree between two versions.
@@ -98,7 +97,7 @@ fn taken_from<'a>(
 // Walks by the rules of a version over the tree as it stands.
 fn take_turn<'a>(
     alloc: Global,
-    asked: &Asked<'_, 'a>,
+    asked: &RehearsalInput<'_, 'a>,
     rules: &'a Rules,
     at: &Standing<'a>,
 ) -> Result<Taken<'a>, OutOfMemory>
@@ -140,7 +139,7 @@ fn first_standing<'a>(alloc: Global, tree: &'a Tree) -> Result<Standing<'a>, Out
 // Takes a turn for each version.
 fn take_turns<'a>(
     alloc: Global,
-    asked: &Asked<'_, 'a>,
+    asked: &RehearsalInput<'_, 'a>,
     policies: &'a Row<Rules>,
 ) -> Result<Rehearsed<'a>, OutOfMemory>
     requires { IsAsked asked.now }
@@ -168,26 +167,15 @@ fn take_turns<'a>(
 /// same versions leave with skipping off.
 pub fn rehearse<'a>(
     alloc: Global,
-    tree: &'a Tree,
-    choice: &Choice,
-    chosen: &Selected,
+    asked: &RehearsalInput<'_, 'a>,
     policies: &'a Row<Rules>,
-    options: Options,
 ) -> Result<Rehearsed<'a>, OutOfMemory>
-    requires chosen { chosen.now ≡ selected_by choice.now tree.now }
-    requires format { AreOfFormat options.format tree.now }
-    requires few { length tree.now + length choice.now.operands < 2 ^ 32 }
-    requires wet { options.dry ≡ false }
-    ensures told { IfOk result (λ told.
-        rehearsed_lent told ≡ rehearsed tree.now choice.now options policies.now) }
-    ensures keeps { IfOk result (λ told. RunsKeepLabels tree.now
-        (runs_of choice.now options policies.now) (rehearsed_lent told).labels) }
+    requires { IsAsked asked.now }
+    ensures told { IfOk result (λ told. rehearsed_lent told
+        ≡ rehearsed asked.now.tree.now asked.now.choice.now asked.now.options policies.now) }
+    ensures keeps { IfOk result (λ told. RunsKeepLabels asked.now.tree.now
+        (runs_of asked.now.choice.now asked.now.options policies.now)
+        (rehearsed_lent told).labels) }
 {
-    let asked = Asked {
-        tree,
-        choice,
-        chosen,
-        options,
-    };
-    take_turns(alloc, &asked, policies)
+    take_turns(alloc, asked, policies)
 }

@@ -6,15 +6,14 @@ ghost use Rattle.label_rules.specs.Verdicts.{verdict_of};
 ghost use Rattle.tree_model.specs.Groups.{group_of, groups_in};
 ghost use Rattle.relabel_core.specs.Answer.{walk_in};
 ghost use Rattle.relabel_core.specs.Changes.{change_at};
-ghost use Rattle.relabel_core.specs.Walk.{group_winner, is_found_at, is_changed_name, new_label};
-ghost use Rattle.relabel_core.specs.Walk.{verdict, wanted};
+ghost use Rattle.relabel_core.specs.Walk.{group_winner, new_label, verdict, wanted};
 ghost use Rattle.policy_rehearsal.specs.Seen.{IsSeen, labels_listed, verdict_wanted, walk_seen};
 
 use crate::groups::{decide_lent, label_by};
 use context_syntax::{Context, ContextRef};
 use label_base::Row;
 use label_rules::{LabelAfter, Rules, Verdict, given_at, given_in};
-use relabel_core::Walked;
+use relabel_core::{LabelChanges, Walked, is_found_at};
 use tree_model::Tree;
 
 /// A walk over a tree whose groups have other labels by now. What decides an entry, what is skipped
@@ -28,15 +27,6 @@ pub struct Seen<'w, 'a> {
     pub walked: &'w Walked<'w>,
     /// One for each group.
     pub labels: &'w Row<LabelAfter<'a>>,
-}
-
-fn is_at(found: Option<u32>, e: u32) -> bool
-    ensures { result ≡ is_found_at found e }
-{
-    match found {
-        None => false,
-        Some(k) => k == e,
-    }
 }
 
 /// The label that a group has by now.
@@ -107,20 +97,25 @@ pub fn change_at<'a>(seen: &Seen<'_, 'a>, e: u32) -> Option<ContextRef<'a>>
     requires entry { e < length seen.now.tree.now }
     ensures { option_map context_lent result ≡ change_at (walk_seen seen.now) e }
 {
-    if is_at(seen.walked.winner(e), e) {
+    if is_found_at(seen.walked.winner(e), e) {
         given_in(&verdict_at(seen, e))
     } else {
         None
     }
 }
 
-/// Whether an entry is a name of a group whose label changes.
-pub fn is_changed(seen: &Seen<'_, '_>, e: u32) -> bool
-    requires seen { IsSeen seen.now }
-    requires entry { e < length seen.now.tree.now }
-    ensures { result ≡ is_changed_name (walk_seen seen.now) e }
-{
-    given_in(&verdict_at(seen, e)).is_some()
+impl LabelChanges for Seen<'_, '_> {
+    ghost walk = { walk_seen };
+
+    ghost IsWhole = { IsSeen };
+
+    fn entries(&self) -> u32 {
+        self.tree.len()
+    }
+
+    fn does_change(&self, e: u32) -> bool {
+        given_in(&verdict_at(self, e)).is_some()
+    }
 }
 
 fn number_at(numbers: &[u32], i: u32) -> u32

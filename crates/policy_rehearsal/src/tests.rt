@@ -2,7 +2,7 @@ ghost use Rattle.std.specs.Prelude.{◌<◌, ◌^◌, IfOk, length};
 ghost use Rattle.find_records.specs.Record.{AreOfFormat};
 ghost use Rattle.find_records.specs.declared.format.Format.TheVariants.{One};
 
-use crate::{RehearseWords, read_rehearse, rehearse, text};
+use crate::{RehearsalInput, RehearseWords, read_rehearse, rehearse, text};
 use context_syntax::TypeNames;
 use file_paths::NormPath;
 use file_roles::Part;
@@ -172,7 +172,13 @@ fn is_told(
         return Err(OutOfMemory);
     }
     let chosen = tree.select(alloc, choice)?;
-    let told = rehearse(alloc, tree, choice, &chosen, policies, DIGESTING)?;
+    let asked = RehearsalInput {
+        tree,
+        choice,
+        chosen: &chosen,
+        options: DIGESTING,
+    };
+    let told = rehearse(alloc, &asked, policies)?;
     Ok(text(alloc, tree, names, &told)?.as_slice() == TEXT)
 }
 

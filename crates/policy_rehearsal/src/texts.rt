@@ -37,22 +37,28 @@ fn add_number(alloc: Global, number: usize, text: &mut Bytes) -> Result<(), OutO
     text.push(format!(in alloc; "{number}")?.as_bytes())
 }
 
+// A version, by its number and its name.
+#[derive(Clone, Copy)]
+struct Version<'n> {
+    number: usize,
+    name: &'n str,
+}
+
 #[tactic(auto, unfolding(crate::specs::Text::turn_head))]
 fn add_head(
     alloc: Global,
-    number: usize,
-    name: &str,
+    version: &Version<'_>,
     changed: usize,
     skipped: usize,
     text: &mut Bytes,
 ) -> Result<(), OutOfMemory>
     ensures { OnOk result (text.new
-        ≡ text.old ++ turn_head number name.now changed skipped) }
+        ≡ text.old ++ turn_head version.now.number version.now.name.now changed skipped) }
 {
     text.push(VERSION.as_bytes())?;
-    add_number(alloc, number, text)?;
+    add_number(alloc, version.number, text)?;
     text.push(BEFORE_NAME.as_bytes())?;
-    write_escaped(alloc, name.as_bytes(), text)?;
+    write_escaped(alloc, version.name.as_bytes(), text)?;
     text.push(COLON.as_bytes())?;
     add_number(alloc, changed, text)?;
     text.push(CHANGED.as_bytes())?;
@@ -128,22 +134,16 @@ fn add_changes(
 fn add_turn(
     alloc: Global,
     tree: &Tree,
-    number: usize,
-    name: &str,
+    version: &Version<'_>,
     turn: &Turn<'_>,
     text: &mut Bytes,
 ) -> Result<(), OutOfMemory>
-    ensures { OnOk result (text.new
-        ≡ text.old ++ turn_text tree.now number name.now (turn_lent turn.now)) }
+    ensures { OnOk result (text.new ≡ text.old
+        ++ turn_text tree.now version.now.number version.now.name.now
+        (turn_lent turn.now)) }
 {
-    add_head(
-        alloc,
-        number,
-        name,
-        turn.changes.len(),
-        turn.skipped as usize,
-        text,
-    )?;
+    let changed = turn.changes.len();
+    add_head(alloc, version, changed, turn.skipped as usize, text)?;
     add_changes(alloc, tree, turn.changes.as_slice(), text)
 }
 
@@ -170,7 +170,11 @@ pub fn add_text(
     let turns = &rehearsed.turns;
     'versions: for k in 0..turns.len() {
         let name = name_at(names.as_slice(), k);
-        add_turn(alloc, tree, k + 1, name, turns.get(k), text)?;
+        let version = Version {
+            number: k + 1,
+            name,
+        };
+        add_turn(alloc, tree, &version, turns.get(k), text)?;
     }
     Ok(())
 }

@@ -1,5 +1,5 @@
-ghost use Rattle.std.specs.Prelude.{◌≡◌, ◌++◌, ◌&&◌, ℕ, ◌<◌, ◌≤◌, ◌+◌, ◌^◌, [], false, IfOk, OnOk};
-ghost use Rattle.std.specs.Prelude.{None, Some, get_or, if◌then◌else◌, is_some, length, map};
+ghost use Rattle.std.specs.Prelude.{◌≡◌, ◌++◌, ◌&&◌, ℕ, ◌<◌, [], false, IfOk, OnOk};
+ghost use Rattle.std.specs.Prelude.{None, Some, if◌then◌else◌, is_some, length, map};
 ghost use Rattle.std.specs.Prelude.{option_map};
 ghost use Rattle.std.specs.List.{cons_option};
 ghost use Rattle.std.specs.Option.{option_copied};
@@ -19,11 +19,11 @@ ghost use Rattle.policy_rehearsal.specs.Rehearsal.{change_to, changes_in, skippe
 ghost use Rattle.policy_rehearsal.specs.Seen.{IsSeen, walk_seen};
 
 use crate::rehearsed::{Change, Turn};
-use crate::seen::{Seen, change_at, is_changed, label_after, label_now};
+use crate::seen::{Seen, change_at, label_after, label_now};
 use dir_digest::Digest;
 use label_base::{Bytes, OutOfMemory, Row};
 use label_rules::LabelAfter;
-use relabel_core::{Stored, Walked};
+use relabel_core::{Stored, Walked, count_at, count_changed};
 use std::alloc::Global;
 
 // The change of an entry's label, if it changes.
@@ -106,35 +106,10 @@ pub fn labels_after<'a>(
     Ok(labels)
 }
 
-// For each entry, and for the end, how many entries before it are names of a group whose label
-// changes.
-fn count_changed(alloc: Global, seen: &Seen<'_, '_>) -> Result<Vec<u32>, OutOfMemory>
-    requires { IsSeen seen.now }
-    ensures { IfOk result (λ counts.
-        AreWalkCounts (walk_seen seen.now) (length seen.now.tree.now) counts.items) }
-{
-    let mut counts = Vec::with_capacity(alloc, seen.tree.len() as usize)?;
-    let mut changed = 0;
-    counts.push(changed)?;
-    'entries: for e in 0..seen.tree.len() {
-        changed += u32::from(is_changed(seen, e));
-        counts.push(changed)?;
-    }
-    Ok(counts)
-}
-
-fn count_at(counts: &[u32], i: u32) -> u32
-    ensures { result ≡ get_or counts.now i 0 }
-{
-    match counts.get(i as usize) {
-        Some(count) => *count,
-        None => 0,
-    }
-}
-
 // Whether the label of an entry at or below another changes.
 fn does_rise(seen: &Seen<'_, '_>, counts: &[u32], d: u32) -> bool
-    requires counted { AreWalkCounts (walk_seen seen.now) (length seen.now.tree.now) counts.now }
+    requires counted { AreWalkCounts (walk_seen seen.now) (walk_count (walk_seen seen.now))
+        counts.now }
     requires seen { IsSeen seen.now }
     requires entry { d < length seen.now.tree.now }
     ensures { result ≡ has_changed_name (walk_seen seen.now) d }
@@ -178,7 +153,8 @@ fn digest_at(
     counts: &[u32],
     d: u32,
 ) -> Result<Option<Bytes>, OutOfMemory>
-    requires counted { AreWalkCounts (walk_seen seen.now) (length seen.now.tree.now) counts.now }
+    requires counted { AreWalkCounts (walk_seen seen.now) (walk_count (walk_seen seen.now))
+        counts.now }
     requires seen { IsSeen seen.now }
     requires entry { d < length seen.now.tree.now }
     requires stored { (walk_in seen.now.walked.now).stored ≡ digests_of stored.now }

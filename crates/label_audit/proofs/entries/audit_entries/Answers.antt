@@ -6,10 +6,10 @@ use Rattle.relabel_core.specs.Report.{AreRaised}
 use Rattle.relabel_core.specs.Walk.{walk_count}
 use Rattle.relabel_core.specs.Walked.{walk_of}
 use Rattle.tree_model.proofs.LabelledLemmas.{mapped_at}
+use Rattle.relabel_core.proofs.CoveredLemmas.{covers_none}
 use Rattle.label_audit.specs.Compared.{next_behind, behind_of}
 use Rattle.label_audit.specs.Pieces.{dump_pieces, entry_piece, entry_pieces, section_piece}
 use Rattle.label_audit.proofs.CompareLemmas.{all_compared, next_compared}
-use Rattle.label_audit.proofs.SkipLemmas.{covers_none}
 use Rattle.label_audit.proofs.entries.audit_entries.Goals as goal
 
 pub entries-init : goal.entries-init

@@ -1,11 +1,11 @@
 use Rattle.std.proofs.Common.{◌≡◌, ◌++◌, List, drop}
 use Rattle.relabel_core.specs.Report.{AreRaised}
+use Rattle.relabel_core.specs.Swept.{SkipEndsAt}
 use Rattle.relabel_core.specs.Walked.{walk_of}
 use Rattle.label_audit.specs.Ahead.{IsAhead}
 use Rattle.label_audit.specs.Compared.{next_behind, behind_of}
 use Rattle.label_audit.specs.Looking.{AreReady}
 use Rattle.label_audit.specs.Pieces.{PlacedPiece, dump_pieces, entry_pieces}
-use Rattle.label_audit.specs.Skipping.{SkipEndsAt}
 use Rattle.label_audit.proofs.entries.audit_entries.Given as goal
 
 -- the pieces left, behind those that were compared

@@ -7,6 +7,7 @@ use Rattle.label_audit.proofs.entries.make_section.Goals as goal
 
 pub returns : goal.returns
 returns c =
-    let change = option_map context_lent c.args.change.now in
-    let section = section_by (path_of c.args.path.now) change c.args.digest.now in
+    let changes = c.args.changes.now in
+    let section = section_by (path_of changes.path.now) (option_map context_lent changes.label.now)
+    changes.digest.now in
     c.in_ok-add_section_of.ensures ∙ ap (λ t. t ++ optional_section section) c.clear.ensures

@@ -1,6 +1,6 @@
 use Rattle.std.proofs.Common.{◌∙◌}
 use Rattle.relabel_core.specs.Walked.{walk_of}
-use Rattle.relabel_core.proofs.SweptLemmas.{skipped_is}
+use Rattle.relabel_core.proofs.CoveredLemmas.{skipped_is}
 use Rattle.label_audit.proofs.looking.decide_at.Goals as goal
 
 pub decide-requires-clause-skipped : goal.decide-requires-clause-skipped

@@ -1,6 +1,6 @@
 use Rattle.std.proofs.Common.{◌∙◌}
 use Rattle.relabel_core.specs.Walked.{walk_of}
-use Rattle.relabel_core.proofs.SweptLemmas.{skipped_is}
+use Rattle.relabel_core.proofs.CoveredLemmas.{skipped_is}
 use Rattle.label_audit.proofs.looking.known_of.Goals as goal
 
 pub winner_unless-requires-clause-skipped : goal.winner_unless-requires-clause-skipped

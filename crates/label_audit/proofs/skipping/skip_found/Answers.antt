@@ -1,6 +1,7 @@
 use Rattle.std.proofs.Common.{◌∙◌, sym}
 use Rattle.relabel_core.specs.Walked.{walk_of}
-use Rattle.label_audit.proofs.SkipLemmas.{left_out, passes_by, passes_over}
+use Rattle.relabel_core.proofs.CoveredLemmas.{left_out}
+use Rattle.label_audit.proofs.SkipLemmas.{passes_by, passes_over}
 use Rattle.label_audit.proofs.skipping.skip_found.Goals as goal
 
 pub returns-then-found : goal.returns-then-found
