@@ -7,7 +7,7 @@ use Rattle.std.proofs.Common.{Some, None, arith}
 use Rattle.std.specs.Prelude.{All, is_some, slice_get}
 use Rattle.std.specs.List.{position_or_len}
 use Rattle.std.specs.Cmp.{first_so, second_so}
-use Rattle.std.proofs.lemmas.Bool.{and_parts, cases_eq, eqb-true, false_from_ne_true}
+use Rattle.std.proofs.lemmas.Bool.{and_parts, cases_eq, cases_lt, eqb-true, false_from_ne_true}
 use Rattle.std.proofs.lemmas.List.{get_or-map, length-map}
 use Rattle.std.proofs.lemmas.List.Elements.{All-cons, All-head, All-nil, All-tail}
 use Rattle.std.proofs.lemmas.Option.{get_or_from_slice_get, slice_get_within}
@@ -39,10 +39,10 @@ use Rattle.relabel_core.specs.Walk.{Walk, can_win, walk_count, count_wanted, is_
 use Rattle.relabel_core.specs.Walk.{skippable, wanted, winner}
 use Rattle.relabel_workers.specs.Alone.{IsNoteOf, is_job_open, lies_open, noted_in}
 use Rattle.relabel_workers.specs.PutBack.{AreAllNoted, AreWinnersClaimed, IsOpenNote}
-use Rattle.relabel_workers.specs.Worked.{IsDone, IsOffered, is_to_be_given}
+use Rattle.relabel_workers.specs.Worked.{IsDone, IsOffered, is_to_be_given, positions_claimed}
 use Rattle.relabel_workers.specs.declared.note.Note.{Note}
-use Rattle.relabel_workers.proofs.ListLemmas.{called_enough, claimed_position, filtered_few}
-use Rattle.relabel_workers.proofs.ListLemmas.{least_met, position_claimed, positions}
+use Rattle.relabel_workers.proofs.ListLemmas.{called_exact, claimed_position, count_if}
+use Rattle.relabel_workers.proofs.ListLemmas.{filtered_few, least_met, position_claimed}
 use Rattle.relabel_workers.proofs.OpenLemmas.{open_skipped, open_wanted, shut_skipped}
 use Rattle.relabel_workers.proofs.OpenLemmas.{wanted_walked}
 
@@ -239,7 +239,7 @@ module _ (w : Walk) (up : ByPath w.entries) where
         to_give d dir alone = rw (dir, alone) refl
 
     has_entries : (e : ℕ) → e < entry_count shape → is_wanted w e ≡ true
-        → 0 < times (shaped.home_of shape e) taken + 0 → 0 < times e (positions calls)
+        → 0 < times (shaped.home_of shape e) taken + 0 → 0 < times e (positions_claimed calls)
     has_entries e l wants h =
         let c = entries_are in
         let m : e < walk_count w = omega (arith, l, c) in
@@ -251,7 +251,7 @@ module _ (w : Walk) (up : ByPath w.entries) where
               (handled.claimed (open_wanted w up e m (home_taken_open e took) ∙ wants))
         ]
 
-    only_wanted : (e : ℕ) → 0 < times e (positions calls) → (e < entry_count shape)
+    only_wanted : (e : ℕ) → 0 < times e (positions_claimed calls) → (e < entry_count shape)
         × (is_wanted w e ≡ true)
     only_wanted e h =
         let c = position_claimed e calls h in
@@ -260,7 +260,7 @@ module _ (w : Walk) (up : ByPath w.entries) where
         let l = r.known in
         (omega (arith, l, n), sym (open_wanted w up e r.known (home_taken_open e r.home)) ∙ r.gives)
 
-    pub ended : HasEnded shape (is_job_open w) (is_wanted w) (positions calls) state
+    pub ended : HasEnded shape (is_job_open w) (is_wanted w) (positions_claimed calls) state
     ended = record {
       drained = refl;
       only_open = λ job h. given_open job (omega (arith, h));
@@ -269,15 +269,17 @@ module _ (w : Walk) (up : ByPath w.entries) where
       entries = has_entries;
     }
 
-    pub words_least : WordsAreLeast shape (positions calls) state.words
+    pub words_least : WordsAreLeast shape (positions_claimed calls) state.words
     words_least = record { sized = wins.sized; least = least_word }
       where
         least_word : (group : ℕ) → group < groups_in w.entries
-            → IsLeast (λ e. (0 < times e (positions calls)) × (group_of_entry shape e ≡ group))
+            → IsLeast (λ e. (0 < times e (positions_claimed calls)) ×
+            (group_of_entry shape e ≡ group))
             (get_or winners.words.items group 0)
         least_word group l = record { low = low; met = met }
           where
-            low : (e : ℕ) → (0 < times e (positions calls)) × (group_of_entry shape e ≡ group)
+            low : (e : ℕ) → (0 < times e (positions_claimed calls)) ×
+                (group_of_entry shape e ≡ group)
                 → get_or winners.words.items group 0 ≤ e
             low e h =
                 let c = position_claimed e calls h.0 in
@@ -285,18 +287,18 @@ module _ (w : Walk) (up : ByPath w.entries) where
                 let same : c.group ≡ group = sym r.own ∙ sym (group_is e r.known) ∙ h.1 in
                 wins.low group e l (subst (λ g. IsClaimed g e calls) same c.claimed)
 
-            there : (e : ℕ) → IsClaimed group e calls → (0 < times e (positions calls))
+            there : (e : ℕ) → IsClaimed group e calls → (0 < times e (positions_claimed calls))
                 × (group_of_entry shape e ≡ group)
             there e c = let r = done.calls_are group e c in
                 (claimed_position group e calls c, group_is e r.known ∙ r.own)
 
             met : (get_or winners.words.items group 0 ≡ NONE_WORD) ⊎
-                ((0 < times (get_or winners.words.items group 0) (positions calls))
+                ((0 < times (get_or winners.words.items group 0) (positions_claimed calls))
                 × (group_of_entry shape (get_or winners.words.items group 0) ≡ group))
             met = let is : get_or winners.words.items group 0 ≡ least_claimed group calls =
                 all.least group l in
                 ⊎_elim (λ e. inl (is ∙ e))
-                (λ c. inr (subst (λ e. (0 < times e (positions calls))
+                (λ c. inr (subst (λ e. (0 < times e (positions_claimed calls))
                 × (group_of_entry shape e ≡ group)) (sym is)
                 (there (least_claimed group calls) c))) (least_met group calls)
 
@@ -387,20 +389,33 @@ module _ (w : Walk) (up : ByPath w.entries) where
       pub are_winners : AreWinnersClaimed w winners
       are_winners = record { sized = wins.sized; each = λ g l. winner_told g (end.words g l) }
 
-      pub enough_calls : (claims : ℕ) → claims ≡ min (length calls) NONE_WORD
-          → count_wanted w ≤ claims
-      enough_calls claims is =
-          let enough = called_enough (walk_count w) (is_wanted w) calls every in
-          let most = filtered_few (is_wanted w) (walk_count w) in
-          omega (arith, enough, most, is, few)
+      called_once : (e : ℕ) → e < walk_count w
+          → times e (positions_claimed calls) ≡ count_if (is_wanted w e)
+      called_once e l = by_case (is_wanted w e) refl
         where
-          every : (e : ℕ) → e < walk_count w → is_wanted w e ≡ true → 0 < times e (positions calls)
-          every e l h =
+          by_case : (b : Bool) → is_wanted w e ≡ b → times e (positions_claimed calls) ≡ count_if b
+          by_case true h =
               let lies = home_open e l (wanted_walked w e h) in
-              let took = (end.taken (entry_home w.entries e)).1 (home_within e l, lies) in
-              let n = entries_are in
-              has_entries e (omega (arith, l, n)) h
-              (subst (λ j. 0 < times j taken + 0) (sym (home_is e l)) took)
+              let took = taken_is (entry_home w.entries e)
+              ((end.taken (entry_home w.entries e)).1 (home_within e l, lies)) in
+              let once = sound.once (entry_home w.entries e) in
+              let each = done.claimed_each e l (open_wanted w up e l lies ∙ h) in
+              omega (arith, took, once, each)
+          by_case false h = elim (cases_lt 0 (times e (positions_claimed calls))) [
+            | inl lt ↦ absurd (true≢false (sym (only_wanted e lt).1 ∙ h))
+            | inr ge ↦ omega (arith, ge)
+          ]
+
+      pub all_calls : (claims : ℕ) → claims ≡ min (length calls) NONE_WORD
+          → claims ≡ count_wanted w
+      all_calls claims is =
+          let all = called_exact (walk_count w) (is_wanted w) calls called_once known in
+          let most = filtered_few (is_wanted w) (walk_count w) in
+          omega (arith, all, most, is, few)
+        where
+          known : (e : ℕ) → 0 < times e (positions_claimed calls) → e < walk_count w
+          known e h = let c = position_claimed e calls h in
+              (done.calls_are c.group e c.claimed).known
 
 -- ---- what workers closed
 
@@ -415,7 +430,7 @@ HaveOneEnd given =
 pub record IsClosed (w : Walk) (notes : List Note) (winners : Winners) : Type 0 where
   pub noted : AreAllNoted w notes
   pub won : AreWinnersClaimed w winners
-  pub enough : count_wanted w ≤ winners.claims
+  pub claimed : winners.claims ≡ count_wanted w
 
 pub closed : (w : Walk) (up : ByPath w.entries) → walk_count w < 2 ^ 32 → (given : Shape)
     → given ≡ shape_of w.entries → HaveOneEnd given
@@ -432,7 +447,7 @@ closed w up few given is one q k notes winners done sound groups same wins all c
     subst (λ n. Wins n k.calls winners) same wins in
     let a : AnswersAll (groups_in w.entries) k.calls winners =
     subst (λ n. AnswersAll n k.calls winners) same all in
-    let end = law (is_job_open w) (is_wanted w) (positions k.calls)
+    let end = law (is_job_open w) (is_wanted w) (positions_claimed k.calls)
     (record {
       queue = [];
       taken = q.taken ∷ [];
@@ -445,6 +460,6 @@ closed w up few given is one q k notes winners done sound groups same wins all c
     record {
       noted = all_noted w up q.taken q.given k.calls notes winners done s v a end few;
       won = are_winners w up q.taken q.given k.calls notes winners done s v a end few;
-      enough = enough_calls w up q.taken q.given k.calls notes winners done s v a end few
+      claimed = all_calls w up q.taken q.given k.calls notes winners done s v a end few
           winners.claims claims;
     }

@@ -1,21 +1,23 @@
 -- How often numbers stand in lists, and calls.
 use Rattle.std.proofs.Common.{◌≡◌, ◌≢◌, ◌∙◌, sym, refl, ap, subst, ℕ, zero, suc, ◌+◌, ◌<◌, ◌≤◌}
 use Rattle.std.proofs.Common.{◌==◌, ◌&&◌, ◌⊎◌, inl, inr, Bool, true, false, cond, true≢false}
-use Rattle.std.proofs.Common.{eq-eqb, List, [], ◌∷◌, ◌++◌, length, map, filter, min, arith}
+use Rattle.std.proofs.Common.{eq-eqb, List, [], ◌∷◌, ◌++◌, length, filter, min, arith}
 use Rattle.std.proofs.Common.{length-append}
 use mathlib.Core.Logic.{dite}
 use native.Mathlib.Decide.{ℕ_discrete}
+use mir.Val.{bool_byte}
 use Rattle.std.proofs.lemmas.Bool.{and_parts, cases_lt, eqb-true}
-use Rattle.std.proofs.lemmas.List.{length-map}
+use Rattle.std.proofs.lemmas.List.{length-map, map-append}
 use Rattle.std.proofs.lemmas.List.Elements.{filter-append}
 use Rattle.walk_steps.specs.Lists.{hit, times}
 use Rattle.walk_steps.specs.declared.machine.TheConstants.{NONE_WORD}
-use Rattle.walk_steps.proofs.ListLemmas.{hit_other, hit_same, hit_small, times_append}
+use Rattle.walk_steps.proofs.ListLemmas.{hit_other, hit_same, times_append}
 use Rattle.inode_claims.specs.declared.rule.Call.{Call}
 use Rattle.inode_claims.specs.Claiming.{IsClaimed, call_of, calls_where, is_call_at, least_claimed}
 use Rattle.label_base.specs.Bounded.{all_numbers}
 use Rattle.find_records.specs.Record.{Record}
 use Rattle.tree_model.specs.Jobs.{entries_of_job, entry_home}
+use Rattle.relabel_workers.specs.Worked.{AddsCall, positions_claimed}
 
 pub hit_is : (a b : ℕ) → 0 < hit a b → a ≡ b
 hit_is a b h =
@@ -114,9 +116,28 @@ job_held entries job e h = (within, by_case (is_held entries job e) refl)
           let m = at_most (is_held entries job e) refl in omega (arith, n, m))
     ]
 
+-- an entry stands in a job once where that is its home, and else not
+pub job_times : (entries : List Record) (job e : ℕ) → e < length entries
+    → times e (entries_of_job entries job) ≡ hit job (entry_home entries e)
+job_times entries job e l = by_case (is_held entries job e) refl
+  where
+    by_case : (b : Bool) → is_held entries job e ≡ b
+        → times e (entries_of_job entries job) ≡ hit job (entry_home entries e)
+    by_case true h =
+        let f = filter_in e (is_held entries job) (all_numbers (length entries)) h in
+        let n = numbers_in (length entries) e l in
+        let z = hit_same job (entry_home entries e)
+        (sym (eqb-true (entry_home entries e) job h)) in
+        omega (arith, f, n, z)
+    by_case false h =
+        let f = filter_out e (is_held entries job) (all_numbers (length entries)) h in
+        let z = hit_other job (entry_home entries e)
+        (λ same. true≢false (sym (eq-eqb (entry_home entries e) job (sym same)) ∙ h)) in
+        omega (arith, f, z)
+
 -- ---- calls
 
-abbrev count_if : Bool → ℕ
+abbrev pub count_if : Bool → ℕ
 count_if b = cond b 1 0
 
 pub count_append : (q : Call → Bool) (xs ys : List Call) → calls_where q (xs ++ ys) ≡ calls_where q
@@ -137,11 +158,8 @@ call_is g p h x answer k = by_case (is_call_at h x (call_of g p answer)) refl k
     by_case true e l = let q = and_parts (g == h) (p == x) e in (eqb-true g h q.0, eqb-true p x q.1)
     by_case false e l = absurd (omega (arith, l))
 
-abbrev pub positions : List Call → List ℕ
-positions calls = map (λ call. call.position) calls
-
 pub claimed_position : (g p : ℕ) (calls : List Call) → IsClaimed g p calls
-    → 0 < times p (positions calls)
+    → 0 < times p (positions_claimed calls)
 claimed_position g p [] h = absurd (omega (arith, h))
 claimed_position g p (call ∷ calls) h =
     elim (cases_lt 0 (calls_where (is_call_at g p) calls)) [
@@ -150,14 +168,36 @@ claimed_position g p (call ∷ calls) h =
           let z = hit_same call.position p c.1 in omega (arith, z))
     ]
 
+-- what a call more adds at the position of an entry that is claimed where it is that one
+pub called_times : (b : Bool) (g p : ℕ) (old new : List Call) → AddsCall b g p old new → (x : ℕ)
+    → (p ≡ x → b ≡ true) → times x (positions_claimed new) ≡ times x
+    (positions_claimed old) + hit p x
+called_times true g p old new a x h =
+    let s = ap (λ calls. times x (positions_claimed calls)) a.1 in
+    let m = ap (λ ps. times x ps)
+    (map-append (λ (call : Call). call.position) old (call_of g p a.0 ∷ [])) in
+    let t = times_append x (positions_claimed old) (p ∷ []) in
+    omega (arith, s, m, t)
+called_times false g p old new a x h =
+    let s = ap (λ calls. times x (positions_claimed calls)) a in
+    let z = hit_other p x (λ same. true≢false (sym (h same))) in
+    omega (arith, s, z)
+
+pub both_called : (x : ℕ) (calls more : List Call) → times x (positions_claimed (calls ++ more))
+    ≡ times x (positions_claimed calls) + times x (positions_claimed more)
+both_called x calls more =
+    ap (λ ps. times x ps) (map-append (λ (call : Call). call.position) calls more)
+    ∙ times_append x (positions_claimed calls) (positions_claimed more)
+
 pub record HasCall (p : ℕ) (calls : List Call) : Type 0 where
   pub group : ℕ
   pub claimed : IsClaimed group p calls
 
-pub position_claimed : (p : ℕ) (calls : List Call) → 0 < times p (positions calls) → HasCall p calls
+pub position_claimed : (p : ℕ) (calls : List Call) → 0 < times p (positions_claimed calls)
+    → HasCall p calls
 position_claimed p [] h = absurd (omega (arith, h))
 position_claimed p (call ∷ calls) h =
-    elim (cases_lt 0 (times p (positions calls))) [
+    elim (cases_lt 0 (times p (positions_claimed calls))) [
       | inl lt ↦ (let r = position_claimed p calls lt in
           record { group = r.group; claimed = (let c = r.claimed in omega (arith, c)) })
       | inr ge ↦
@@ -201,7 +241,7 @@ least_met g (call ∷ calls) = by_case (call.group == g) refl (older (least_met 
         ]
     by_case false s m = m
 
--- ---- at least as many calls as numbers that were called
+-- ---- as many calls as numbers that are to be called
 
 sum_below : ℕ → (ℕ → ℕ) → ℕ
 sum_below zero f = 0
@@ -218,13 +258,14 @@ sum_none zero x l = refl
 sum_none (suc n) x l = let r = sum_none n x (omega (arith, l)) in
     let z = hit_other x n (λ s. omega (arith, s, l)) in omega (arith, r, z)
 
-sum_one : (n x : ℕ) → sum_below n (λ k. hit x k) ≤ 1
+sum_one : (n x : ℕ) → x < n → sum_below n (λ k. hit x k) ≡ 1
 unfolding sum_below
-sum_one zero x = omega arith
-sum_one (suc n) x = elim (cases_lt x n) [
-  | inl lt ↦ (let r = sum_one n x in let z = hit_other x n (λ s. omega (arith, s, lt)) in
+sum_one zero x l = absurd (omega (arith, l))
+sum_one (suc n) x l = elim (cases_lt x n) [
+  | inl lt ↦ (let r = sum_one n x lt in let z = hit_other x n (λ s. omega (arith, s, lt)) in
       omega (arith, r, z))
-  | inr ge ↦ (let r = sum_none n x ge in let z = hit_small x n in omega (arith, r, z))
+  | inr ge ↦ (let r = sum_none n x ge in let z = hit_same x n (omega (arith, l, ge)) in
+      omega (arith, r, z))
 ]
 
 sum_zero : (n : ℕ) → sum_below n (λ k. 0) ≡ 0
@@ -232,12 +273,13 @@ unfolding sum_below
 sum_zero zero = refl
 sum_zero (suc n) = let r = sum_zero n in omega (arith, r)
 
-few_times : (n : ℕ) (xs : List ℕ) → sum_below n (λ k. times k xs) ≤ length xs
-few_times n [] = let z = sum_zero n in omega (arith, z)
-few_times n (x ∷ xs) =
-    let r = few_times n xs in
+all_times : (n : ℕ) (xs : List ℕ) → ((k : ℕ) → 0 < times k xs → k < n)
+    → sum_below n (λ k. times k xs) ≡ length xs
+all_times n [] known = sum_zero n
+all_times n (x ∷ xs) known =
+    let r = all_times n xs (λ k h. known k (omega (arith, h))) in
     let a = sum_add n (λ k. hit x k) (λ k. times k xs) in
-    let o = sum_one n x in
+    let o = sum_one n x (known x (let z = hit_same x x refl in omega (arith, z))) in
     omega (arith, r, a, o)
 
 filter_more : (p : ℕ → Bool) (n : ℕ) (b : Bool) → p n ≡ b
@@ -252,26 +294,24 @@ filter_more p n b e =
     one true = refl
     one false = refl
 
-passing_few : (n : ℕ) (p : ℕ → Bool) (f : ℕ → ℕ) → ((k : ℕ) → k < n → p k ≡ true → 0 < f k)
-    → length (filter p (all_numbers n)) ≤ sum_below n f
+passing_sum : (n : ℕ) (p : ℕ → Bool) (f : ℕ → ℕ) → ((k : ℕ) → k < n → f k ≡ count_if (p k))
+    → length (filter p (all_numbers n)) ≡ sum_below n f
 unfolding sum_below
-passing_few zero p f h = omega arith
-passing_few (suc n) p f h = by_case (p n) refl (passing_few n p f (λ k l. h k (omega (arith, l))))
-  where
-    by_case : (b : Bool) → p n ≡ b → length (filter p (all_numbers n)) ≤ sum_below n f
-        → length (filter p (all_numbers n ++ n ∷ [])) ≤ sum_below n f + f n
-    by_case true e r =
-        let m = filter_more p n true e in
-        let s = h n (omega arith) e in
-        omega (arith, r, m, s)
-    by_case false e r = let m = filter_more p n false e in omega (arith, r, m)
+passing_sum zero p f h = refl
+passing_sum (suc n) p f h =
+    let r = passing_sum n p f (λ k l. h k (omega (arith, l))) in
+    let m = filter_more p n (p n) refl in
+    let s = h n (omega arith) in
+    omega (arith, r, m, s)
 
-pub called_enough : (n : ℕ) (p : ℕ → Bool) (calls : List Call)
-    → ((k : ℕ) → k < n → p k ≡ true → 0 < times k (positions calls))
-    → length (filter p (all_numbers n)) ≤ length calls
-called_enough n p calls h =
-    let a = passing_few n p (λ k. times k (positions calls)) h in
-    let b = few_times n (positions calls) in
+-- as many calls as numbers that pass, where each that does is called once, and no other is
+pub called_exact : (n : ℕ) (p : ℕ → Bool) (calls : List Call)
+    → ((k : ℕ) → k < n → times k (positions_claimed calls) ≡ count_if (p k))
+    → ((k : ℕ) → 0 < times k (positions_claimed calls) → k < n)
+    → length calls ≡ length (filter p (all_numbers n))
+called_exact n p calls each known =
+    let a = passing_sum n p (λ k. times k (positions_claimed calls)) each in
+    let b = all_times n (positions_claimed calls) known in
     let c = length-map calls (λ call. call.position) in
     omega (arith, a, b, c)
 
@@ -284,3 +324,21 @@ filtered_few p (suc n) = by_case (p n) refl (filtered_few p n)
         → length (filter p (all_numbers n ++ n ∷ [])) ≤ suc n
     by_case true e r = let m = filter_more p n true e in omega (arith, r, m)
     by_case false e r = let m = filter_more p n false e in omega (arith, r, m)
+
+pub passing_few : (p : ℕ → Bool) (xs : List ℕ) → length (filter p xs) ≤ length xs
+passing_few p [] = omega arith
+passing_few p (x ∷ xs) = by_case (p x) (passing_few p xs)
+  where
+    by_case : (b : Bool) → length (filter p xs) ≤ length xs
+        → length (cond b (x ∷ filter p xs) (filter p xs)) ≤ suc (length xs)
+    by_case true r = omega (arith, r)
+    by_case false r = omega (arith, r)
+
+pub held_few : (entries : List Record) (job : ℕ)
+    → length (entries_of_job entries job) ≤ length entries
+held_few entries job = filtered_few (is_held entries job) (length entries)
+
+pub passes_on : (b : Bool) (x : ℕ) (xs : List ℕ) → length (cond b (x ∷ xs) xs)
+    ≡ bool_byte b + length xs
+passes_on true x xs = omega arith
+passes_on false x xs = omega arith

@@ -3,7 +3,8 @@ use Rattle.std.proofs.Common.{◌≡◌, ◌≢◌, ◌∙◌, sym, refl, ap, ap
 use Rattle.std.proofs.Common.{◌==◌, ◌&&◌, Bool, true, false, not, inl, inr, arith, eq-eqb, ne_eqb}
 use Rattle.std.proofs.Common.{true≢false, Option, Some, None, if◌then◌else◌}
 use Rattle.std.specs.Prelude.{is_some}
-use Rattle.std.proofs.lemmas.Bool.{and_parts, and_right, cases_eq, cases_lt, false_from_ne_true}
+use Rattle.std.proofs.lemmas.Bool.{and_from, and_parts, and_right, cases_eq, cases_lt}
+use Rattle.std.proofs.lemmas.Bool.{false_from_ne_true}
 use Rattle.label_base.specs.Bounded.{any_below}
 use Rattle.label_base.proofs.BoundedLemmas.{IsGreatest, any_at, any_has, greatest_told, none_from}
 use Rattle.tree_model.specs.Extents.{in_extent, is_above, is_directory, parent_of}
@@ -66,15 +67,11 @@ cover_of w e h =
     let p = and_parts (skippable w k.0) (in_extent w.entries k.0 e) k.2 in
     record { directory = k.0; covers = record { known = k.1; over = p.0; inside = p.1 } }
 
-both_true : (a b : Bool) → a ≡ true → b ≡ true → (a && b) ≡ true
-both_true true b h k = k
-both_true false b h k = absurd cc
-
 pub covered_is : (w : Walk) (d e : ℕ) → Covers w d e → is_skipped w e ≡ true
 unfolding is_skipped
 covered_is w d e c =
     any_at (walk_count w) (λ k. skippable w k && in_extent w.entries k e) d c.known
-    (both_true (skippable w d) (in_extent w.entries d e) c.over c.inside)
+    (and_from (skippable w d) (in_extent w.entries d e) c.over c.inside)
 
 module _ (w : Walk) (up : ByPath w.entries) where
   pub skippable_skipped : (e : ℕ) → e < walk_count w → skippable w e ≡ true → is_skipped w e ≡ true
@@ -87,12 +84,12 @@ module _ (w : Walk) (up : ByPath w.entries) where
   above_case d e None g c l m =
       let dir = skippable_directory w d c.over in
       let here : is_above w.entries e d ≡ true =
-      both_true (is_directory w.entries d) _ dir (strict_is w.entries up d e l m ∙ c.inside) in
+      and_from (is_directory w.entries d) _ dir (strict_is w.entries up d e l m ∙ c.inside) in
       absurd (true≢false (sym here ∙ g d c.known))
   above_case d e (Some p) g c l m =
       let dir = skippable_directory w d c.over in
       let here : is_above w.entries e d ≡ true =
-      both_true (is_directory w.entries d) _ dir (strict_is w.entries up d e l m ∙ c.inside) in
+      and_from (is_directory w.entries d) _ dir (strict_is w.entries up d e l m ∙ c.inside) in
       let low : d ≤ p =
       elim (cases_lt p d) [
         | inl lt ↦ absurd (true≢false (sym here ∙ g.2 d lt c.known))
@@ -214,8 +211,8 @@ module _ (w : Walk) (up : ByPath w.entries) where
       (λ k. skippable w k && in_extent w.entries k e && not (k == e)) ≡ true =
       any_at (walk_count w) (λ k. skippable w k && in_extent w.entries k e && not (k == e)) d
       c.known
-      (both_true (skippable w d && in_extent w.entries d e) (not (d == e))
-      (both_true (skippable w d) (in_extent w.entries d e) c.over c.inside)
+      (and_from (skippable w d && in_extent w.entries d e) (not (d == e))
+      (and_from (skippable w d) (in_extent w.entries d e) c.over c.inside)
       (ap not (ne_eqb d e ne))) in
       let f : is_skipped_first w e ≡ false =
       and_right (skippable w e)

@@ -12,7 +12,7 @@ use Rattle.std.proofs.lemmas.List.Folds.{length-flat_map-take}
 use Rattle.tree_model.specs.Extents.{extent_of}
 use Rattle.tree_model.specs.Groups.{groups_in}
 use Rattle.tree_model.specs.Tree.{ByPath}
-use Rattle.relabel_core.specs.Numbers.{IsNumberPut, found_in}
+use Rattle.relabel_core.specs.Numbers.{IsNumberPut, found_in, no_numbers}
 use Rattle.relabel_core.specs.Swept.{renewal}
 use Rattle.relabel_core.specs.Stored.{digests_in}
 use Rattle.relabel_core.specs.Walk.{Walk, walk_count, skippable, winner}
@@ -20,7 +20,7 @@ use Rattle.relabel_core.specs.declared.noting.Noted.{Noted}
 use Rattle.relabel_core.specs.Walked.{HasWalkRoom}
 use Rattle.relabel_core.specs.declared.swept.Swept.{Swept}
 use Rattle.relabel_core.specs.declared.swept.Skip.TheVariants.{Not}
-use Rattle.relabel_core.proofs.NotedLemmas.{winner_within}
+use Rattle.relabel_core.proofs.NotedLemmas.{none_in, winner_within}
 use Rattle.relabel_workers.specs.PutBack.{AreDigestsPut, ArePutBack, AreSkippedTo, AreSkipsPut}
 use Rattle.relabel_workers.specs.PutBack.{IsOpenNote, KeepsFirst}
 use Rattle.relabel_workers.specs.declared.note.Note.{Note}
@@ -96,13 +96,15 @@ none_put w noted swept room none skips made = record {
 
 pub all_put : (w : Walk) (notes : List Note) (noted next : Noted) (swept after : Swept) (n : ℕ)
     → HasWalkRoom w noted.decided.items noted.winners.items
-    → ((e : ℕ) → e < walk_count w → found_in noted.decided.items e ≡ None)
+    → noted.decided.items ≡ no_numbers (walk_count w)
     → swept.skips.items ≡ replicate n Not → n ≡ walk_count w
     → ((e : ℕ) → digests_in swept.made e ≡ None)
     → ((done : List Note) → ArePutBack w done noted swept
     → ArePutBack w (done ++ notes) next after) → ArePutBack w notes next after
 all_put w notes noted next swept after n room none skips same made put =
-    put [] (none_put w noted swept room none (skips ∙ ap (λ k. replicate k Not) same) made)
+    put [] (none_put w noted swept room
+    (λ e l. ap (λ ns. found_in ns e) none ∙ none_in (walk_count w) e l) (skips
+    ∙ ap (λ k. replicate k Not) same) made)
 
 -- ---- rows
 

@@ -1,7 +1,9 @@
 -- What passes show, and what share hold, after a step.
 use Rattle.std.proofs.Common.{◌≡◌, ◌∙◌, sym, refl, ap, subst, ℕ, ◌+◌, ◌<◌, ◌≤◌, true, false, List}
-use Rattle.std.proofs.Common.{[], ◌∷◌, ◌++◌, length, map, Some, arith, length-append}
-use Rattle.std.specs.Prelude.{IfOk, not}
+use Rattle.std.proofs.Common.{[], ◌∷◌, ◌++◌, ◌-◌, ◌^◌, length, map, min, Bool, Some, arith}
+use Rattle.std.proofs.Common.{length-append}
+use mir.Val.{bool_byte}
+use Rattle.std.specs.Prelude.{IfOk, filter, not}
 use Rattle.std.specs.Prelude.{Result, Ok, Err}
 use Rattle.std.specs.Cmp.{first_so}
 use Rattle.std.proofs.lemmas.List.{length-map}
@@ -29,9 +31,11 @@ use Rattle.relabel_workers.specs.Alone.{IsNoteOf, decided_alone, gives_alone}
 use Rattle.relabel_workers.specs.Held.{AreFreshPasses, Common, HasWorked, IsReady}
 use Rattle.relabel_workers.specs.Held.{StandFor, claims_stand, queue_stands}
 use Rattle.relabel_workers.specs.Worked.{AddsCall, IsDone, given_with, is_to_be_given}
+use Rattle.relabel_workers.specs.Worked.{jobs_given}
 use Rattle.relabel_workers.specs.declared.share.Share.{Share}
 use Rattle.relabel_workers.specs.declared.note.Note.{Note}
 use Rattle.relabel_workers.proofs.EndLemmas.{job_within, parent_home}
+use Rattle.relabel_workers.proofs.ListLemmas.{held_few, passes_on, passing_few}
 use Rattle.relabel_workers.proofs.WorkedLemmas.{both_done, entry_done, job_taken, none_done}
 use Rattle.relabel_workers.proofs.WorkedLemmas.{not_given}
 
@@ -167,6 +171,27 @@ called_none w e k give = subst (λ b. AddsCall b (group_of w.entries e) e k.call
     refl
 
 -- ---- one job
+
+-- how many jobs were given before an entry and behind it
+pub given_on : (w : Walk) (left : List ℕ) (e : ℕ) (rest : List ℕ) (given next job byte : ℕ)
+    (one : Bool) → left ≡ e ∷ rest → one ≡ is_to_be_given w e → byte ≡ bool_byte one
+    → given + length (filter (is_to_be_given w) left) ≡ jobs_given w job
+    → next ≡ min (given + byte) (2 ^ 32 - 1) → walk_count w < 2 ^ 32
+    → next + length (filter (is_to_be_given w) rest) ≡ jobs_given w job
+given_on w left e rest given next job byte one is one_is byte_is so_far next_is few =
+    let start = ap (λ l. given + length (filter (is_to_be_given w) l)) is in
+    let more = passes_on (is_to_be_given w e) e (filter (is_to_be_given w) rest) in
+    let same = byte_is ∙ ap bool_byte one_is in
+    let passing = passing_few (is_to_be_given w) (entries_of_job w.entries job) in
+    let held = held_few w.entries job in
+    omega (arith, start, more, same, so_far, next_is, few, passing, held)
+
+pub none_left : (w : Walk) (left : List ℕ) (given job : ℕ) → left ≡ []
+    → given + length (filter (is_to_be_given w) left) ≡ jobs_given w job
+    → given ≡ jobs_given w job
+none_left w left given job is so_far =
+    let start = ap (λ l. given + length (filter (is_to_be_given w) l)) is in
+    omega (arith, start, so_far)
 
 pub taken_done : (w : Walk) (job : ℕ) (q r : QueueView) (k : ClaimView) (m : List Note)
     → r ≡ with_taken q job → times job q.taken ≡ 0 → IsDone w [] q.taken q.given k.calls m

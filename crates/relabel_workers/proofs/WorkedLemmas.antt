@@ -19,8 +19,9 @@ use Rattle.relabel_workers.specs.Alone.{IsNoteOf, gives_alone, noted_in}
 use Rattle.relabel_workers.specs.Worked.{AddsCall, IsDone, IsHandled, IsOffered, IsRightCall}
 use Rattle.relabel_workers.specs.Worked.{given_with, is_to_be_given}
 use Rattle.relabel_workers.specs.declared.note.Note.{Note}
-use Rattle.relabel_workers.proofs.ListLemmas.{at_call, call_is, count_append, hit_is, job_held}
-use Rattle.relabel_workers.proofs.ListLemmas.{job_holds, job_once}
+use Rattle.relabel_workers.proofs.ListLemmas.{at_call, both_called, call_is, called_times}
+use Rattle.relabel_workers.proofs.ListLemmas.{count_append, hit_is, job_held, job_holds, job_once}
+use Rattle.relabel_workers.proofs.ListLemmas.{job_times}
 
 -- ---- the parts of a list of two
 
@@ -108,6 +109,11 @@ job_taken w job taken given calls notes d none = record {
   };
   calls_are = λ g p h. still_right w taken (taken ++ job ∷ []) g p
       (λ j k. in_first j taken (job ∷ []) k) (d.calls_are g p h);
+  claimed_each = λ e l g.
+      let before = d.claimed_each e l g in
+      let here = job_times w.entries job e l in
+      let more = times_append (entry_home w.entries e) taken (job ∷ []) in
+      omega (arith, before, here, more);
   each = λ e l h. elim (in_two (entry_home w.entries e) taken (job ∷ []) h) [
     | inl old ↦ elim (d.each e l old)
         [ inl some ↦ absurd (omega (arith, some)) | inr done ↦ inr done ]
@@ -243,6 +249,11 @@ entry_done w e rest taken given gives calls all notes note d is a same right = r
               home = (d.held e first).1;
             })
       ];
+  claimed_each = λ x l g.
+      let before = d.claimed_each x l g in
+      let more = called_times (gives_alone w e) (group_of w.entries e) e calls all a x
+      (λ this. ap (gives_alone w) this ∙ g) in
+      omega (arith, before, more);
   each = λ x l t. elim (d.each x l t) [
     | inl some ↦ elim (cases_eq e x) [
       | inl this ↦ inr (subst (λ y. IsHandled w gives all (noted_in (notes ++ note ∷ [])) y) this
@@ -287,6 +298,7 @@ none_done w = record {
   held = λ e h. absurd (omega (arith, h));
   given_are = λ j h. absurd (omega (arith, h));
   calls_are = λ g p h. absurd (omega (arith, h));
+  claimed_each = λ e l g. omega arith;
   each = λ e l h. absurd (omega (arith, h));
   notes_are = All-nil (IsNoteOf w);
   noted_are = λ e h. absurd (omega (arith, h));
@@ -309,6 +321,12 @@ both_done w taken taken' given given' calls calls' notes notes' a b = record {
     | inr new ↦ still_right w taken' (taken ++ taken') g p (λ i k. in_second i taken taken' k)
         (b.calls_are g p new)
   ];
+  claimed_each = λ e l g.
+      let old = a.claimed_each e l g in
+      let new = b.claimed_each e l g in
+      let called = both_called e calls calls' in
+      let took = times_append (entry_home w.entries e) taken taken' in
+      omega (arith, old, new, called, took);
   each = λ e l h. elim (in_two (entry_home w.entries e) taken taken' h) [
     | inl old ↦ elim (a.each e l old) [
       | inl some ↦ absurd (omega (arith, some))

@@ -1,6 +1,6 @@
 -- What workers hold, and what belongs together.
 use Rattle.std.specs.Borrow.{Bor}
-use Rattle.std.specs.Prelude.{◌≡◌, ℕ, ◌+◌, List, [], length, All}
+use Rattle.std.specs.Prelude.{◌≡◌, ℕ, ◌+◌, List, [], ◌∷◌, ◌++◌, length, All, Option, Some, None}
 use Rattle.inode_claims.specs.declared.claims.ClaimPass.{ClaimPass}
 use Rattle.inode_claims.specs.declared.claims.Claims.{Claims}
 use Rattle.inode_claims.specs.Claiming.{fresh_claims}
@@ -20,7 +20,7 @@ use Rattle.relabel_core.specs.Walked.{IsFit, walk_of}
 use Rattle.relabel_core.specs.declared.input.WalkInput.{WalkInput}
 use Rattle.relabel_core.specs.declared.options.Options.{Options}
 use Rattle.relabel_core.specs.declared.stored.Stored.{Stored}
-use Rattle.relabel_workers.specs.Worked.{IsDone}
+use Rattle.relabel_workers.specs.Worked.{IsDone, jobs_given}
 use Rattle.spec_match.specs.Scratches.{IsScratchOf}
 use Rattle.relabel_workers.specs.Alone.{AreListingsFor}
 use Rattle.relabel_workers.specs.declared.share.Share.{Share}
@@ -95,6 +95,15 @@ pub record HasWorked (c : Common) (old : Share) (more : ℕ) (new : Share) : Typ
   pub own : IsShareOf c new
   pub done : AreDone (walk_of c.input) [] new
   pub stands : StandFor old more new
+
+-- what a step took: nothing, or a job whose entries give so many
+abbrev pub TakesOne : Walk → (old new : Share) → Option ℕ → Type 0
+TakesOne w old new None =
+    (queue_view new.queue ≡ queue_view old.queue) × (new.claims ≡ old.claims)
+    × (new.notes ≡ old.notes)
+TakesOne w old new (Some given) =
+    (job : ℕ) × ((queue_view new.queue).taken ≡ (queue_view old.queue).taken ++ job ∷ [])
+    × (given ≡ jobs_given w job)
 
 -- two rows of as many passes that nothing was done with
 pub record AreFreshPasses (c : Common) (queue_passes : List QueuePass)

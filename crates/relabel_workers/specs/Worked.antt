@@ -1,12 +1,13 @@
 -- What workers have done, over the jobs that they took.
-use Rattle.std.specs.Prelude.{◌≡◌, ℕ, ◌<◌, ◌≤◌, ◌⊎◌, ◌++◌, ◌∷◌, [], Bool, true, false, ◌&&◌, not}
-use Rattle.std.specs.Prelude.{List, All}
+use Rattle.std.specs.Prelude.{◌≡◌, ℕ, ◌+◌, ◌<◌, ◌≤◌, ◌⊎◌, ◌++◌, ◌∷◌, [], Bool, true, false, ◌&&◌}
+use Rattle.std.specs.Prelude.{not}
+use Rattle.std.specs.Prelude.{List, All, filter, length, map}
 use Rattle.walk_steps.specs.Lists.{times}
 use Rattle.inode_claims.specs.declared.rule.Call.{Call}
 use Rattle.inode_claims.specs.Claiming.{IsClaimed, call_of}
 use Rattle.tree_model.specs.Extents.{is_directory}
 use Rattle.tree_model.specs.Groups.{group_of}
-use Rattle.tree_model.specs.Jobs.{entry_home, job_of}
+use Rattle.tree_model.specs.Jobs.{entries_of_job, entry_home, job_of}
 use Rattle.relabel_core.specs.Walk.{Walk, walk_count, skippable}
 use Rattle.relabel_workers.specs.Alone.{IsNoteOf, gives_alone, noted_in}
 use Rattle.relabel_workers.specs.declared.note.Note.{Note}
@@ -14,6 +15,14 @@ use Rattle.relabel_workers.specs.declared.note.Note.{Note}
 -- the entry is a directory with a job of its own to be given
 abbrev pub is_to_be_given : Walk → ℕ → Bool
 is_to_be_given w e = is_directory w.entries e && not (skippable w e)
+
+-- how many jobs the entries of a job give
+abbrev pub jobs_given : Walk → ℕ → ℕ
+jobs_given w job = length (filter (is_to_be_given w) (entries_of_job w.entries job))
+
+-- the positions that were claimed, in the order of the calls
+abbrev pub positions_claimed : List Call → List ℕ
+positions_claimed calls = map (λ call. call.position) calls
 
 -- what was to be done for the entry is done: its job is given, it is claimed, and it is noted
 pub record IsHandled (w : Walk) (given : List ℕ) (calls : List Call) (noted : List ℕ) (e : ℕ)
@@ -40,7 +49,7 @@ pub record IsRightCall (w : Walk) (taken : List ℕ) (group position : ℕ) : Ty
   pub home : 0 < times (entry_home w.entries position) taken
 
 -- Of the entries of the taken jobs all but those that are left are handled, and nothing else is
--- given, claimed or noted.
+-- given, claimed or noted. Each that gives a context is claimed as often as its home was taken.
 pub record IsDone (w : Walk) (left taken given : List ℕ) (calls : List Call) (notes : List Note)
     : Type 0 where
   pub once : (e : ℕ) → times e left ≤ 1
@@ -49,6 +58,8 @@ pub record IsDone (w : Walk) (left taken given : List ℕ) (calls : List Call) (
   pub given_are : (job : ℕ) → 0 < times job given → IsOffered w left taken job
   pub calls_are : (group position : ℕ) → IsClaimed group position calls
       → IsRightCall w taken group position
+  pub claimed_each : (e : ℕ) → e < walk_count w → gives_alone w e ≡ true
+      → times e (positions_claimed calls) + times e left ≡ times (entry_home w.entries e) taken
   pub each : (e : ℕ) → e < walk_count w → 0 < times (entry_home w.entries e) taken
       → (0 < times e left) ⊎ IsHandled w given calls (noted_in notes) e
   pub notes_are : All (IsNoteOf w) notes

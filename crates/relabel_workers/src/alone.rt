@@ -1,4 +1,4 @@
-ghost use Rattle.std.specs.Prelude.{◌≡◌, OnOk};
+ghost use Rattle.std.specs.Prelude.{◌≡◌, ◌≤◌, ◌⊎◌, IfOk, OnOk};
 ghost use Rattle.dir_queue.specs.Answers.{one_worker, passes_of_queue, queue_view, queue_shape};
 ghost use Rattle.walk_steps.specs.Sound.{Sound};
 ghost use Rattle.relabel_workers.specs.Held.{HasWorked, IsReady, IsSite, IsWorkerFor, common};
@@ -23,12 +23,17 @@ pub fn start_alone<R: Wait, G: Gate>(
     requires worker { IsWorkerFor site.now.input.now worker.old }
     requires ready { IsReady (common site.now) share.old }
     ensures worker { IsWorkerFor site.now.input.now worker.new }
+    ensures number { worker.new.number ≡ worker.old.number }
+    ensures waiting { IfOk result (λ waiting. (waiting ≡ 0) ⊎ (workers ≤ waiting)) }
     ensures worked { OnOk result (HasWorked (common site.now) share.old 0 share.new) }
 {
     // Job 0.
     let mut waiting = 1u32;
     'steps: for _ in site.rt.forever() {
-        if waiting == 0 || waiting >= workers {
+        if waiting == 0 {
+            return Ok(waiting);
+        }
+        if waiting >= workers {
             return Ok(waiting);
         }
         let found = step(site, worker, share)?;
@@ -55,6 +60,8 @@ pub fn drain<R: Wait, G: Gate>(
     requires worker { IsWorkerFor site.now.input.now worker.old }
     requires ready { IsReady (common site.now) share.old }
     requires whole { queue_stands share.old ≡ passes_of_queue site.now.queue.now }
+    ensures worker { IsWorkerFor site.now.input.now worker.new }
+    ensures number { worker.new.number ≡ worker.old.number }
     ensures worked { OnOk result (HasWorked (common site.now) share.old 0 share.new) }
     ensures sound { OnOk result
         (Sound (queue_shape site.now.queue.now) (one_worker (queue_view share.new.queue))) }

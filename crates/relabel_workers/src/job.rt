@@ -1,4 +1,4 @@
-ghost use Rattle.std.specs.Prelude.{◌≡◌, ◌<◌, ◌≤◌, ◌∷◌, [], List, ℕ, length, OnOk, true};
+ghost use Rattle.std.specs.Prelude.{◌≡◌, ◌<◌, ◌≤◌, ◌∷◌, [], List, ℕ, length, IfOk, OnOk, true};
 ghost use Rattle.walk_steps.specs.Lists.{times};
 ghost use Rattle.inode_claims.specs.Answers.{IsPassOf, claim_view, groups_of};
 ghost use Rattle.dir_queue.specs.Answers.{IsQueuePassOf, queue_view, queue_shape};
@@ -9,7 +9,7 @@ ghost use Rattle.relabel_core.specs.Walked.{walk_of};
 ghost use Rattle.relabel_workers.specs.Alone.{decided_alone, gives_alone};
 ghost use Rattle.relabel_workers.specs.Held.{AreDone, HasWorked, IsShareOf, IsSite, IsWorkerFor};
 ghost use Rattle.relabel_workers.specs.Held.{StandFor, common};
-ghost use Rattle.relabel_workers.specs.Worked.{AddsCall, given_with, is_to_be_given};
+ghost use Rattle.relabel_workers.specs.Worked.{AddsCall, given_with, is_to_be_given, jobs_given};
 
 use crate::gate::Gate;
 use crate::note::note_of;
@@ -31,7 +31,7 @@ fn is_to_be_given(input: &WalkInput<'_>, e: u32, skipped: bool) -> bool
     input.tree.is_directory(e) && !skipped
 }
 
-// Gives the job of an entry, if it is to be given.
+// Gives the job of an entry, if it is to be given. It answers whether it is.
 fn give_job<R: Wait, G>(
     site: &Site<'_, '_, R, G>,
     pass: &mut QueuePass,
@@ -52,6 +52,7 @@ fn give_job<R: Wait, G>(
     ensures given { (queue_view pass.new).given
         ≡ given_with (is_to_be_given (walk_of site.now.input.now) e)
         (queue_view pass.old).given (job_of site.now.input.now.tree.now e) }
+    ensures gives { result ≡ is_to_be_given (walk_of site.now.input.now) e }
 {
     let input = site.input;
     if !is_to_be_given(input, e, skipped) {
@@ -105,6 +106,11 @@ fn do_entry<R: Wait, G: Gate>(
     requires worker { IsWorkerFor site.now.input.now worker.old }
     requires share { IsShareOf (common site.now) share.old }
     ensures worker { IsWorkerFor site.now.input.now worker.new }
+    ensures number { worker.new.number ≡ worker.old.number }
+    ensures gives { IfOk result (λ gives.
+        gives ≡ is_to_be_given (walk_of site.now.input.now) e) }
+    ensures taken { OnOk result
+        ((queue_view share.new.queue).taken ≡ (queue_view share.old.queue).taken) }
     ensures share { OnOk result (IsShareOf (common site.now) share.new) }
     ensures done { (rest : List ℕ) → AreDone (walk_of site.now.input.now) (e ∷ rest) share.old
         → OnOk result (AreDone (walk_of site.now.input.now) rest share.new) }
@@ -138,6 +144,11 @@ pub fn do_entries<R: Wait, G: Gate>(
     requires left { AreDone (walk_of site.now.input.now)
         (entries_of_job site.now.input.now.tree.now job) share.old }
     ensures worker { IsWorkerFor site.now.input.now worker.new }
+    ensures number { worker.new.number ≡ worker.old.number }
+    ensures gives { IfOk result (λ given.
+        given ≡ jobs_given (walk_of site.now.input.now) job) }
+    ensures taken { OnOk result
+        ((queue_view share.new.queue).taken ≡ (queue_view share.old.queue).taken) }
     ensures worked { OnOk result (HasWorked (common site.now) share.old 0 share.new) }
 {
     let mut given = 0u32;

@@ -8,7 +8,7 @@ ghost use Rattle.relabel_core.specs.Answer.{walk_in};
 ghost use Rattle.relabel_core.specs.Numbers.{IsNumberPut, found_in};
 ghost use Rattle.relabel_core.specs.Swept.{AreSwept, renewal};
 ghost use Rattle.relabel_core.specs.Walk.{walk_count, skippable, winner};
-ghost use Rattle.relabel_core.specs.Walked.{AreWalkAnswers, HasWalkRoom, IsFit, walk_of};
+ghost use Rattle.relabel_core.specs.Walked.{AreWalkAnswers, IsFit, walk_of};
 ghost use Rattle.relabel_workers.specs.Alone.{IsNoteOf};
 ghost use Rattle.relabel_workers.specs.PutBack.{AreAllNoted, ArePutBack, AreSkippedTo};
 ghost use Rattle.relabel_workers.specs.PutBack.{AreWinnersClaimed, IsOpenNote, KeepsFirst};
@@ -175,30 +175,6 @@ fn put_winners(input: &WalkInput<'_>, winners: &Winners, noted: &mut Noted)
     }
 }
 
-// Nothing decides any entry.
-fn decide_none(count: u32, noted: &mut Noted)
-    requires { length noted.old.decided.items ≡ count }
-    ensures none { (e : ℕ) → e < count → found_in noted.new.decided.items e ≡ None }
-    ensures room { length noted.new.decided.items ≡ count }
-    ensures winners { noted.new.winners.items ≡ noted.old.winners.items }
-{
-    'entries: for e in 0..count {
-        noted.put_decided(e, None);
-    }
-}
-
-// Nothing is noted yet of any entry, and there is room for each entry and each group.
-fn none_noted(alloc: Global, input: &WalkInput<'_>) -> Result<Noted, OutOfMemory>
-    ensures none { IfOk result (λ noted. (e : ℕ) → e < walk_count (walk_of input.now)
-        → found_in noted.decided.items e ≡ None) }
-    ensures room { IfOk result (λ noted.
-        HasWalkRoom (walk_of input.now) noted.decided.items noted.winners.items) }
-{
-    let mut noted = Noted::none(alloc, input)?;
-    decide_none(input.tree.len(), &mut noted);
-    Ok(noted)
-}
-
 /// What a walk answers of which workers noted this, and claimed these winners.
 pub fn walk_of_notes<'a>(
     alloc: Global,
@@ -211,7 +187,7 @@ pub fn walk_of_notes<'a>(
     requires notes { AreAllNoted (walk_of input.now) notes.now }
     ensures { IfOk result (λ walked. walk_in walked ≡ walk_of input.now) }
 {
-    let mut noted = none_noted(alloc, input)?;
+    let mut noted = Noted::none(alloc, input)?;
     let mut swept = Swept::with_room(alloc, input.tree.len())?;
     put_notes(input, notes, &mut noted, &mut swept)?;
     put_winners(input, winners, &mut noted);

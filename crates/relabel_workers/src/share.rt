@@ -1,4 +1,8 @@
-ghost use Rattle.std.specs.Prelude.{◌≡◌, ◌+◌, length, IfOk, IfSome, MatchOption};
+ghost use Rattle.std.specs.Prelude.{◌≡◌, ◌+◌, ◌++◌, ◌∷◌, [], length, IfOk, IfSome, MatchOption};
+ghost use Rattle.inode_claims.specs.Answers.{claim_view};
+ghost use Rattle.inode_claims.specs.Claiming.{claims_joined};
+ghost use Rattle.dir_queue.specs.Answers.{queue_view};
+ghost use Rattle.dir_queue.specs.Passes.{queues_joined};
 ghost use Rattle.relabel_workers.specs.Held.{AreFreshPasses, IsReady, claims_stand, common};
 ghost use Rattle.relabel_workers.specs.Held.{queue_stands};
 
@@ -27,6 +31,11 @@ pub fn next_share<R, G>(site: &Site<'_, '_, R, G>, passes: &mut Passes) -> Optio
         (queue_stands share ≡ 1) × (claims_stand share ≡ 1)) }
     ensures left { MatchOption result (length passes.old.queue ≡ 0)
         (λ _. length passes.old.queue ≡ length passes.new.queue + 1) }
+    ensures queue { MatchOption result (passes.new.queue ≡ passes.old.queue)
+        (λ share. passes.old.queue ≡ passes.new.queue ++ share.queue ∷ []) }
+    ensures claims { MatchOption result (passes.new.claims ≡ passes.old.claims)
+        (λ share. passes.old.claims ≡ passes.new.claims ++ share.claims ∷ []) }
+    ensures notes { IfSome result (λ share. share.notes ≡ []) }
 {
     let queue_pass = passes.queue.pop()?;
     let Some(claim_pass) = passes.claims.pop() else {
@@ -51,6 +60,11 @@ pub fn join_shares<R: Wait, G>(
     ensures stands { IfOk result (λ share.
         (queue_stands share ≡ queue_stands into + queue_stands from)
         × (claims_stand share ≡ claims_stand into + claims_stand from)) }
+    ensures queue { IfOk result (λ share. queue_view share.queue
+        ≡ queues_joined (queue_view into.queue) (queue_view from.queue)) }
+    ensures claims { IfOk result (λ share. claim_view share.claims
+        ≡ claims_joined (claim_view into.claims) (claim_view from.claims)) }
+    ensures notes { IfOk result (λ share. share.notes ≡ into.notes ++ from.notes) }
 {
     let Share {
         queue: mut queue_pass,

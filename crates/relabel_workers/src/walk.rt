@@ -45,7 +45,7 @@ fn close(input: &WalkInput<'_>, shape: &Shape, claims: Claims, share: Share) -> 
     requires sound { Sound shape.now (one_worker (queue_view share.queue)) }
     ensures notes { AreAllNoted (walk_of input.now) result.notes }
     ensures winners { AreWinnersClaimed (walk_of input.now) result.winners }
-    ensures claims { count_wanted (walk_of input.now) ≤ result.winners.claims }
+    ensures claims { result.winners.claims ≡ count_wanted (walk_of input.now) }
 {
     ends_are_one(shape);
     input.tree.rises();
@@ -73,7 +73,7 @@ fn close_all<R: Threads + Wait + Sync, G: Gate + Sync>(
     ensures notes { IfOk result (λ closed. AreAllNoted (walk_of input.now) closed.notes) }
     ensures winners { IfOk result (λ closed. AreWinnersClaimed (walk_of input.now) closed.winners) }
     ensures claims { IfOk result (λ closed.
-        count_wanted (walk_of input.now) ≤ closed.winners.claims) }
+        closed.winners.claims ≡ count_wanted (walk_of input.now)) }
 {
     let (queue, queue_passes) = DirQueue::new(rt, alloc, shape, workers)?;
     let (claims, claim_passes) = Claims::new(alloc, input.tree.groups(), workers)?;
@@ -111,7 +111,7 @@ pub fn walk_threads<'a, R: Threads + Wait + Sync, G: Gate + Sync>(
     requires workers { (0 < workers) × (workers ≤ 64) }
     ensures walk { IfOk result (λ found. walk_in found.0 ≡ walk_of input.now) }
     ensures winners { IfOk result (λ found. AreWinnersClaimed (walk_of input.now) found.1) }
-    ensures claims { IfOk result (λ found. count_wanted (walk_of input.now) ≤ found.1.claims) }
+    ensures claims { IfOk result (λ found. found.1.claims ≡ count_wanted (walk_of input.now)) }
 {
     let shape = input.tree.shape(alloc)?;
     let closed = close_all(rt, alloc, input, &shape, workers, gate)?;

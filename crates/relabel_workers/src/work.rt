@@ -2,8 +2,9 @@ ghost use Rattle.std.specs.Prelude.{◌≡◌, IfNone, IfOk, OnOk};
 ghost use Rattle.dir_queue.specs.Answers.{one_worker, passes_of_queue, queue_view, queue_shape};
 ghost use Rattle.walk_steps.specs.Sound.{Sound};
 ghost use Rattle.relabel_workers.specs.Alone.{AreListingsFor};
-ghost use Rattle.relabel_workers.specs.Held.{HasWorked, IsReady, IsSite, IsWorkerFor, common};
-ghost use Rattle.relabel_workers.specs.Held.{queue_stands};
+ghost use Rattle.relabel_core.specs.Walked.{walk_of};
+ghost use Rattle.relabel_workers.specs.Held.{HasWorked, IsReady, IsSite, IsWorkerFor, TakesOne};
+ghost use Rattle.relabel_workers.specs.Held.{common, queue_stands};
 
 use crate::gate::Gate;
 use crate::job::do_entries;
@@ -39,7 +40,8 @@ pub fn worker_for<'a>(
     input: &WalkInput<'a>,
     number: u32,
 ) -> Result<Worker<'a>, OutOfMemory>
-    ensures { IfOk result (λ worker. IsWorkerFor input.now worker) }
+    ensures worker { IfOk result (λ worker. IsWorkerFor input.now worker) }
+    ensures number { IfOk result (λ worker. worker.number ≡ number) }
 {
     let listings = listings_for(alloc, input)?;
     let buffers = buffers_for(alloc, input.rules)?;
@@ -61,7 +63,10 @@ pub fn step<R: Wait, G: Gate>(
     requires worker { IsWorkerFor site.now.input.now worker.old }
     requires ready { IsReady (common site.now) share.old }
     ensures worker { IsWorkerFor site.now.input.now worker.new }
+    ensures number { worker.new.number ≡ worker.old.number }
     ensures worked { OnOk result (HasWorked (common site.now) share.old 0 share.new) }
+    ensures taken { IfOk result (λ found.
+        TakesOne (walk_of site.now.input.now) share.old share.new found) }
     ensures sound { queue_stands share.old ≡ passes_of_queue site.now.queue.now
         → IfOk result (λ found. IfNone found
         (Sound (queue_shape site.now.queue.now) (one_worker (queue_view share.new.queue)))) }

@@ -1,8 +1,8 @@
-use Rattle.std.proofs.Common.{refl}
+use Rattle.std.proofs.Common.{◌∙◌, refl, arith}
 use Rattle.inode_claims.specs.Answers.{claim_view}
 use Rattle.dir_queue.specs.Answers.{queue_view}
 use Rattle.relabel_core.specs.Walked.{walk_of}
-use Rattle.relabel_workers.proofs.ShareLemmas.{first_left, next_done, stands_on}
+use Rattle.relabel_workers.proofs.ShareLemmas.{first_left, given_on, next_done, stands_on}
 use Rattle.relabel_workers.proofs.job.do_entries.Goals as goal
 
 pub do_entry-requires-clause-entry : goal.do_entry-requires-clause-entry
@@ -32,6 +32,13 @@ entries-preserved g c =
     let before = c.entries.invariant in
     record {
       worker = c.in_ok-one.ensures.worker;
+      number = c.in_ok-one.ensures.number ∙ before.number;
+      gives = given_on (walk_of c.args.site.now.input.now) c.entries.entries c.in-Some.e
+          c.next.new.self c.entries.given c.saturating_add-given.result c.args.job c.from.result
+          c.in_ok-one.one c.in-Some.ensures.steps c.in_ok-one.ensures.gives c.from.ensures
+          before.gives c.saturating_add-given.ensures
+          (let few = c.requires.site.fit.few in omega (arith, few));
+      taken = c.in_ok-one.ensures.taken ∙ before.taken;
       share = c.in_ok-one.ensures.share;
       done = c.in_ok-one.ensures.done c.next.new.self
           (next_done (walk_of c.args.site.now.input.now) c.entries.entries c.in-Some.e

@@ -11,7 +11,8 @@ pub put_winners-requires-clause-room : goal.put_winners-requires-clause-room
 put_winners-requires-clause-room c =
     (all_put (walk_of c.args.input.now) c.args.notes.now c.in_ok-noted.noted c.put_notes.new.noted
     c.in_ok-swept.swept c.put_notes.new.swept c.len.result
-    c.in_ok-noted.ensures.room c.in_ok-noted.ensures.none c.in_ok-swept.ensures.skips c.len.ensures
+    c.in_ok-noted.ensures.room c.in_ok-noted.ensures.decided c.in_ok-swept.ensures.skips
+    c.len.ensures
     c.in_ok-swept.ensures.made c.in_ok-put_notes.ensures.put).winners_room
 
 pub of_noted-requires-clause-swept : goal.of_noted-requires-clause-swept
@@ -20,7 +21,8 @@ of_noted-requires-clause-swept c =
     c.put_notes.new.noted c.put_notes.new.swept c.requires.notes
     (all_put (walk_of c.args.input.now) c.args.notes.now c.in_ok-noted.noted c.put_notes.new.noted
     c.in_ok-swept.swept c.put_notes.new.swept c.len.result
-    c.in_ok-noted.ensures.room c.in_ok-noted.ensures.none c.in_ok-swept.ensures.skips c.len.ensures
+    c.in_ok-noted.ensures.room c.in_ok-noted.ensures.decided c.in_ok-swept.ensures.skips
+    c.len.ensures
     c.in_ok-swept.ensures.made c.in_ok-put_notes.ensures.put)
 
 pub of_noted-requires-clause-found : goal.of_noted-requires-clause-found
@@ -32,6 +34,7 @@ of_noted-requires-clause-found c =
     c.requires.notes
     (all_put (walk_of c.args.input.now) c.args.notes.now c.in_ok-noted.noted c.put_notes.new.noted
     c.in_ok-swept.swept c.put_notes.new.swept c.len.result
-    c.in_ok-noted.ensures.room c.in_ok-noted.ensures.none c.in_ok-swept.ensures.skips c.len.ensures
+    c.in_ok-noted.ensures.room c.in_ok-noted.ensures.decided c.in_ok-swept.ensures.skips
+    c.len.ensures
     c.in_ok-swept.ensures.made c.in_ok-put_notes.ensures.put)
     c.put_winners.ensures.winners)

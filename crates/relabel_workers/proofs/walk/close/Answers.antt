@@ -30,4 +30,4 @@ returns-clause-claims c =
     (queue_view c.args.share.queue) (claim_view c.args.share.claims) c.args.share.notes
     c.close-winners.result c.requires.done c.requires.sound
     _ c.requires.groups c.close-winners.ensures.wins (c.close-winners.ensures.all c.requires.all)
-    c.close-winners.ensures.claims).enough
+    c.close-winners.ensures.claims).claimed
