@@ -94,8 +94,8 @@ has_full words l h =
         ∙ at 0 (suc j) (omega arith) u (omega arith)
 
 -- the words have every bit but the first exactly where all is shared
-pub full_tells : (words : List ℕ) → get_or words 3 0 < 2 ^ 64
+pub full_shows : (words : List ℕ) → get_or words 3 0 < 2 ^ 64
     → Decides (shared words == 18446744073709551615)
     ((b : ℕ) → 0 < b → b < 256 → bit words b ≡ true)
-full_tells words l = Decides-like (shared words == 18446744073709551615) (full_has words)
+full_shows words l = Decides-like (shared words == 18446744073709551615) (full_has words)
     (has_full words l) (Decides-eqb (shared words) 18446744073709551615)

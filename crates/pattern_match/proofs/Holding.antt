@@ -61,18 +61,18 @@ cut_from p q front (c ∷ cs) b h k =
     subst (λ w. p w ≡ true) (sym n) h) k)
 
 -- a test that tells a language
-abbrev pub Tells : (List ℕ → Bool) → (List ℕ → Type 0) → Type 0
-Tells p P = (text : List ℕ) → (p text ≡ true → P text) × (P text → p text ≡ true)
+abbrev pub Shows : (List ℕ → Bool) → (List ℕ → Type 0) → Type 0
+Shows p P = (text : List ℕ) → (p text ≡ true → P text) × (P text → p text ≡ true)
 
-joined_tells : (p : List ℕ → Bool) (P : List ℕ → Type 0) → Tells p P → (k : ℕ)
-    → Tells (λ text. is_joined p k text) (Joined P k)
-joined_tells p P h zero [] = (λ _. refl, λ _. refl)
-joined_tells p P h zero (b ∷ bs) = (λ e. cc, λ e. cc)
-joined_tells p P h (suc k) text = (
+joined_shows : (p : List ℕ → Bool) (P : List ℕ → Type 0) → Shows p P → (k : ℕ)
+    → Shows (λ text. is_joined p k text) (Joined P k)
+joined_shows p P h zero [] = (λ _. refl, λ _. refl)
+joined_shows p P h zero (b ∷ bs) = (λ e. cc, λ e. cc)
+joined_shows p P h (suc k) text = (
   λ e. let c = cut_onto p (is_joined p k) [] text e in
-      (c.0, c.1, c.2, (h c.0).0 c.3, (joined_tells p P h k c.1).0 c.4),
+      (c.0, c.1, c.2, (h c.0).0 c.3, (joined_shows p P h k c.1).0 c.4),
   λ j. subst (λ w. some_cut p (is_joined p k) [] w ≡ true) (sym j.2)
-      (cut_from p (is_joined p k) [] j.0 j.1 ((h j.0).1 j.3) ((joined_tells p P h k j.1).1 j.4)),
+      (cut_from p (is_joined p k) [] j.0 j.1 ((h j.0).1 j.3) ((joined_shows p P h k j.1).1 j.4)),
 )
 
 count_onto : (p : ℕ → Bool) (least more : ℕ) → some_count p least more ≡ true → (k : ℕ)
@@ -128,26 +128,26 @@ few_pieces P least (suc k) text h j =
     at (inl g) ih = (suc k, h, omega arith, j)
     at (inr g) ih = ih (omega arith) (drop_piece P k text (omega arith) j)
 
-set_tells : (bytes : List ℕ) → Tells (holds (Set bytes)) (In (Set bytes))
+set_shows : (bytes : List ℕ) → Shows (holds (Set bytes)) (In (Set bytes))
 unfolding holds
-set_tells bytes [] = (λ h. cc, λ i. let e : [] ≡ i.0 ∷ [] = i.1 in cc)
-set_tells bytes (b ∷ []) = (
+set_shows bytes [] = (λ h. cc, λ i. let e : [] ≡ i.0 ∷ [] = i.1 in cc)
+set_shows bytes (b ∷ []) = (
   λ h. (b, refl, h),
   λ i. let p : b ≡ i.0 = cc in
       subst (λ n. list_any (λ c. c == n) bytes ≡ true) (sym p) i.2,
 )
-set_tells bytes (b ∷ c ∷ bs) = (λ h. cc, λ i. let e : b ∷ c ∷ bs ≡ i.0 ∷ [] = i.1 in cc)
+set_shows bytes (b ∷ c ∷ bs) = (λ h. cc, λ i. let e : b ∷ c ∷ bs ≡ i.0 ∷ [] = i.1 in cc)
 
-module _ (p : List ℕ → Bool) (P : List ℕ → Type 0) (h : Tells p P) where
+module _ (p : List ℕ → Bool) (P : List ℕ → Type 0) (h : Shows p P) where
   repeat_onto : (least : ℕ) (most : Option ℕ) (text : List ℕ) → some_count (λ k. is_joined p k text)
       least (counts_from least most text) ≡ true → (k : ℕ) × (least ≤ k) × AtMost k most
       × Joined P k text
   repeat_onto least None text e =
       let c = count_onto (λ k. is_joined p k text) least (length text + 1) e in
-      (c.0, c.1, tt, (joined_tells p P h c.0 text).0 c.3)
+      (c.0, c.1, tt, (joined_shows p P h c.0 text).0 c.3)
   repeat_onto least (Some most) text e =
       let c = count_onto (λ k. is_joined p k text) least ((most + 1) - least) e in
-      (c.0, c.1, omega arith, (joined_tells p P h c.0 text).0 c.3)
+      (c.0, c.1, omega arith, (joined_shows p P h c.0 text).0 c.3)
 
   repeat_from : (least : ℕ) (most : Option ℕ) (text : List ℕ) → (k : ℕ) × (least ≤ k)
       × AtMost k most × Joined P k text → some_count (λ k. is_joined p k text) least
@@ -155,10 +155,10 @@ module _ (p : List ℕ → Bool) (P : List ℕ → Type 0) (h : Tells p P) where
   repeat_from least None text (k, l, a, j) =
       let f = few_pieces P least k text l j in
       count_in (λ k. is_joined p k text) least (length text + 1) f.0 f.1 f.2
-      ((joined_tells p P h f.0 text).1 f.3)
+      ((joined_shows p P h f.0 text).1 f.3)
   repeat_from least (Some most) text (k, l, a, j) =
       count_in (λ k. is_joined p k text) least ((most + 1) - least) k l (omega arith)
-      ((joined_tells p P h k text).1 j)
+      ((joined_shows p P h k text).1 j)
 
 either_onto : (u v : Bool) (P Q : Type 0) → (u ≡ true → P) → (v ≡ true → Q) → (u || v) ≡ true
     → P ⊎ Q
@@ -171,26 +171,26 @@ either_from u v P Q f g (inl p) = or_left _ _ (f p)
 either_from u v P Q f g (inr q) = or_right u _ (g q)
 
 -- the test tells the language
-pub holds_tells : (t : Tree) → Tells (holds t) (In t)
+pub holds_shows : (t : Tree) → Shows (holds t) (In t)
 unfolding holds
-holds_tells (Set bytes) text = set_tells bytes text
-holds_tells Nothing [] = (λ _. refl, λ _. refl)
-holds_tells Nothing (b ∷ bs) = (λ h. cc, λ h. cc)
-holds_tells (Both x y) text = (
+holds_shows (Set bytes) text = set_shows bytes text
+holds_shows Nothing [] = (λ _. refl, λ _. refl)
+holds_shows Nothing (b ∷ bs) = (λ h. cc, λ h. cc)
+holds_shows (Both x y) text = (
   λ h. let c = cut_onto (holds x) (holds y) [] text h in
-      (c.0, c.1, c.2, (holds_tells x c.0).0 c.3, (holds_tells y c.1).0 c.4),
+      (c.0, c.1, c.2, (holds_shows x c.0).0 c.3, (holds_shows y c.1).0 c.4),
   λ i. subst (λ w. some_cut (holds x) (holds y) [] w ≡ true) (sym i.2)
-      (cut_from (holds x) (holds y) [] i.0 i.1 ((holds_tells x i.0).1 i.3)
-      ((holds_tells y i.1).1 i.4)),
+      (cut_from (holds x) (holds y) [] i.0 i.1 ((holds_shows x i.0).1 i.3)
+      ((holds_shows y i.1).1 i.4)),
 )
-holds_tells (Either x y) text = (
-  either_onto (holds x text) (holds y text) (In x text) (In y text) (holds_tells x text).0
-      (holds_tells y text).0,
-  either_from (holds x text) (holds y text) (In x text) (In y text) (holds_tells x text).1
-      (holds_tells y text).1,
+holds_shows (Either x y) text = (
+  either_onto (holds x text) (holds y text) (In x text) (In y text) (holds_shows x text).0
+      (holds_shows y text).0,
+  either_from (holds x text) (holds y text) (In x text) (In y text) (holds_shows x text).1
+      (holds_shows y text).1,
 )
-holds_tells (Repeat least most x) text = (
-  repeat_onto (holds x) (In x) (holds_tells x) least most text,
+holds_shows (Repeat least most x) text = (
+  repeat_onto (holds x) (In x) (holds_shows x) least most text,
   repeat_from (holds x) (In x)
-      (holds_tells x) least most text,
+      (holds_shows x) least most text,
 )

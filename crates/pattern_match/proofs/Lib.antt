@@ -1,5 +1,4 @@
 pub mod Language
-pub mod Cutting
 pub mod Running
 pub mod Holding
 pub mod Quotients

@@ -9,14 +9,15 @@ use Rattle.pattern_syntax.specs.Tree.{Tree, Nothing}
 use Rattle.pattern_syntax.specs.Language.{In, holds}
 use Rattle.pattern_syntax.specs.Literal.{literal_start_of, single_bytes}
 use Rattle.pattern_match.specs.Automaton.{automaton}
-use Rattle.pattern_match.specs.Starts.{behind_start}
+use Rattle.pattern_syntax.specs.Starts.{behind_start}
 use Rattle.pattern_match.specs.States.{AreMarksBy, AreMarksOf, AreStatesOf, IsBehind, Progress}
 use Rattle.pattern_match.specs.States.{StandsFor, is_bare}
-use Rattle.pattern_match.proofs.Cutting.{Follows, cut_behind_start, literal_behind}
-use Rattle.pattern_match.proofs.Holding.{holds_tells}
+use Rattle.pattern_syntax.specs.Parts.{Follows}
+use Rattle.pattern_syntax.proofs.BehindLemmas.{cut_behind_start, literal_behind}
+use Rattle.pattern_match.proofs.Holding.{holds_shows}
 use Rattle.pattern_match.specs.Settled.{StatesLeadOnward, StatesStay}
 use Rattle.pattern_match.proofs.Ready.{bare_behind, bare_unmarked}
-use Rattle.pattern_match.proofs.Standing.{Tells, false_tells, stands_at_start}
+use Rattle.pattern_match.proofs.Standing.{Shows, false_shows, stands_at_start}
 
 pub nothing_behind : (t : Tree) → is_some (single_bytes t) ≡ true → behind_start t ≡ Nothing
 nothing_behind t h = by_bytes (single_bytes t) refl h
@@ -32,10 +33,10 @@ start_alone t e text =
     let start = literal_start_of t in
     both_ways (holds t text) (same_bytes text start) (λ h.
     let f : Follows start Nothing text =
-    subst (λ r. Follows start r text) e ((cut_behind_start t text).0 ((holds_tells t text).0 h))
+    subst (λ r. Follows start r text) e ((cut_behind_start t text).0 ((holds_shows t text).0 h))
     in
     (bytes_decides text start).1 (f.1 ∙ ap (λ r. start ++ r) f.2 ∙ append-nil start)) (λ h.
-    (holds_tells t text).1
+    (holds_shows t text).1
     ((cut_behind_start t text).1
     (subst (λ r. Follows start r text) (sym e) (
       [],
@@ -70,17 +71,17 @@ text_begun states z tree e =
 
 -- no place is marked of a pattern without a rest
 pub text_leads_not : (t : Tree) (states : Progress) → behind_start t ≡ Nothing
-    → AreStatesOf t states → Tells false (StatesLeadOnward t states)
+    → AreStatesOf t states → Shows false (StatesLeadOnward t states)
 text_leads_not t states e a =
-    false_tells (StatesLeadOnward t states)
+    false_shows (StatesLeadOnward t states)
     (λ s. bare_unmarked (behind_start t) states.marks (ap is_bare e ∙ nothing_is_bare) a.marks
     s.behind.place s.behind.marked)
 
 -- while its bytes are read, or all were read, another one leads on
 pub text_stays_not : (t : Tree) (inside states : Progress) (n : ℕ) → behind_start t ≡ Nothing
     → inside ≡ states → n ≡ length (literal_start_of t) → inside.seen ≤ n
-    → Tells false (StatesStay t states)
-text_stays_not t inside states n e i l m = false_tells (StatesStay t states) at
+    → Shows false (StatesStay t states)
+text_stays_not t inside states n e i l m = false_shows (StatesStay t states) at
   where
     at : StatesStay t states → ⊥
     at (inl a) = let q : inside.seen ≡ states.seen = ap (λ (p : Progress). p.seen) i in omega arith

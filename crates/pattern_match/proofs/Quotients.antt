@@ -11,7 +11,7 @@ use Rattle.pattern_syntax.specs.Tree.{Tree, Set, Nothing, Both, Either, Repeat}
 use Rattle.pattern_syntax.specs.Language.{In, Opens, holds}
 use Rattle.pattern_match.specs.Quotients.{nullable, derived, opens, holds_below}
 use Rattle.pattern_match.specs.States.{Below}
-use Rattle.pattern_match.proofs.Holding.{holds_tells}
+use Rattle.pattern_match.proofs.Holding.{holds_shows}
 use Rattle.pattern_match.proofs.Language.{Steps, both_onto, both_from, both_skip, repeat_onto}
 use Rattle.pattern_match.proofs.Language.{repeat_from, has_text, text_of}
 
@@ -83,36 +83,36 @@ derived_from (Repeat least (Some (suc most)) x) b text h =
     repeat_from least (Some (suc most)) x b text (omega arith)
     (steps_from x (Repeat (pred least) (Some most) x) b text (derived_from x b) h)
 
-pub opens_tells : (text : List ℕ) (t : Tree) → (opens t text ≡ true → Opens t text)
+pub opens_shows : (text : List ℕ) (t : Tree) → (opens t text ≡ true → Opens t text)
     × (Opens t text → opens t text ≡ true)
-opens_tells [] t = (λ h. text_of t h, λ h. has_text t h.0 h.1)
-opens_tells (b ∷ text) t =
-    let r = opens_tells text (derived b t) in (
+opens_shows [] t = (λ h. text_of t h, λ h. has_text t h.0 h.1)
+opens_shows (b ∷ text) t =
+    let r = opens_shows text (derived b t) in (
       λ h. let o = r.0 h in (o.0, derived_from t b (text ++ o.0) o.1),
       λ h. r.1 (h.0, derived_onto t b (text ++ h.0) h.1),
     )
 
 -- the test tells what the language holds at or below a path
-pub below_tells : (t : Tree) (path : Path) → (holds_below t path ≡ true → Below t path)
+pub below_shows : (t : Tree) (path : Path) → (holds_below t path ≡ true → Below t path)
     × (Below t path → holds_below t path ≡ true)
 unfolding holds_below
-below_tells t [] = opens_tells (SLASH ∷ []) t
-below_tells t (name ∷ names) =
+below_shows t [] = opens_shows (SLASH ∷ []) t
+below_shows t (name ∷ names) =
     let text = path_text (name ∷ names) in (
       λ h. elim (or_cases (holds t text) _ h) [
-        | inl a ↦ inl ((holds_tells t text).0 a)
+        | inl a ↦ inl ((holds_shows t text).0 a)
         | inr b ↦ inr
-            ((opens_tells (text ++ SLASH ∷ []) t).0 b)
+            ((opens_shows (text ++ SLASH ∷ []) t).0 b)
       ],
       λ h. elim h [
-        | inl a ↦ or_left _ _ ((holds_tells t text).1 a)
+        | inl a ↦ or_left _ _ ((holds_shows t text).1 a)
         | inr b ↦ or_right (holds t text)
-            _ ((opens_tells (text ++ SLASH ∷ []) t).1 b)
+            _ ((opens_shows (text ++ SLASH ∷ []) t).1 b)
       ],
     )
 
 -- whatever tells what is at or below a path is that test
 pub below_test : (t : Tree) (path : Path) (v : Bool) → (v ≡ true → Below t path)
     × (Below t path → v ≡ true) → v ≡ holds_below t path
-below_test t path v h = both_ways v (holds_below t path) (λ e. (below_tells t path).1 (h.0 e))
-    (λ e. h.1 ((below_tells t path).0 e))
+below_test t path v h = both_ways v (holds_below t path) (λ e. (below_shows t path).1 (h.0 e))
+    (λ e. h.1 ((below_shows t path).0 e))

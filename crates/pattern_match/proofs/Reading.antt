@@ -7,7 +7,7 @@ use Rattle.file_paths.specs.Path.{Path, path_text}
 use Rattle.pattern_syntax.specs.Tree.{Tree}
 use Rattle.pattern_syntax.specs.Language.{In, Opens, holds}
 use Rattle.pattern_match.specs.States.{Progress, StandsFor, Below}
-use Rattle.pattern_match.proofs.Holding.{holds_tells}
+use Rattle.pattern_match.proofs.Holding.{holds_shows}
 
 -- where no text begins with a front, none begins with the whole
 pub dead_front : (t : Tree) (text : List ℕ) (i : ℕ) (v : Bool) → v ≡ false
@@ -25,7 +25,7 @@ in_opens t text h = ([], subst (λ w. In t w) (sym (append-nil text)) h)
 
 pub not_holds : (t : Tree) (text : List ℕ) (v : Bool) → holds t text ≡ v → (Opens t text → ⊥)
     → false ≡ holds t text
-not_holds t text true e h = absurd (h (in_opens t text ((holds_tells t text).0 e)))
+not_holds t text true e h = absurd (h (in_opens t text ((holds_shows t text).0 e)))
 not_holds t text false e h = sym e
 
 pub less_opens : (t : Tree) (text more : List ℕ) → Opens t (text ++ more) → Opens t text

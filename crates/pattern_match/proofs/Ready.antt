@@ -13,7 +13,7 @@ use Rattle.pattern_match.specs.Automaton.{automaton, all_places}
 use Rattle.pattern_match.specs.Settled.{MarksLeadOnward}
 use Rattle.pattern_match.specs.States.{bit, is_bare, AreMarks, IsMarked, AreMarksBy, IsBehindBy}
 use Rattle.pattern_match.specs.States.{AreStatesOf, Progress, words_by, words_for}
-use Rattle.pattern_match.specs.Starts.{behind_start}
+use Rattle.pattern_syntax.specs.Starts.{behind_start}
 use Rattle.pattern_match.specs.States.{AreMarksOf, IsBehind, IsRead}
 use Rattle.pattern_match.specs.Onwards.{AreTextBytes}
 use Rattle.pattern_match.specs.Compiled.{AreTablesReady, IsReadyFor, IsCompiled}

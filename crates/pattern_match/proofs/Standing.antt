@@ -11,19 +11,19 @@ use Rattle.pattern_syntax.specs.Tree.{Tree}
 use Rattle.pattern_syntax.specs.Language.{In, Opens, holds}
 use Rattle.pattern_syntax.specs.Literal.{literal_start_of}
 use Rattle.pattern_match.specs.Onwards.{AreTextBytes, TakesAll}
-use Rattle.pattern_match.specs.Starts.{behind_start}
+use Rattle.pattern_syntax.specs.Starts.{behind_start}
 use Rattle.pattern_match.specs.Settled.{MarksLeadOnward, StatesLeadOnward, MarksStay, StatesStay}
 use Rattle.pattern_match.specs.States.{Progress, Working, IsLeft, IsBehind, StandsFor, is_bare}
-use Rattle.pattern_match.proofs.Cutting.{cut_behind_start}
-use Rattle.pattern_match.proofs.Holding.{holds_tells}
+use Rattle.pattern_syntax.proofs.BehindLemmas.{cut_behind_start}
+use Rattle.pattern_match.proofs.Holding.{holds_shows}
 use Rattle.pattern_match.proofs.Ready.{bare_behind}
 
 -- a test tells a fact
-abbrev pub Tells : Bool → Type 0 → Type 0
-Tells v P = (v ≡ true → P) × (P → v ≡ true)
+abbrev pub Shows : Bool → Type 0 → Type 0
+Shows v P = (v ≡ true → P) × (P → v ≡ true)
 
-pub false_tells : (P : Type 0) → (P → ⊥) → Tells false P
-false_tells P h = (λ e. cc, λ p. absurd (h p))
+pub false_shows : (P : Type 0) → (P → ⊥) → Shows false P
+false_shows P h = (λ e. cc, λ p. absurd (h p))
 
 pub known_is : {a b : Working} → a ≡ b → a.known ≡ b.known
 known_is e = ap (λ (w : Working). w.known) e
@@ -157,31 +157,31 @@ not_ended t states d a = at (drop states.seen (literal_start_of t)) refl (a.2)
     at (b ∷ bs) e h = let z : [] ≡ b ∷ (bs ++ a.1) = h ∙ ap (λ w. w ++ a.1) e in cc
 
 pub ended : (t : Tree) (states : Progress) (v : Bool) → states.seen ≡ length (literal_start_of t)
-    → Tells v (IsBehind (behind_start t) states.marks []) → Tells v (IsLeft t states [])
+    → Shows v (IsBehind (behind_start t) states.marks []) → Shows v (IsLeft t states [])
 ended t states v e h = (
   λ q. (omega arith, [], sym (at_end (literal_start_of t) states.seen [] e), h.0 q),
   λ a. h.1 (subst (λ w. IsBehind (behind_start t) states.marks w)
       (sym (a.2 ∙ at_end (literal_start_of t) states.seen a.1 e)) a.3),
 )
 
-pub tells_text : (t : Tree) (states : Progress) (v : Bool) → Tells v (IsLeft t states [])
-    → (text : List ℕ) → StandsFor t states text → Tells v (In t text)
-tells_text t states v h text s = (
+pub shows_text : (t : Tree) (states : Progress) (v : Bool) → Shows v (IsLeft t states [])
+    → (text : List ℕ) → StandsFor t states text → Shows v (In t text)
+shows_text t states v h text s = (
   λ q. subst (λ w. In t w) (append-nil text) (s.from [] (h.0 q)),
   λ i. h.1 (s.onto [] (subst (λ w. In t w) (sym (append-nil text)) i)),
 )
 
-pub tells_holds : (t : Tree) (text : List ℕ) (v : Bool) → Tells v (In t text) → v ≡ holds t text
-tells_holds t text v h = both_ways v (holds t text) (λ e. (holds_tells t text).1 (h.0 e))
-    (λ e. h.1 ((holds_tells t text).0 e))
+pub shows_holds : (t : Tree) (text : List ℕ) (v : Bool) → Shows v (In t text) → v ≡ holds t text
+shows_holds t text v h = both_ways v (holds t text) (λ e. (holds_shows t text).1 (h.0 e))
+    (λ e. h.1 ((holds_shows t text).0 e))
 
 -- some text is left
-pub tells_opens : (t : Tree) (states : Progress) (v : Bool)
+pub shows_opens : (t : Tree) (states : Progress) (v : Bool)
     → states.seen ≤ length (literal_start_of t)
     → ((text : List ℕ) → IsBehind (behind_start t) states.marks text → v ≡ true)
     → (v ≡ true → (text : List ℕ) × IsBehind (behind_start t) states.marks text) → (text : List ℕ)
-    → StandsFor t states text → Tells v (Opens t text)
-tells_opens t states v l onto from text s = (
+    → StandsFor t states text → Shows v (Opens t text)
+shows_opens t states v l onto from text s = (
   λ q. let r = from q in (
     drop states.seen (literal_start_of t) ++ r.0,
     s.from
@@ -203,9 +203,9 @@ takes_rest t states e h text s =
     )
 
 pub dead_opens : (t : Tree) (states : Progress) → length (literal_start_of t) < states.seen
-    → (text : List ℕ) → StandsFor t states text → Tells false (Opens t text)
+    → (text : List ℕ) → StandsFor t states text → Shows false (Opens t text)
 dead_opens t states l text s =
-    false_tells (Opens t text) (λ o. dead_past t states l o.0 (s.onto o.0 o.1))
+    false_shows (Opens t text) (λ o. dead_past t states l o.0 (s.onto o.0 o.1))
 
 begins : (text start : List ℕ) → starts_with nat_eq text start ≡ true
     → text ≡ start ++ drop (length start) text
@@ -239,8 +239,8 @@ begun [] rest = refl
 begun (b ∷ bs) rest = rw (eq-eqb b b refl) (begun bs rest)
 
 pub other_start : (t : Tree) (text start : List ℕ) → start ≡ literal_start_of t
-    → starts_with nat_eq text start ≡ false → Tells false (In t text)
-other_start t text start e f = false_tells (In t text) (λ i.
+    → starts_with nat_eq text start ≡ false → Shows false (In t text)
+other_start t text start e f = false_shows (In t text) (λ i.
     let w = (cut_behind_start t text).0 i in
     let g : starts_with nat_eq text start ≡ true =
     ap (λ x. starts_with nat_eq x start) (w.1 ∙ ap (λ x. x ++ w.0) (sym e)) ∙ begun start w.0 in
@@ -254,7 +254,7 @@ drop_front (b ∷ bs) rest = drop_front bs rest
 -- behind the start
 pub same_start : (t : Tree) (text start rest : List ℕ) (v : Bool) → start ≡ literal_start_of t
     → starts_with nat_eq text start ≡ true → rest ≡ drop (length start) text
-    → Tells v (In (behind_start t) rest) → Tells v (In t text)
+    → Shows v (In (behind_start t) rest) → Shows v (In t text)
 same_start t text start rest v e f g h =
     let b : text ≡ start ++ rest = begins text start f ∙ ap (λ w. start ++ w) (sym g) in (
       λ q. (cut_behind_start t text).1 (rest, b ∙ ap (λ w. w ++ rest) e, h.0 q),
@@ -282,21 +282,21 @@ module _ (t : Tree) (start : List ℕ) (machine : Tree) (s : start ≡ literal_s
       × (In b text → IsBehind b marks text)) m h)
 
   pub not_accepted : (inside states : Progress) (n : ℕ) → inside ≡ states → n ≡ length start
-      → (inside.seen ≡ n → ⊥) → (text : List ℕ) → StandsFor t states text → Tells false (In t text)
+      → (inside.seen ≡ n → ⊥) → (text : List ℕ) → StandsFor t states text → Shows false (In t text)
   not_accepted inside states n i l d =
-      tells_text t states false
-      (false_tells (IsLeft t states [])
+      shows_text t states false
+      (false_shows (IsLeft t states [])
       (not_ended t states
       (λ e. d (ap (λ (p : Progress). p.seen) i ∙ e ∙ ap length (sym s) ∙ sym l))))
 
   pub accepted : (inside states : Progress) (n : ℕ) (v : Bool) → inside ≡ states → n ≡ length start
-      → inside.seen ≡ n → Tells v (IsBehind machine inside.marks []) → (text : List ℕ)
-      → StandsFor t states text → Tells v (In t text)
+      → inside.seen ≡ n → Shows v (IsBehind machine inside.marks []) → (text : List ℕ)
+      → StandsFor t states text → Shows v (In t text)
   accepted inside states n v i l e h =
-      tells_text t states v
+      shows_text t states v
       (ended t states v (ap (λ (p : Progress). p.seen) (sym i) ∙ e ∙ l ∙ ap length s)
-      (subst (λ b. Tells v (IsBehind b states.marks [])) m
-      (subst (λ (p : Progress). Tells v (IsBehind machine p.marks [])) i h)))
+      (subst (λ b. Shows v (IsBehind b states.marks [])) m
+      (subst (λ (p : Progress). Shows v (IsBehind machine p.marks [])) i h)))
 
   pub takes_all : (inside states : Progress) (n : ℕ) → inside ≡ states → n ≡ length start
       → inside.seen ≡ n → ((rest : List ℕ) → AreTextBytes rest → IsBehind machine inside.marks rest)
@@ -312,26 +312,26 @@ module _ (t : Tree) (start : List ℕ) (machine : Tree) (s : start ≡ literal_s
   whole_start inside states n i l e = ap (λ (p : Progress). p.seen) (sym i) ∙ e ∙ l ∙ ap length s
 
   pub leads_at : (inside states : Progress) (n : ℕ) (v : Bool) → inside ≡ states → n ≡ length start
-      → inside.seen ≡ n → Tells v (MarksLeadOnward machine inside.marks)
-      → Tells v (StatesLeadOnward t states)
+      → inside.seen ≡ n → Shows v (MarksLeadOnward machine inside.marks)
+      → Shows v (StatesLeadOnward t states)
   leads_at inside states n v i l e h =
-      let d : Tells v (MarksLeadOnward (behind_start t) states.marks) =
-      subst (λ b. Tells v (MarksLeadOnward b states.marks)) m
-      (subst (λ (p : Progress). Tells v (MarksLeadOnward machine p.marks)) i h) in
+      let d : Shows v (MarksLeadOnward (behind_start t) states.marks) =
+      subst (λ b. Shows v (MarksLeadOnward b states.marks)) m
+      (subst (λ (p : Progress). Shows v (MarksLeadOnward machine p.marks)) i h) in
       (λ a. record { whole = whole_start inside states n i l e; behind = d.0 a }, λ a. d.1 a.behind)
 
   pub leads_not : (inside states : Progress) (n : ℕ) → inside ≡ states → n ≡ length start
-      → (inside.seen ≡ n → ⊥) → Tells false (StatesLeadOnward t states)
+      → (inside.seen ≡ n → ⊥) → Shows false (StatesLeadOnward t states)
   leads_not inside states n i l d =
-      false_tells (StatesLeadOnward t states)
+      false_shows (StatesLeadOnward t states)
       (λ a. d (ap (λ (p : Progress). p.seen) i ∙ a.whole ∙ ap length (sym s) ∙ sym l))
 
   pub stays_at : (inside states : Progress) (n : ℕ) (v : Bool) → inside ≡ states → n ≡ length start
-      → inside.seen ≡ n → Tells v (MarksStay machine inside.marks) → Tells v (StatesStay t states)
+      → inside.seen ≡ n → Shows v (MarksStay machine inside.marks) → Shows v (StatesStay t states)
   stays_at inside states n v i l e h =
-      let d : Tells v (MarksStay (behind_start t) states.marks) =
-      subst (λ b. Tells v (MarksStay b states.marks)) m
-      (subst (λ (p : Progress). Tells v (MarksStay machine p.marks)) i h) in
+      let d : Shows v (MarksStay (behind_start t) states.marks) =
+      subst (λ b. Shows v (MarksStay b states.marks)) m
+      (subst (λ (p : Progress). Shows v (MarksStay machine p.marks)) i h) in
       (λ a. inr (whole_start inside states n i l e, d.0 a), at d.1)
     where
       at : (MarksStay (behind_start t) states.marks → v ≡ true) → StatesStay t states → v ≡ true
@@ -339,14 +339,14 @@ module _ (t : Tree) (start : List ℕ) (machine : Tree) (s : start ≡ literal_s
       at f (inr a) = f a.1
 
   pub stays_past : (inside states : Progress) (n : ℕ) → inside ≡ states → n ≡ length start
-      → n < inside.seen → Tells true (StatesStay t states)
+      → n < inside.seen → Shows true (StatesStay t states)
   stays_past inside states n i l e = let q : inside.seen ≡ states.seen =
       ap (λ (p : Progress). p.seen) i in let r : length start ≡ length (literal_start_of t) =
       ap length s in (λ _. inl (omega arith), λ _. refl)
 
   pub stays_before : (inside states : Progress) (n : ℕ) → inside ≡ states → n ≡ length start
-      → inside.seen < n → Tells false (StatesStay t states)
-  stays_before inside states n i l e = false_tells (StatesStay t states) at
+      → inside.seen < n → Shows false (StatesStay t states)
+  stays_before inside states n i l e = false_shows (StatesStay t states) at
     where
       seen : inside.seen ≡ states.seen
       seen = ap (λ (p : Progress). p.seen) i
@@ -359,7 +359,7 @@ module _ (t : Tree) (start : List ℕ) (machine : Tree) (s : start ≡ literal_s
       at (inr a) = let q = seen in let r = long in let w = a.0 in omega arith
 
   pub is_dead : (inside states : Progress) (n : ℕ) → inside ≡ states → n ≡ length start
-      → n < inside.seen → (text : List ℕ) → StandsFor t states text → Tells false (Opens t text)
+      → n < inside.seen → (text : List ℕ) → StandsFor t states text → Shows false (Opens t text)
   is_dead inside states n i l e = let q : inside.seen ≡ states.seen =
       ap (λ (p : Progress). p.seen) i in let r : length start ≡ length (literal_start_of t) =
       ap length s in dead_opens t states (omega arith)
@@ -367,11 +367,11 @@ module _ (t : Tree) (start : List ℕ) (machine : Tree) (s : start ≡ literal_s
   pub is_alive : (inside states : Progress) (n : ℕ) (v : Bool) → inside ≡ states → n ≡ length start
       → inside.seen ≤ n → ((text : List ℕ) → IsBehind machine inside.marks text → v ≡ true)
       → (v ≡ true → (text : List ℕ) × IsBehind machine inside.marks text) → (text : List ℕ)
-      → StandsFor t states text → Tells v (Opens t text)
+      → StandsFor t states text → Shows v (Opens t text)
   is_alive inside states n v i l e f g =
       let q : inside.seen ≡ states.seen = ap (λ (p : Progress). p.seen) i in
       let r : length start ≡ length (literal_start_of t) = ap length s in
-      tells_opens t states v (omega arith)
+      shows_opens t states v (omega arith)
       (subst (λ b. (text : List ℕ) → IsBehind b states.marks text → v ≡ true) m
       (subst (λ (p : Progress). (text : List ℕ) → IsBehind machine p.marks text → v ≡ true) i
       f))
@@ -380,14 +380,14 @@ module _ (t : Tree) (start : List ℕ) (machine : Tree) (s : start ≡ literal_s
       g))
 
   pub matches_not : (text shown : List ℕ) → shown ≡ start → starts_with nat_eq text shown ≡ false
-      → Tells false (In t text)
+      → Shows false (In t text)
   matches_not text shown e f = other_start t text shown (e ∙ s) f
 
   pub matches_rest : (text shown rest : List ℕ) (v : Bool) → shown ≡ start
       → starts_with nat_eq text shown ≡ true → rest ≡ drop (length shown) text
-      → Tells v (In machine rest) → Tells v (In t text)
+      → Shows v (In machine rest) → Shows v (In t text)
   matches_rest text shown rest v e f g h =
-      same_start t text shown rest v (e ∙ s) f g (subst (λ b. Tells v (In b rest)) m h)
+      same_start t text shown rest v (e ∙ s) f g (subst (λ b. Shows v (In b rest)) m h)
 
   pub steps_start : (inside old : Progress) (shown : List ℕ) (b : ℕ) → inside ≡ old → shown ≡ start
       → inside.seen < length shown → get_or shown inside.seen 0 ≡ b → (text : List ℕ)

@@ -5,7 +5,7 @@ use mathlib.Core.Bool.{Bool-set}
 use Rattle.pattern_syntax.specs.Tree.{Tree}
 use Rattle.pattern_match.specs.Automaton.{Place, automaton, all_places}
 use Rattle.pattern_match.specs.States.{is_bare}
-use Rattle.pattern_match.specs.Starts.{behind_start}
+use Rattle.pattern_syntax.specs.Starts.{behind_start}
 use Rattle.pattern_match.specs.Tables.{AreTables}
 use Rattle.pattern_match.specs.declared.class.Class.{Class}
 use Rattle.pattern_match.specs.declared.readying.PatternTables.{PatternTables}

@@ -1,6 +1,5 @@
 pub mod Residuals
 pub mod Quotients
-pub mod Starts
 pub mod Automaton
 pub mod Skipping
 pub mod Building

@@ -5,7 +5,7 @@ use Rattle.pattern_syntax.specs.Tree.{Tree}
 use Rattle.pattern_syntax.specs.Literal.{literal_start_of}
 use Rattle.pattern_match.specs.Automaton.{Place, automaton, all_places}
 use Rattle.pattern_match.specs.Class.{HasEachByte}
-use Rattle.pattern_match.specs.Starts.{behind_start}
+use Rattle.pattern_syntax.specs.Starts.{behind_start}
 use Rattle.pattern_match.specs.States.{Progress, bit, is_bare}
 use Rattle.pattern_match.specs.Tables.{ends, has, leads}
 

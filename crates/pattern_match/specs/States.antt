@@ -9,7 +9,7 @@ use Rattle.pattern_syntax.specs.Language.{In, Opens}
 use Rattle.pattern_syntax.specs.Literal.{literal_start_of}
 use Rattle.pattern_match.specs.Residuals.{Residual, all_residuals, is_some_list}
 use Rattle.pattern_match.specs.Automaton.{automaton}
-use Rattle.pattern_match.specs.Starts.{behind_start}
+use Rattle.pattern_syntax.specs.Starts.{behind_start}
 
 -- bit k % 64 of word k / 64
 abbrev pub bit : List ℕ → ℕ → Bool

@@ -2,7 +2,7 @@ ghost use Rattle.std.specs.Prelude.{◌≡◌, ◌∷◌, ◌+◌, ◌/◌, ◌<
 ghost use Rattle.std.specs.Prelude.{IfOk};
 ghost use Rattle.std.specs.Prelude.{IsTrue};
 ghost use Rattle.pattern_syntax.specs.Language.{In};
-ghost use Rattle.pattern_match.specs.Starts.{behind_start};
+ghost use Rattle.pattern_syntax.specs.Starts.{behind_start};
 ghost use Rattle.pattern_match.specs.Compiled.{AreTablesOf};
 ghost use Rattle.pattern_match.specs.Onwards.{AreTextBytes};
 ghost use Rattle.pattern_match.specs.Settled.{MarksLeadOnward, MarksStay};
@@ -33,7 +33,7 @@ impl<'a> Model for Machine<'a> {
 
     ghost coded = { tree_code };
 
-    ghost use Rattle.pattern_match.specs.Starts.{behind_start};
+    ghost use Rattle.pattern_syntax.specs.Starts.{behind_start};
     ghost use Rattle.pattern_match.specs.Compiled.{IsCompiled};
 
     ghost view = { λ m. behind_start m.pattern.now.tree };

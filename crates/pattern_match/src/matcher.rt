@@ -37,7 +37,7 @@ impl<'a> Model for Matcher<'a> {
     ghost coded = { tree_code };
 
     ghost use Rattle.pattern_syntax.specs.Literal.{literal_start_of};
-    ghost use Rattle.pattern_match.specs.Starts.{behind_start, with_start};
+    ghost use Rattle.pattern_syntax.specs.Starts.{behind_start, with_start};
 
     ghost view = { λ m. with_start m.start.now m.machine };
 
@@ -281,7 +281,7 @@ pub fn every_cut_is_membership()
 
 /// The law that the test by left quotients, by which clauses compute, tells whether the language
 /// holds the path or something below it.
-pub fn quotients_tell_what_is_below()
+pub fn quotients_show_what_is_below()
     ensures { (tree : Tree) (path : Path) → IsTrue (holds_below tree path) ↔ Below tree path }
 {}
 
@@ -321,7 +321,7 @@ mod tests {
         lies_below(alloc, &pattern, &path).ok()
     }
 
-    fn told_behind(
+    fn shown_behind(
         alloc: Global,
         pattern: &Pattern,
         text: &[u8],
@@ -339,7 +339,7 @@ mod tests {
         requires { length pattern.now < 2 ^ 32 }
     {
         let pattern = Pattern::read(alloc, pattern).ok()?;
-        told_behind(alloc, &pattern, text).ok()
+        shown_behind(alloc, &pattern, text).ok()
     }
 
     #[test]
@@ -447,7 +447,7 @@ mod tests {
         matcher.restart(&mut kept);
         assert!(rt; !matcher.accepts(&kept));
         every_cut_is_membership();
-        quotients_tell_what_is_below();
+        quotients_show_what_is_below();
         Ok(())
     }
 }

@@ -3,7 +3,7 @@ ghost use Rattle.label_base.specs.Text.{same_bytes};
 ghost use Rattle.pattern_syntax.specs.Tree.{Nothing};
 ghost use Rattle.pattern_syntax.specs.Language.{Opens, holds};
 ghost use Rattle.pattern_syntax.specs.Literal.{literal_start_of, single_bytes};
-ghost use Rattle.pattern_match.specs.Starts.{behind_start};
+ghost use Rattle.pattern_syntax.specs.Starts.{behind_start};
 ghost use Rattle.pattern_match.specs.Settled.{StatesStay};
 ghost use Rattle.pattern_match.specs.States.{AreStatesOf, StandsFor};
 

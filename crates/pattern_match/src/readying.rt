@@ -2,7 +2,7 @@ ghost use Rattle.std.specs.Prelude.{◌≡◌, ◌+◌, ◌<◌, ◌≤◌, ◌=
 ghost use Rattle.std.specs.Prelude.{IfOk, IfSome, length};
 ghost use Rattle.pattern_syntax.specs.Nodes.{nodes_tree, rest_tree};
 ghost use Rattle.pattern_syntax.specs.Tree.{Tree};
-ghost use Rattle.pattern_match.specs.Starts.{behind_start};
+ghost use Rattle.pattern_syntax.specs.Starts.{behind_start};
 ghost use Rattle.pattern_match.specs.Compiled.{AreTablesOf, IsReadyFor};
 ghost use Rattle.pattern_match.specs.States.{HasRoomFor, words_for};
 ghost use Rattle.pattern_match.specs.Segments.{in_word};

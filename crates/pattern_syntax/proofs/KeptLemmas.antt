@@ -19,7 +19,8 @@ use Rattle.pattern_syntax.specs.PatternValue.{IsReadPattern, HoldsBoth, IsKept}
 use Rattle.pattern_syntax.specs.PatternValue.{start_place, text_end}
 use Rattle.pattern_syntax.specs.declared.node.Node.{Node}
 use Rattle.pattern_syntax.specs.declared.limits.TheConstants.{MOST_POSITIONS}
-use Rattle.pattern_syntax.proofs.PartsLemmas.{alone_told, joined_parts, starts_apart}
+use Rattle.pattern_syntax.proofs.PartsLemmas.{alone_shown, joined_parts}
+use Rattle.pattern_syntax.proofs.BehindLemmas.{starts_apart}
 use Rattle.pattern_syntax.proofs.FaultLemmas.{reads_as_grammar}
 
 pub read_tree : (text : List ℕ) (tree : Tree) → pattern_of text ≡ Ok tree → tree_read text ≡ tree
@@ -35,7 +36,7 @@ kept text start rest count alone short reads p n a =
       reads = reads ∙ ap (λ (u : Tree). Ok u) (sym t);
       proper = ap is_proper t ∙ p.proper;
       literal = ap literal_start_of t ∙ p.literal;
-      alone_is = a ∙ ap (λ (k : ℕ). k == 0) n ∙ alone_told start rest p
+      alone_is = a ∙ ap (λ (k : ℕ). k == 0) n ∙ alone_shown start rest p
           ∙ ap (λ (u : Tree). is_some (single_bytes u)) (sym t);
     }
 

@@ -11,6 +11,7 @@ pub mod GrammarLemmas
 pub mod FaultLemmas
 pub mod LiteralLemmas
 pub mod PartsLemmas
+pub mod BehindLemmas
 pub mod KeptLemmas
 pub mod PlainLemmas
 pub mod RestLemmas

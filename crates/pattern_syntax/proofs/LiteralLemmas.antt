@@ -1,16 +1,13 @@
--- The nodes of a pattern begin with its literal start, and so does each text of its language.
+-- The nodes of a pattern begin with its literal start.
 use Rattle.std.proofs.Common.{◌≡◌, ◌∙◌, sym, refl, ap, subst, ℕ, suc, zero, ◌+◌, ◌==◌, ◌≤◌}
-use Rattle.std.proofs.Common.{Bool, true, false, ◌&&◌, ◌||◌, List, [], ◌∷◌, ◌++◌, length, map, drop}
+use Rattle.std.proofs.Common.{Bool, true, false, ◌&&◌, List, [], ◌∷◌, ◌++◌, length, map, drop}
 use Rattle.std.proofs.Common.{get_or, append_assoc, append-nil, arith}
 use Rattle.std.specs.Prelude.{Option, Some, None, unwrap_or}
-use Rattle.std.specs.List.{list_any}
 use Rattle.std.proofs.lemmas.List.{length-map, length_push, get_or_push}
-use Rattle.std.proofs.lemmas.Bool.Decides.{nat_tests}
 use Rattle.std.specs.Cmp.{first_so, second_so}
 use Rattle.pattern_syntax.specs.ByteSet.{only_of}
 use Rattle.pattern_syntax.specs.Tree as tree
 use Rattle.pattern_syntax.specs.Tree.{Tree, TreeNode, tree_nodes}
-use Rattle.pattern_syntax.specs.Language.{In}
 use Rattle.pattern_syntax.specs.Nodes.{after_node, after_nodes, trees_behind, rest_tree}
 use Rattle.pattern_syntax.specs.Shape.{is_proper, is_sequence, is_choice, tree_size, stack_size}
 use Rattle.pattern_syntax.specs.Literal.{single_byte, start_joined, single_bytes, literal_start_of}
@@ -231,76 +228,6 @@ start_of_nodes ns t e h k =
     ap (λ (l : List TreeNode). leading_bytes (drop 1 l)) (e ∙ a.1)
     ∙ ap leading_bytes (sym (append-nil a.0)) ∙ a.2 [] ∙ started_whole t (single_bytes t) refl
 
--- ---- each text begins with it
-
-same_member : (x b c : ℕ) → (x == c || false) ≡ true → x ≡ b → b ≡ c
-same_member x b c k g = grind (arith, nat_tests)
-
-only_member : (bytes : List ℕ) (b c : ℕ) → only_of bytes ≡ Some b → list_any (λ x. x == c) bytes
-    ≡ true → b ≡ c
-only_member [] b c h k = absurd (let f : None ≡ Some b = h in cc)
-only_member (x ∷ []) b c h k = let f : Some x ≡ Some b = h in let g : x ≡ b = cc in
-    same_member x b c k g
-only_member (x ∷ y ∷ bytes) b c h k = absurd (let f : None ≡ Some b = h in cc)
-
-pub single_text : (t : Tree) (b : ℕ) (text : List ℕ) → single_byte t ≡ Some b → In t text
-    → text ≡ b ∷ []
-single_text (tree.Set bytes) b text h k =
-    k.1 ∙ ap (λ (c : ℕ). c ∷ []) (sym (only_member bytes b k.0 h k.2))
-single_text tree.Nothing b text h k = absurd (let f : None ≡ Some b = h in cc)
-single_text (tree.Both first second) b text h k = absurd (let f : None ≡ Some b = h in cc)
-single_text (tree.Either left right) b text h k = absurd (let f : None ≡ Some b = h in cc)
-single_text (tree.Repeat least most piece) b text h k = absurd (let f : None ≡ Some b = h in cc)
-
-joined_texts : (first second : Tree) (bytes text front rest : List ℕ) (a : Option (List ℕ))
-    (b : Option ℕ) → text ≡ front ++ rest → ((bs : List ℕ) → a ≡ Some bs → front ≡ bs)
-    → single_byte second ≡ b → In second rest → start_joined a b ≡ Some bytes → text ≡ bytes
-joined_texts first second bytes text front rest None b e f g k h =
-    absurd (let q : None ≡ Some bytes = h in cc)
-joined_texts first second bytes text front rest (Some bs) None e f g k h =
-    absurd (let q : None ≡ Some bytes = h in cc)
-joined_texts first second bytes text front rest (Some bs) (Some b) e f g k h =
-    e ∙ ap (λ (l : List ℕ). l ++ rest) (f bs refl)
-    ∙ ap (λ (l : List ℕ). bs ++ l) (single_text second b rest g k)
-    ∙ (let q : Some (bs ++ b ∷ []) ≡ Some bytes = h in cc)
-
-single_texts : (t : Tree) (bytes text : List ℕ) → single_bytes t ≡ Some bytes → In t text
-    → text ≡ bytes
-single_texts (tree.Set bs) bytes text h k = absurd (let f : None ≡ Some bytes = h in cc)
-single_texts tree.Nothing bytes text h k = k ∙ (let f : Some [] ≡ Some bytes = h in cc)
-single_texts (tree.Both first second) bytes text h k =
-    joined_texts first second bytes text k.0 k.1 (single_bytes first) (single_byte second) k.2
-    (λ (bs : List ℕ) (e : single_bytes first ≡ Some bs). single_texts first bs k.0 e k.3) refl
-    k.4 h
-single_texts (tree.Either left right) bytes text h k = absurd (let f : None ≡ Some bytes = h in cc)
-single_texts (tree.Repeat least most piece) bytes text h k =
-    absurd (let f : None ≡ Some bytes = h in cc)
-
-abbrev HasStart : List ℕ → List ℕ → Type 0
-HasStart start text = (rest : List ℕ) × (text ≡ start ++ rest)
-
-start_or_first : (first second : Tree) (text front rest : List ℕ) (o : Option (List ℕ))
-    → start_joined (single_bytes first) (single_byte second) ≡ o → In (tree.Both first second) text
-    → text ≡ front ++ rest → HasStart (literal_start_of first) front
-    → HasStart (unwrap_or o (literal_start_of first)) text
-start_or_first first second text front rest None e k f h = (
-  h.0 ++ rest,
-  f ∙ ap (λ (l : List ℕ). l ++ rest) h.1 ∙ append_assoc (literal_start_of first) h.0
-      rest,
-)
-start_or_first first second text front rest (Some bytes) e k f h =
-    ([], single_texts (tree.Both first second) bytes text e k ∙ sym (append-nil bytes))
-
-pub begins_with_start : (t : Tree) (text : List ℕ) → In t text → HasStart (literal_start_of t) text
-begins_with_start (tree.Set bytes) text k = (text, refl)
-begins_with_start tree.Nothing text k = (text, refl)
-begins_with_start (tree.Both first second) text k =
-    start_or_first first second text k.0 k.1
-    (start_joined (single_bytes first) (single_byte second)) refl k k.2
-    (begins_with_start first k.0 k.3)
-begins_with_start (tree.Either left right) text k = (text, refl)
-begins_with_start (tree.Repeat least most piece) text k = (text, refl)
-
 -- ---- the last node, and the walk over the nodes
 
 abbrev root_code : Tree → TreeNode
@@ -412,11 +339,6 @@ pub whole_leads : (ns : List Node) → AreWholeNodes ns → is_several (rest_tre
     → leading_from 0 ns ≡ literal_start_of (rest_tree ns)
 whole_leads ns w s = leading_start (node.Nothing ∷ ns) (rest_tree ns) (whole_codes ns w) w.proper
     (not_several (rest_tree ns) s w.choice)
-
-pub text_begins : (t : Tree) (start : List ℕ) → start ≡ literal_start_of t → (text : List ℕ)
-    → In t text → (rest : List ℕ) × (text ≡ start ++ rest)
-text_begins t start e text h = let r = begins_with_start t text h in
-    (r.0, r.1 ∙ ap (λ (l : List ℕ). l ++ r.0) (sym e))
 
 pub start_leads : (start : List ℕ) (nodes : List Node) → leading_from 0 (start_nodes start ++ nodes)
     ≡ start ++ leading_from 0 nodes

@@ -252,12 +252,12 @@ sides_counted : (sides : Option Tree) → unwrap_or (option_map capped_positions
 sides_counted None = omega arith
 sides_counted (Some tree) = omega arith
 
-pub full_told : (builder : Builder) (read : Reading) (sides n : ℕ) → IsBuilderOf builder read
+pub full_shown : (builder : Builder) (read : Reading) (sides n : ℕ) → IsBuilderOf builder read
     → length builder.outer.items ≡ 0
     → sides ≡ unwrap_or builder.level.sides 0 → n ≡ capped (sides + builder.level.sequence)
     → (ltb MOST_POSITIONS n ≡ true)
     ↔ ((length read.outer ≡ 0) × (MOST_POSITIONS < base_positions read.level))
-full_told builder read sides n s z e h =
+full_shown builder read sides n s z e h =
     let l = ap length s.outer ∙ outer_length read.outer in
     let a = ap (λ (l : counts.Level). unwrap_or l.sides 0) s.level in
     let b = ap (λ (l : counts.Level). l.sequence) s.level in

@@ -16,6 +16,7 @@ pub mod Grammar
 pub mod Faults
 pub mod Literal
 pub mod Parts
+pub mod Starts
 pub mod PatternValue
 pub mod Quick
 pub mod Constants

@@ -6,7 +6,7 @@ ghost use Rattle.pattern_syntax.specs.Reading.{structure_fault, depth_behind, en
 ghost use Rattle.pattern_syntax.specs.Reading.{fault_from};
 ghost use Rattle.pattern_syntax.specs.Views.{token_of};
 ghost use Rattle.pattern_syntax.specs.declared.limits.TheConstants.{MOST_GROUPS};
-ghost use Rattle.pattern_syntax.specs.declared.pattern_fault.PatternWhy.TheVariants.{TooManyPositions};
+ghost use Rattle.pattern_syntax.specs.declared.pattern_fault.PatternWhy.TheVariants as why;
 
 use crate::limits::MOST_GROUPS;
 use crate::pattern_fault::PatternFault;
@@ -53,7 +53,7 @@ pub(crate) fn refuse_rest(bytes: &[u8], from: usize, after_piece: bool) -> Patte
     requires room { length bytes.now < 2 ^ 32 }
     requires within { from ≤ length bytes.now }
     ensures { pattern_cause result
-        ≡ Some (unwrap_or (fault_from from after_piece bytes.now) TooManyPositions) }
+        ≡ Some (unwrap_or (fault_from from after_piece bytes.now) why.TooManyPositions) }
 {
     let mut depth = 0;
     let mut after_piece = after_piece;

@@ -17,9 +17,9 @@ use Rattle.label_base.specs.declared.kind.Asked.{Asked}
 use Rattle.label_base.specs.Kind.{applies}
 use Rattle.label_base.proofs.BoundedLemmas.{IsGreatest, any_at, greater_below, greatest_agree}
 use Rattle.label_base.proofs.BoundedLemmas.{greatest_bound, greatest_is, greatest_none}
-use Rattle.label_base.proofs.BoundedLemmas.{greatest_told}
-use Rattle.pattern_match.proofs.Cutting.{cut_behind_start}
-use Rattle.pattern_match.proofs.Holding.{holds_tells}
+use Rattle.label_base.proofs.BoundedLemmas.{greatest_shown}
+use Rattle.pattern_syntax.proofs.BehindLemmas.{cut_behind_start}
+use Rattle.pattern_match.proofs.Holding.{holds_shows}
 use Rattle.pattern_syntax.specs.Language.{holds}
 use Rattle.pattern_syntax.specs.Literal.{literal_start_of}
 use Rattle.spec_match.specs.Alive.{pattern_at}
@@ -152,7 +152,7 @@ next_begun n p q at e = record { bound = n; within = omega arith; leads = e; sam
 module _ (n : ℕ) (p q : ℕ → Bool) (at i : ℕ) (here : suc i ≡ at) (next : IsNext n p q at) where
   place : IsGreatest next.bound p (Some i)
   place = subst (IsGreatest next.bound p)
-      (linked (greatest_below next.bound p) i (here ∙ next.leads)) (greatest_told next.bound p)
+      (linked (greatest_below next.bound p) i (here ∙ next.leads)) (greatest_shown next.bound p)
 
   pub next_within : i < n
   next_within = let l : i < next.bound = place.0 in omega (arith, l, next.within)
@@ -195,7 +195,7 @@ next_ended n p q at e next =
     let none : IsGreatest next.bound p None =
     subst (IsGreatest next.bound p)
     (unlinked (greatest_below next.bound p) (sym e ∙ next.leads))
-    (greatest_told next.bound p) in
+    (greatest_shown next.bound p) in
     sym (next.same ∙ greatest_none next.bound (λ i. p i && q i)
     (λ j l. and_left (p j) (q j) (none j l)))
 
@@ -290,7 +290,7 @@ module _ (asked : Asked) (text : List ℕ) where
       let start = literal_start_of spec.pattern in
       let held : holds spec.pattern text ≡ true =
       second_so (applies spec.kind asked) (holds spec.pattern text) t in
-      let cut = (cut_behind_start spec.pattern text).0 ((holds_tells spec.pattern text).0 held) in
+      let cut = (cut_behind_start spec.pattern text).0 ((holds_shows spec.pattern text).0 held) in
       let front : take (length start) text ≡ start = ap (take (length start)) cut.1
       ∙ take-append_seam start cut.0 in
       let low : length start < suc (length text) =
@@ -345,4 +345,4 @@ module _ (asked : Asked) (text : List ℕ) where
   answer_by (r ∷ rules) found e =
       subst (IsAnswer asked text (map spec_in (r ∷ rules))) (sym e)
       (answered (r ∷ rules) r (greatest_below (length (r ∷ rules)) (fits_at asked text (r ∷ rules)))
-      (greatest_told (length (r ∷ rules)) (fits_at asked text (r ∷ rules))))
+      (greatest_shown (length (r ∷ rules)) (fits_at asked text (r ∷ rules))))

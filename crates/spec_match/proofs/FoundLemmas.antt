@@ -13,7 +13,7 @@ use Rattle.std.proofs.lemmas.Bool.{cases_lt}
 use Rattle.std.proofs.lemmas.List.{length-map}
 use Rattle.file_paths.specs.Path.{Path}
 use Rattle.label_base.specs.Bounded.{greatest_below}
-use Rattle.label_base.proofs.BoundedLemmas.{IsGreatest, greatest_told}
+use Rattle.label_base.proofs.BoundedLemmas.{IsGreatest, greatest_shown}
 use Rattle.pattern_syntax.specs.Literal.{literal_start_of}
 use Rattle.spec_match.specs.Alive.{pattern_at}
 use Rattle.spec_match.specs.Chains.{bucket_of, is_in_bucket, link, own_bucket, starts_at}
@@ -135,7 +135,7 @@ greatest_here : (bound i : ℕ) (p : ℕ → Bool) (next : ℕ) → suc i ≡ ne
     → next ≡ link (greatest_below bound p) → IsGreatest bound p (Some i)
 greatest_here bound i p next here leads =
     subst (IsGreatest bound p) (linked (greatest_below bound p) i (here ∙ leads))
-    (greatest_told bound p)
+    (greatest_shown bound p)
 
 module _ (path : Path) (rules : List CompiledSpec) (count bucket at : ℕ) where
   -- of those in a bucket the ones from some specification on were tried
@@ -198,7 +198,7 @@ module _ (path : Path) (rules : List CompiledSpec) (count bucket at : ℕ) where
   going_ended next old new end g =
       let p = is_in_bucket rules count bucket in
       let none = subst (IsGreatest g.bound p)
-      (unlinked (greatest_below g.bound p) (sym end ∙ g.leads)) (greatest_told g.bound p) in
+      (unlinked (greatest_below g.bound p) (sym end ∙ g.leads)) (greatest_shown g.bound p) in
       added_as path (map spec_in rules)
       (λ j. (g.bound ≤ j) × (j < length rules) × (p j ≡ true) × (starts_at rules at j ≡ true))
       (λ j. (j < length rules) × (p j ≡ true) × (starts_at rules at j ≡ true))

@@ -10,8 +10,8 @@ use Rattle.std.proofs.lemmas.List.{drop_all, drop_more, get_or_default}
 use Rattle.std.proofs.lemmas.List.Sorted.{Contains-permutation}
 use Rattle.file_paths.specs.Path.{Path, path_text}
 use Rattle.file_paths.specs.declared.path.TheConstants.{SLASH}
-use Rattle.pattern_match.proofs.Cutting.{cut_behind_start}
-use Rattle.pattern_match.proofs.Quotients.{below_tells}
+use Rattle.pattern_syntax.proofs.BehindLemmas.{cut_behind_start}
+use Rattle.pattern_match.proofs.Quotients.{below_shows}
 use Rattle.pattern_match.specs.States.{Below}
 use Rattle.pattern_syntax.specs.Language.{Opens}
 use Rattle.pattern_syntax.specs.Literal.{literal_start_of}
@@ -231,7 +231,7 @@ all_found path rules keys text hash below none mid new empty same own goes front
       let within = decides_within path rules i d in
       let near = below_near (pattern_at (patterns_of rules) i) path
       (subst (λ t. Below t path) (tree_at path rules i d)
-      ((below_tells d.0.pattern path).0 d.2)) in
+      ((below_shows d.0.pattern path).0 d.2)) in
       let key = goes ∙ ap (λ h. mixed h SLASH) (own ∙ ap (hashed 0) same) in
       elim near [
         | inl w ↦ b.kept i (a.all i (w.0, same ∙ w.1) d)

@@ -7,7 +7,7 @@ use Rattle.std.specs.Prelude.{filter, Option, Some, None, slice_get, option_and_
 use Rattle.std.specs.List.{enumerate_from, last_or}
 use Rattle.label_base.specs.Kind.{applies}
 use Rattle.label_base.specs.declared.kind.Asked.{Asked}
-use Rattle.pattern_match.proofs.Holding.{holds_tells}
+use Rattle.pattern_match.proofs.Holding.{holds_shows}
 use Rattle.spec_match.specs.LastMatch.{fits, Fits, Decides, last_index, last_match}
 use Rattle.spec_match.specs.StatesFor.{spec_in}
 use Rattle.spec_match.specs.declared.compiled_spec.CompiledSpec.{CompiledSpec}
@@ -112,15 +112,15 @@ module _ (asked : Asked) (text : List ℕ) where
   unfolding last_match
   none_member rules h = sym (ap (last_or None) h)
 
-  fit_tells : (spec : SpecValue) → (fits asked text spec ≡ true → Fits asked text spec)
+  fit_shows : (spec : SpecValue) → (fits asked text spec ≡ true → Fits asked text spec)
       × (Fits asked text spec → fits asked text spec ≡ true)
-  fit_tells spec = (
+  fit_shows spec = (
     λ e. (
       first_so (applies spec.kind asked) _ e,
-      (holds_tells spec.pattern text).0
+      (holds_shows spec.pattern text).0
           (second_so (applies spec.kind asked) _ e),
     ),
-    λ f. and_from (applies spec.kind asked) _ f.0 ((holds_tells spec.pattern text).1 f.1),
+    λ f. and_from (applies spec.kind asked) _ f.0 ((holds_shows spec.pattern text).1 f.1),
   )
 
   none_fits : (specs : List SpecValue) → filter (fits asked text) specs ≡ []
@@ -128,7 +128,7 @@ module _ (asked : Asked) (text : List ℕ) where
   none_fits [] h j spec g f = cc
   none_fits (s ∷ specs) h zero spec g f =
       let e : s ≡ spec = cc in
-      let t : fits asked text s ≡ true = ap (fits asked text) e ∙ (fit_tells spec).1 f in
+      let t : fits asked text s ≡ true = ap (fits asked text) e ∙ (fit_shows spec).1 f in
       let n : cond true (s ∷ filter (fits asked text) specs) (filter (fits asked text) specs) ≡ [] =
       ap (λ v. cond v (s ∷ filter (fits asked text) specs) (filter (fits asked text) specs))
       (sym t) ∙ h in cc
@@ -157,7 +157,7 @@ module _ (asked : Asked) (text : List ℕ) where
   found_decides rules i d h t e = record {
     spec = spec_in (get_or rules i d);
     found = at_place rules i d h;
-    fits = (fit_tells (spec_in (get_or rules i d))).0 t;
+    fits = (fit_shows (spec_in (get_or rules i d))).0 t;
     last = λ j later l g f. none_past rules (suc i) j later (omega (arith, l)) e g f;
   }
 

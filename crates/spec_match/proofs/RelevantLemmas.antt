@@ -5,7 +5,7 @@ use Rattle.std.proofs.Common.{map, filter, append_assoc, append-nil, arith}
 use Rattle.std.proofs.lemmas.List.{get_or_default}
 use Rattle.std.specs.List.{enumerate_from}
 use Rattle.file_paths.specs.Path.{Path, is_root_path, path_text}
-use Rattle.pattern_match.proofs.Holding.{holds_tells}
+use Rattle.pattern_match.proofs.Holding.{holds_shows}
 use Rattle.pattern_match.proofs.Quotients.{below_test}
 use Rattle.pattern_match.proofs.Reading.{none_below}
 use Rattle.pattern_match.specs.States.{StandsFor}
@@ -20,10 +20,10 @@ use Rattle.spec_match.proofs.AnswerLemmas.{count_rules, pattern_of_rule}
 use Rattle.spec_reader.specs.SpecValue.{SpecValue}
 
 -- a test that is that of membership tells it
-pub accepts_tells : (t : Tree) (text : List ℕ) (v : Bool) → v ≡ holds t text
+pub accepts_shows : (t : Tree) (text : List ℕ) (v : Bool) → v ≡ holds t text
     → (v ≡ true → In t text) × (In t text → v ≡ true)
-accepts_tells t text v e =
-    (λ q. (holds_tells t text).0 (sym e ∙ q), λ i. e ∙ (holds_tells t text).1 i)
+accepts_shows t text v e =
+    (λ q. (holds_shows t text).0 (sym e ∙ q), λ i. e ∙ (holds_shows t text).1 i)
 
 module _ (path : Path) where
   -- those of the specifications from one on

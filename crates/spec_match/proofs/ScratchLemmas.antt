@@ -5,7 +5,7 @@ use Rattle.std.proofs.lemmas.List.{get_or_default, length-map}
 use Rattle.spec_match.proofs.ChainLemmas.{before_or_last}
 use Rattle.pattern_match.specs.States.{AreStatesOf, HasRoomFor, Progress, Working}
 use Rattle.pattern_match.specs.States.{words_by, words_for}
-use Rattle.pattern_match.specs.Starts.{behind_start}
+use Rattle.pattern_syntax.specs.Starts.{behind_start}
 use Rattle.pattern_match.proofs.OneText.{nothing_is_bare}
 use Rattle.pattern_match.proofs.Ready.{marks_counted}
 use Rattle.pattern_syntax.specs.Tree.{Tree, Nothing}

@@ -88,7 +88,7 @@ answers_kept IsFor specs lists new row m =
     weaker (IsListNoted IsFor specs lists) (IsListNoted IsFor specs (lists ++ new ∷ [])) row
     (λ p v h. record {
       within = omega (arith, h.within, length-append lists (new ∷ []));
-      told = λ text a. h.told text
+      answer = λ text a. h.answer text
           (subst (λ list. IsFor text list) (list_kept lists (new ∷ []) (p / 9) h.within) a);
     }) m
 
@@ -191,10 +191,10 @@ step_noted ps specs k from byte to t f b o leads = record {
 }
 
 -- what the flag of a list tells
-pub stays_told : (ps : List Tree) (specs : List SpecValue) (k : Kept) (number : ℕ) (flag : Bool)
+pub stays_shown : (ps : List Tree) (specs : List SpecValue) (k : Kept) (number : ℕ) (flag : Bool)
     → IsTableOf ps specs k → number < length k.lists → flag ≡ get_or k.stays number flag
     → flag ≡ true → Stays (IsListed k.cuts ps specs) (alive_list k.lists number)
-stays_told ps specs k number flag t l e is =
+stays_shown ps specs k number flag t l e is =
     t.stays number l (get_or_default k.stays number false flag (omega (arith, t.stays_rows, l))
     ∙ sym e ∙ is)
 
@@ -230,7 +230,7 @@ pub answer_noted : (ps : List Tree) (specs : List SpecValue) (k : Kept) (list nu
     → ((text : List ℕ) → IsListed k.cuts ps specs text (alive_list k.lists list)
     → IsAnswer asked text specs found) → ((v : ℕ) → x ≡ suc v → found ≡ decoded v)
     → IsTableOf ps specs (kept k.cuts k.lists k.next (set k.answers (9 * list + number) x) k.stays)
-answer_noted ps specs k list number asked x found n b t l told code = record {
+answer_noted ps specs k list number asked x found n b t l answer code = record {
   own = t.own;
   first = t.first;
   rows = t.rows;
@@ -244,9 +244,9 @@ answer_noted ps specs k list number asked x found n b t l told code = record {
       ∙ ap asked_numbered (sym n) in
       rw (q, r) (record {
         within = l;
-        told = λ text a. subst
+        answer = λ text a. subst
             (λ w. IsAnswer (asked_numbered number) text specs w) (code v e)
-            (subst (λ w. IsAnswer w text specs found) same (told text a));
+            (subst (λ w. IsAnswer w text specs found) same (answer text a));
       })) t.answers;
   stays_rows = t.stays_rows;
   stays = t.stays;
@@ -267,7 +267,7 @@ answer_recalled ps specs k list number asked known n b t l e h text a =
     k.answers p known t.answers (omega (arith, t.answer_rows, l, b)) e h in
     let had = subst (λ n. Is n number) q (subst (λ n. Is (p / 9) n) r there) in
     subst (λ w. IsAnswer w text specs (decoded (known - 1)))
-    (ap asked_numbered n ∙ asked_back asked) (had.told text a)
+    (ap asked_numbered n ∙ asked_back asked) (had.answer text a)
 
 pub grown_by : (old new : List (List Alive)) (i : ℕ) → IsGrown old new → i < length old
     → alive_list new i ≡ alive_list old i

@@ -7,7 +7,7 @@ use Rattle.pattern_syntax.specs.Tree.{Tree, Nothing, tree_code}
 use Rattle.pattern_syntax.specs.Language.{holds}
 use Rattle.pattern_syntax.specs.Literal.{literal_start_of}
 use Rattle.pattern_match.specs.Compiled.{AreTablesOf, are_tables}
-use Rattle.pattern_match.specs.Starts.{behind_start}
+use Rattle.pattern_syntax.specs.Starts.{behind_start}
 use Rattle.spec_match.specs.declared.membership.Membership.{Membership}
 use Rattle.spec_match.specs.declared.membership.Membership.TheVariants.{ByStart, ByMatcher}
 

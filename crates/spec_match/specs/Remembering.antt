@@ -84,7 +84,7 @@ decoded (suc i) = Some i
 pub record HasAnswer (IsFor : List ℕ → List Alive → Type 0) (specs : List SpecValue)
     (lists : List (List Alive)) (number asked code : ℕ) : Type 0 where
   pub within : number < length lists
-  pub told : (text : List ℕ) → IsFor text (alive_list lists number)
+  pub answer : (text : List ℕ) → IsFor text (alive_list lists number)
       → IsAnswer (asked_numbered asked) text specs (decoded code)
 
 abbrev pub IsListNoted : (List ℕ → List Alive → Type 0) → List SpecValue → List (List Alive)

@@ -66,7 +66,7 @@ pub fn first_fit(
     requires own { AreOwnLists (patterns_of rules.now) list.now.lists.now.lists }
     requires list { list.now.number < length list.now.lists.now.lists }
     ensures states { AreStatesFor (patterns_of rules.now) states.new }
-    ensures told { (cuts : Bool) (text : List ℕ)
+    ensures answer { (cuts : Bool) (text : List ℕ)
         → IsListed cuts (patterns_of rules.now) (map spec_in rules.now) text (list_seen list.now)
         → IsAnswer asked text (map spec_in rules.now) result }
 {

@@ -77,7 +77,7 @@ impl Carried {
         requires scratch { IsScratchOf rules.now scratch.old }
         requires own { IsCarriedOf rules.now self.now }
         ensures own { IsScratchOf rules.now scratch.new }
-        ensures told { (path : Path) → StandsAt rules.now self.now path
+        ensures answer { (path : Path) → StandsAt rules.now self.now path
             → IsAnswer asked (path_text (path ++ name.now ∷ [])) rules.now result }
         ensures count { steps.new ≡ steps.old + 1 }
     {

@@ -168,7 +168,7 @@ pub fn first_child_fit(
     requires own { All (IsOwn (patterns_of rules.now)) from.now }
     ensures states { AreStatesFor (patterns_of rules.now) trials.new.states }
     ensures within { IfSome result (λ i. i < length rules.now) }
-    ensures told { (path : Path) → IsAliveAt rules.now query.now.is_root from.now path
+    ensures answer { (path : Path) → IsAliveAt rules.now query.now.is_root from.now path
         → IsAnswer query.now.asked (path_text (path ++ query.now.name.now ∷ []))
         (map spec_in rules.now) result }
 {

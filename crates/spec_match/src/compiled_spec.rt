@@ -5,8 +5,8 @@ ghost use Rattle.label_base.specs.Kind.{applies, same_kind};
 ghost use Rattle.pattern_syntax.specs.Language.{Opens, holds};
 ghost use Rattle.pattern_syntax.specs.Literal.{literal_start_of};
 ghost use Rattle.pattern_match.specs.Onwards.{TakesAll};
-ghost use Rattle.pattern_match.specs.Settled.{StatesStay};
-ghost use Rattle.pattern_match.specs.Starts.{behind_start};
+ghost use Rattle.pattern_match.specs.Settled.{StatesLeadOnward, StatesStay};
+ghost use Rattle.pattern_syntax.specs.Starts.{behind_start};
 ghost use Rattle.pattern_match.specs.States.{AreStatesOf, HasRoomFor, StandsFor, words_for};
 ghost use Rattle.spec_match.specs.LastMatch.{fits};
 ghost use Rattle.file_paths.specs.Path.{Path, is_root_path, path_text};
@@ -138,10 +138,12 @@ impl CompiledSpec {
     }
 
     /// Whether the specification fits the text that was read and each text that begins with it,
-    /// whatever kind is asked for. It may say false where that is so.
+    /// whatever kind is asked for, as far as single places of its automaton tell that.
     pub fn covers(&self, states: &States) -> bool
         requires { AreStatesOf self.now.spec.pattern states.now.known }
         ensures any { result ≡ true → self.now.spec.kind ≡ None }
+        ensures exact { self.now.spec.kind ≡ None
+            → IsTrue result ↔ StatesLeadOnward self.now.spec.pattern states.now.known }
         ensures holds { result ≡ true → (text : List ℕ)
             → StandsFor self.now.spec.pattern states.now.known text
             → TakesAll self.now.spec.pattern text }
@@ -153,7 +155,7 @@ impl CompiledSpec {
     }
 
     /// Whether the states stand as well for the text with one more byte, whichever it is, other
-    /// than 0. It may say false where they do.
+    /// than 0, as far as single places of the automaton tell that.
     pub fn stays(&self, states: &States) -> bool
         requires { AreStatesOf self.now.spec.pattern states.now.known }
         ensures exact { IsTrue result ↔ StatesStay self.now.spec.pattern states.now.known }

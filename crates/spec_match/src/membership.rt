@@ -1,7 +1,7 @@
 ghost use Rattle.std.specs.Prelude.{◌≡◌, ◌↔◌, ◌<◌, ◌++◌, ◌∷◌, ℕ, List, [], true, IfOk, IsTrue};
 ghost use Rattle.pattern_syntax.specs.Language.{Opens, holds};
 ghost use Rattle.pattern_syntax.specs.Tree.{Nothing};
-ghost use Rattle.pattern_match.specs.Starts.{behind_start};
+ghost use Rattle.pattern_syntax.specs.Starts.{behind_start};
 ghost use Rattle.pattern_match.specs.Onwards.{TakesAll};
 ghost use Rattle.pattern_match.specs.Settled.{StatesLeadOnward, StatesStay};
 ghost use Rattle.pattern_match.specs.States.{AreStatesOf, HasRoomFor, StandsFor, words_for};

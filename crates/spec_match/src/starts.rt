@@ -132,7 +132,8 @@ impl Starts {
         requires starts { AreStartsOf rules.now self.now }
         requires states { AreStatesFor (patterns_of rules.now) trials.old.states }
         ensures states { AreStatesFor (patterns_of rules.now) trials.new.states }
-        ensures told { IsAnswer query.now.asked query.now.text.now (map spec_in rules.now) result }
+        ensures answer { IsAnswer query.now.asked query.now.text.now (map spec_in rules.now)
+            result }
     {
         let text = query.text;
         let count = self.heads.len() as u64;

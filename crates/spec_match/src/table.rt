@@ -441,7 +441,7 @@ impl Table {
         ensures draft { self.new.lists.draft ≡ [] }
         ensures lists { self.new.lists.lists ≡ self.old.lists.lists }
         ensures trail { trace_in self.new.trail ≡ trace_in self.old.trail }
-        ensures told { (text : List ℕ)
+        ensures answer { (text : List ℕ)
             → list_for rules.now self.old text (alive_list self.old.lists.lists list)
             → IsAnswer asked text (map spec_in rules.now) result }
     {
@@ -582,7 +582,7 @@ impl Table {
         ensures cuts { self.new.cuts ≡ self.old.cuts }
         ensures draft { self.new.lists.draft ≡ [] }
         ensures trail { IsTrailFor rules.now self.new }
-        ensures told { IfSome result (λ found.
+        ensures answer { IfSome result (λ found.
             IsAnswer query.now.asked query.now.text.now (map spec_in rules.now) found) }
     {
         match self.reach(rules, states, query.text) {

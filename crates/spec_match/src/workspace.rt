@@ -56,7 +56,8 @@ impl Workspace {
         requires ready { IsWorkspaceFor rules.now self.old }
         requires starts { AreStartsOf rules.now starts.now }
         ensures ready { IsWorkspaceFor rules.now self.new }
-        ensures told { IsAnswer query.now.asked query.now.text.now (map spec_in rules.now) result }
+        ensures answer { IsAnswer query.now.asked query.now.text.now (map spec_in rules.now)
+            result }
     {
         match self.table.look_up(rules, &mut self.trials.states, query) {
             Some(found) => found,
@@ -75,7 +76,7 @@ impl Workspace {
         requires own { All (IsOwn (patterns_of rules.now)) from.now }
         ensures ready { IsWorkspaceFor rules.now self.new }
         ensures within { IfSome result (λ i. i < length rules.now) }
-        ensures told { (path : Path) → IsAliveAt rules.now query.now.is_root from.now path
+        ensures answer { (path : Path) → IsAliveAt rules.now query.now.is_root from.now path
             → IsAnswer query.now.asked (path_text (path ++ query.now.name.now ∷ []))
             (map spec_in rules.now) result }
     {

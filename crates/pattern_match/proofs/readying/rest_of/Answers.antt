@@ -1,4 +1,4 @@
-use Rattle.pattern_match.proofs.Cutting.{parts_are}
+use Rattle.pattern_syntax.proofs.BehindLemmas.{parts_are}
 use Rattle.pattern_match.proofs.readying.rest_of.Goals as goal
 
 pub returns : goal.returns

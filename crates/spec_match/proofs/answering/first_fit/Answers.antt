@@ -33,8 +33,8 @@ returns-then-does_fit-clause-states c =
     states_kept (patterns_of c.args.rules.now) c.alive.states c.does_fit.new.states
     c.does_fit.ensures.room c.alive.invariant.states
 
-pub returns-then-does_fit-clause-told : goal.returns-then-does_fit-clause-told
-returns-then-does_fit-clause-told c = λ cuts text h.
+pub returns-then-does_fit-clause-answer : goal.returns-then-does_fit-clause-answer
+returns-then-does_fit-clause-answer c = λ cuts text h.
     let list = list_seen c.args.list.now in
     let rule = c.index-rules-i.result in
     let own = c.requires.own c.args.list.now.number c.requires.list c.alive.k no_alive
@@ -66,8 +66,8 @@ alive-preserved c =
           (c.does_fit.ensures.value text) c.if-does_fit.false (c.alive.invariant.passed text));
     }
 
-pub returns-clause-told : goal.returns-clause-told
-returns-clause-told c = λ cuts text h.
+pub returns-clause-answer : goal.returns-clause-answer
+returns-clause-answer c = λ cuts text h.
     none_listed c.args.asked cuts text c.args.rules.now
     (list_seen c.args.list.now) c.alive.k (omega arith)
     (c.alive.invariant.passed text) h

@@ -33,8 +33,8 @@ returns-then-does_fit_child-clause-states c =
     c.does_fit_child.new.trials.states
     (c.does_fit_child.ensures.room ∙ c.load.ensures.room) c.alive.invariant.states
 
-pub returns-then-does_fit_child-clause-told : goal.returns-then-does_fit_child-clause-told
-returns-then-does_fit_child-clause-told c = λ path at.
+pub returns-then-does_fit_child-clause-answer : goal.returns-then-does_fit_child-clause-answer
+returns-then-does_fit_child-clause-answer c = λ path at.
     let rules = c.args.rules.now in
     let list = c.args.from.now in
     let k = c.alive.k in
@@ -80,8 +80,8 @@ alive-preserved c =
           (c.alive.invariant.passed path r));
     }
 
-pub returns-clause-told : goal.returns-clause-told
-returns-clause-told c = λ path at.
+pub returns-clause-answer : goal.returns-clause-answer
+returns-clause-answer c = λ path at.
     none_found c.args.query.now.asked (path_text path)
     (path_text (path ++ c.args.query.now.name.now ∷ []))
     (dead_child c.args.query.now.asked path c.args.query.now.name.now) c.args.rules.now

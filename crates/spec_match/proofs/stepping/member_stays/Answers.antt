@@ -1,5 +1,5 @@
 use Rattle.std.proofs.Common.{subst}
-use Rattle.pattern_match.proofs.Standing.{Tells}
+use Rattle.pattern_match.proofs.Standing.{Shows}
 use Rattle.pattern_match.specs.Settled.{StatesStay}
 use Rattle.spec_match.specs.Alive.{alive_at}
 use Rattle.spec_match.specs.ListsSeen.{list_seen}
@@ -15,5 +15,5 @@ load-requires-clause-width c =
 
 pub returns-clause-exact : goal.returns-clause-exact
 returns-clause-exact c =
-    subst (λ known. Tells c.stays.result (StatesStay c.args.rule.now.spec.pattern known))
+    subst (λ known. Shows c.stays.result (StatesStay c.args.rule.now.spec.pattern known))
     c.load.ensures.known c.stays.ensures.exact

@@ -1,7 +1,7 @@
 use Rattle.std.proofs.Common.{length, refl, ◌≡◌, ◌∙◌, ap, false}
 use Rattle.pattern_syntax.specs.Literal.{literal_start_of}
-use Rattle.pattern_match.specs.Starts.{behind_start}
-use Rattle.pattern_match.proofs.Standing.{known_is, not_accepted, accepted, tells_holds}
+use Rattle.pattern_syntax.specs.Starts.{behind_start}
+use Rattle.pattern_match.proofs.Standing.{known_is, not_accepted, accepted, shows_holds}
 use Rattle.pattern_match.proofs.matcher.Matcher.accepts.Goals as goal
 
 pub returns-then-states-start-clause-language : goal.returns-then-states-start-clause-language
@@ -21,7 +21,7 @@ returns-then-states-start-clause-value c =
     ∙ ap literal_start_of c.self.view_is in
     let m : c.self.inside.machine ≡ behind_start c.args.self.now = c.self.invariant.behind
     ∙ ap behind_start c.self.view_is in
-    λ text h. tells_holds c.args.self.now text false
+    λ text h. shows_holds c.args.self.now text false
     (not_accepted c.args.self.now c.self.inside.start.now c.self.inside.machine s m
     (record { seen = c.states.inside.seen; marks = c.states.inside.marks.marks })
     c.args.states.now.known
@@ -46,7 +46,7 @@ returns-clause-value c =
     ∙ ap literal_start_of c.self.view_is in
     let m : c.self.inside.machine ≡ behind_start c.args.self.now = c.self.invariant.behind
     ∙ ap behind_start c.self.view_is in
-    λ text h. tells_holds c.args.self.now text c.accepts.result
+    λ text h. shows_holds c.args.self.now text c.accepts.result
     (accepted c.args.self.now c.self.inside.start.now c.self.inside.machine s m
     (record { seen = c.states.inside.seen; marks = c.states.inside.marks.marks })
     c.args.states.now.known

@@ -1,7 +1,7 @@
 use Rattle.std.proofs.Common.{refl, ◌≡◌, ◌∙◌, sym, ap, false}
 use Rattle.pattern_syntax.specs.Literal.{literal_start_of}
-use Rattle.pattern_match.specs.Starts.{behind_start}
-use Rattle.pattern_match.proofs.Standing.{matches_not, matches_rest, whole_rest, tells_holds}
+use Rattle.pattern_syntax.specs.Starts.{behind_start}
+use Rattle.pattern_match.proofs.Standing.{matches_not, matches_rest, whole_rest, shows_holds}
 use Rattle.pattern_match.proofs.matcher.Matcher.matches.Goals as goal
 
 pub returns-then-not-begins_with-clause-language : goal.returns-then-not-begins_with-clause-language
@@ -20,7 +20,7 @@ returns-then-not-begins_with-clause-value c =
     ∙ ap literal_start_of c.self.view_is in
     let m : c.self.inside.machine ≡ behind_start c.args.self.now = c.self.invariant.behind
     ∙ ap behind_start c.self.view_is in
-    tells_holds c.args.self.now c.args.text.now false
+    shows_holds c.args.self.now c.args.text.now false
     (matches_not c.args.self.now c.self.inside.start.now c.self.inside.machine s m c.args.text.now
     c.self.inside.start.now refl (sym c.begins_with.ensures.value
     ∙ c.if-not-begins_with.true))
@@ -42,7 +42,7 @@ returns-clause-value c =
     ∙ ap literal_start_of c.self.view_is in
     let m : c.self.inside.machine ≡ behind_start c.args.self.now = c.self.invariant.behind
     ∙ ap behind_start c.self.view_is in
-    tells_holds c.args.self.now c.args.text.now c.matches.result
+    shows_holds c.args.self.now c.args.text.now c.matches.result
     (matches_rest c.args.self.now c.self.inside.start.now c.self.inside.machine s m c.args.text.now
     c.self.inside.start.now _ c.matches.result refl
     (sym c.begins_with.ensures.value ∙ c.if-not-begins_with.false)

@@ -1,7 +1,7 @@
 use Rattle.std.proofs.Common.{◌∙◌, ap, sym}
 use Rattle.pattern_syntax.specs.Literal.{literal_start_of}
-use Rattle.pattern_match.specs.Starts.{behind_start}
-use Rattle.pattern_match.proofs.Cutting.{joined_whole}
+use Rattle.pattern_syntax.specs.Starts.{behind_start}
+use Rattle.pattern_syntax.proofs.BehindLemmas.{joined_whole}
 use Rattle.pattern_match.proofs.matcher.Matcher.new.Goals as goal
 
 pub invariant_of-result : goal.invariant_of-result

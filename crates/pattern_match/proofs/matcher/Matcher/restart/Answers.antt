@@ -1,6 +1,6 @@
 use Rattle.std.proofs.Common.{◌≡◌, ◌∙◌, ap}
 use Rattle.pattern_syntax.specs.Literal.{literal_start_of}
-use Rattle.pattern_match.specs.Starts.{behind_start}
+use Rattle.pattern_syntax.specs.Starts.{behind_start}
 use Rattle.pattern_match.proofs.Standing.{started}
 use Rattle.pattern_match.proofs.matcher.Matcher.restart.Goals as goal
 

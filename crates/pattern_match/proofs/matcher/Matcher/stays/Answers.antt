@@ -1,6 +1,6 @@
 use Rattle.std.proofs.Common.{length, refl, ◌≡◌, ◌∙◌, ap, arith}
 use Rattle.pattern_syntax.specs.Literal.{literal_start_of}
-use Rattle.pattern_match.specs.Starts.{behind_start}
+use Rattle.pattern_syntax.specs.Starts.{behind_start}
 use Rattle.pattern_match.proofs.Standing.{known_is, stays_dead, stays_behind, stays_past}
 use Rattle.pattern_match.proofs.Standing.{stays_before}
 use Rattle.pattern_match.proofs.Standing.{stays_at}

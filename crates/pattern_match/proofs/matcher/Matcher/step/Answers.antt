@@ -1,6 +1,6 @@
 use Rattle.std.proofs.Common.{refl, ◌≡◌, ◌∙◌, sym, ap, arith}
 use Rattle.pattern_syntax.specs.Literal.{literal_start_of}
-use Rattle.pattern_match.specs.Starts.{behind_start}
+use Rattle.pattern_syntax.specs.Starts.{behind_start}
 use Rattle.pattern_match.proofs.Standing.{known_is, steps_start, steps_other, steps_dead}
 use Rattle.pattern_match.proofs.Standing.{steps_bare}
 use Rattle.pattern_match.proofs.Standing.{steps_behind}

@@ -1,6 +1,6 @@
 use Rattle.std.proofs.Common.{length, refl, ◌≡◌, ◌∙◌, ap}
 use Rattle.pattern_syntax.specs.Literal.{literal_start_of}
-use Rattle.pattern_match.specs.Starts.{behind_start}
+use Rattle.pattern_syntax.specs.Starts.{behind_start}
 use Rattle.pattern_match.proofs.Standing.{known_is, takes_all, leads_at, leads_not}
 use Rattle.pattern_match.proofs.matcher.Matcher.takes_all.Goals as goal
 

@@ -1,5 +1,5 @@
 use Rattle.std.proofs.Common.{arith, sym}
-use Rattle.pattern_match.specs.Starts.{behind_start}
+use Rattle.pattern_syntax.specs.Starts.{behind_start}
 use Rattle.pattern_match.proofs.Ready.{words_are}
 use Rattle.pattern_match.proofs.readying.PatternTables.words.Goals as goal
 

@@ -1,7 +1,7 @@
 use Rattle.std.proofs.Common.{arith}
 use Rattle.pattern_syntax.specs.Reading.{Reading}
 use Rattle.pattern_syntax.specs.Building.{IsBuilderOf}
-use Rattle.pattern_syntax.proofs.RestLemmas.{full_told, not_full}
+use Rattle.pattern_syntax.proofs.RestLemmas.{full_shown, not_full}
 use Rattle.pattern_syntax.proofs.builder.Builder.is_full.Goals as goal
 
 pub returns-then-open_groups-gt0 : goal.returns-then-open_groups-gt0
@@ -10,5 +10,5 @@ returns-then-open_groups-gt0 c = λ (read : Reading) (s : IsBuilderOf c.args.sel
 
 pub returns : goal.returns
 returns c = λ (read : Reading) (s : IsBuilderOf c.args.self.now read).
-    full_told c.args.self.now read c.unwrap_or.result c.sum.result s (omega arith)
+    full_shown c.args.self.now read c.unwrap_or.result c.sum.result s (omega arith)
     c.unwrap_or.ensures c.sum.ensures

@@ -1,5 +1,5 @@
 use Rattle.std.proofs.Common.{◌∙◌}
-use Rattle.pattern_syntax.proofs.LiteralLemmas.{text_begins}
+use Rattle.pattern_syntax.proofs.BehindLemmas.{text_begins}
 use Rattle.pattern_syntax.proofs.pattern.Pattern.literal_start.Goals as goal
 
 pub returns-clause-begins : goal.returns-clause-begins

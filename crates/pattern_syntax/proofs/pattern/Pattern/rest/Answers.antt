@@ -1,4 +1,4 @@
-use Rattle.pattern_syntax.proofs.PartsLemmas.{rest_alone}
+use Rattle.pattern_syntax.proofs.BehindLemmas.{rest_alone}
 use Rattle.pattern_syntax.proofs.KeptLemmas.{again_whole, again_language}
 use Rattle.pattern_syntax.proofs.PlainLemmas.{below_again}
 use Rattle.pattern_syntax.proofs.pattern.Pattern.rest.Goals as goal

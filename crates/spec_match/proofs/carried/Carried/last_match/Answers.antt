@@ -31,17 +31,17 @@ returns-clause-own g c =
     scratch_of c.rules.inside.rules.items c.args.rules.now c.rules.view_is c.look_up_child.new.self
     (rw c.as_slice.ensures.value at c.look_up_child.ensures.ready)
 
-pub returns-clause-told : goal.returns-clause-told
-returns-clause-told g c = λ path at.
+pub returns-clause-answer : goal.returns-clause-answer
+returns-clause-answer g c = λ path at.
     let rules = c.rules.inside.rules.items in
     let text = path_text (path ++ c.args.name.now ∷ []) in
     let here = stands_by rules c.args.rules.now c.rules.view_is
     (record { alive = c.self.inside.alive; is_root = c.self.inside.is_root }) path
     (subst (λ (w : Carrying). StandsAt c.args.rules.now w path) (sym c.self.view_is) at) in
-    let told = (rw c.as_slice.ensures.value at c.look_up_child.ensures.told) path here in
+    let answer = (rw c.as_slice.ensures.value at c.look_up_child.ensures.answer) path here in
     let same : c.match-look_up_child.result ≡ c.look_up_child.result =
     elim c.match-look_up_child.branch
     [ in-Some w ↦ w.result-is ∙ sym w.in-Some.is | in-None w ↦ w.result-is ∙ sym w.in-None.is ]
     in
     subst (λ ss. IsAnswer c.args.asked text ss c.match-look_up_child.result) c.rules.view_is
-    (subst (λ r. IsAnswer c.args.asked text (map spec_in rules) r) (sym same) told)
+    (subst (λ r. IsAnswer c.args.asked text (map spec_in rules) r) (sym same) answer)

@@ -16,5 +16,5 @@ returns c = λ path at.
     let here = stands_by c.rules.inside.rules.items c.args.rules.now c.rules.view_is
     (record { alive = c.self.inside.alive; is_root = c.self.inside.is_root }) path
     (subst (λ (w : Carrying). StandsAt c.args.rules.now w path) (sym c.self.view_is) at) in
-    let told = (rw c.as_slice-rules.ensures.value at c.in_ok-found.ensures) path here in
-    subst (λ ss. c.in_ok-found.found.items ≡ relevant_at path ss) c.rules.view_is told
+    let answer = (rw c.as_slice-rules.ensures.value at c.in_ok-found.ensures) path here in
+    subst (λ ss. c.in_ok-found.found.items ≡ relevant_at path ss) c.rules.view_is answer

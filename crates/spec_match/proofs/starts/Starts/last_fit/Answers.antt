@@ -34,8 +34,8 @@ bytes-preserved c =
           c.bytes.invariant.seen other));
     }
 
-pub returns-clause-told : goal.returns-clause-told
-returns-clause-told c =
+pub returns-clause-answer : goal.returns-clause-answer
+returns-clause-answer c =
     let rules = c.args.rules.now in
     let text = c.args.query.now.text.now in
     let count = length c.args.self.now.heads.items in

@@ -4,7 +4,7 @@ use Rattle.spec_match.specs.Listed.{IsListed}
 use Rattle.spec_match.specs.StatesFor.{patterns_of, spec_in}
 use Rattle.spec_match.specs.Tables.{kept_in, list_for}
 use Rattle.spec_match.specs.Trail.{trace_in}
-use Rattle.spec_match.proofs.TableLemmas.{stays_told}
+use Rattle.spec_match.proofs.TableLemmas.{stays_shown}
 use Rattle.spec_match.proofs.TrailLemmas.{listed_to_end, stays_behind, trail_of_way}
 use Rattle.spec_match.proofs.table.Table.reach.Goals as goal
 
@@ -63,7 +63,7 @@ returns-then-index c =
     let list = alive_list table.lists.lists number in
     let read = c.follow-way.ensures.way.read in
     let cuts = c.follow-way.ensures.cuts ∙ c.text.invariant.cuts in
-    let stays = stays_told ps specs (kept_in table) number c.index.result.now
+    let stays = stays_shown ps specs (kept_in table) number c.index.result.now
     c.follow-way.ensures.table read.within c.index.ensures c.if-index.true in
     record {
       states = c.text.invariant.states;

@@ -5,22 +5,19 @@ use Rattle.std.proofs.Common.{append-nil, length-append}
 use Rattle.pattern_syntax.proofs.PartsLemmas.{only_byte, joined_parts, start_literal}
 use Rattle.std.specs.Cmp.{first_so, second_so}
 use Rattle.std.proofs.lemmas.List.Sums.{fold_push}
-use Rattle.std.specs.Prelude.{◌||◌, unwrap_or}
+use Rattle.std.specs.Prelude.{◌||◌, unwrap_or, ◌↔◌}
 use Rattle.std.specs.List.{list_any}
 use Rattle.pattern_syntax.specs.Tree.{Tree, tree_from, Set, Nothing, Both, Either, Repeat}
 use Rattle.pattern_syntax.specs.Language.{In}
 use Rattle.pattern_syntax.specs.Shape.{is_proper, is_sequence}
 use Rattle.pattern_syntax.specs.Literal.{single_byte, single_bytes, start_joined, literal_start_of}
-use Rattle.pattern_syntax.specs.Parts.{with_byte, bytes_tree}
-use Rattle.pattern_syntax.specs.Nodes.{after_node, after_nodes, nodes_tree}
+use Rattle.pattern_syntax.specs.Parts.{with_byte, bytes_tree, pattern_tree, Follows, IsPattern}
+use Rattle.pattern_syntax.specs.Nodes.{after_node, after_nodes, nodes_tree, trees_behind}
+use Rattle.pattern_syntax.specs.Nodes.{rest_tree}
 use Rattle.pattern_syntax.specs.declared.node.Node.{Node}
 use Rattle.pattern_syntax.specs.declared.node.Node.TheVariants as node
-use Rattle.pattern_match.specs.Starts.{unless_literal, behind_start, set_in_front, StartParts}
-use Rattle.pattern_match.specs.Starts.{with_start}
-
--- a text that goes on behind a front into a language
-abbrev pub Follows : List ℕ → Tree → List ℕ → Type 0
-Follows front tree text = (rest : List ℕ) × (text ≡ front ++ rest) × In tree rest
+use Rattle.pattern_syntax.specs.Starts.{unless_literal, behind_start, set_in_front, StartParts}
+use Rattle.pattern_syntax.specs.Starts.{with_start}
 
 one_passes : (b c : ℕ) → list_any (λ x. x == c) (b ∷ []) ≡ true → b ≡ c
 one_passes b c h = at (b == c) refl h
@@ -106,6 +103,11 @@ cut_behind_start (Either l r) text =
     (λ i. (text, refl, i), λ w. subst (λ r1. In (Either l r) r1) (sym w.1) w.2)
 cut_behind_start (Repeat least most x) text =
     (λ i. (text, refl, i), λ w. subst (λ r. In (Repeat least most x) r) (sym w.1) w.2)
+
+pub text_begins : (t : Tree) (start : List ℕ) → start ≡ literal_start_of t → (text : List ℕ)
+    → In t text → (rest : List ℕ) × (text ≡ start ++ rest)
+text_begins t start e text h = let r = (cut_behind_start t text).0 h in
+    (r.0, r.1 ∙ ap (λ (l : List ℕ). l ++ r.0) (sym e))
 
 -- nodes never look into the tree at a stack's bottom
 abbrev pub last_in_front : Tree → List Tree → List Tree
@@ -311,3 +313,27 @@ pub joined_whole : (t : Tree) (start : List ℕ) (rest : Tree) → start ≡ lit
     → rest ≡ behind_start t → with_start start rest ≡ t
 joined_whole t start rest s r = ap (λ l. with_start l rest) s
     ∙ ap (with_start (literal_start_of t)) r ∙ whole_again t
+
+-- what a pattern says of its parts
+pub starts_apart : (start : List ℕ) (rest : List Node) (t : Tree) → t ≡ pattern_tree start rest
+    → IsPattern start rest → (text : List ℕ) → In t text ↔ Follows start (rest_tree rest) text
+starts_apart start rest t v p text =
+    let l : literal_start_of t ≡ start = ap literal_start_of v ∙ p.literal in
+    let whole : after_nodes rest (bytes_tree (literal_start_of t) ∷ []) ≡ t ∷ [] =
+    ap (λ (b : List ℕ). after_nodes rest (bytes_tree b ∷ [])) l ∙ p.builds
+    ∙ ap (λ (u : Tree). u ∷ []) (sym v) in
+    let parts = parts_are t rest (ap is_proper v ∙ p.proper) whole in
+    let cut = cut_behind_start t text in (
+      λ (i : In t text). subst (λ (b : List ℕ). Follows b (rest_tree rest) text) l
+          (subst (λ (u : Tree). Follows (literal_start_of t) u text) (sym parts.behind)
+          (cut.0 i)),
+      λ (f : Follows start (rest_tree rest) text).
+          cut.1 (subst (λ (u : Tree). Follows (literal_start_of t) u text) parts.behind
+          (subst (λ (b : List ℕ). Follows b (rest_tree rest) text) (sym l) f)),
+    )
+
+pub rest_alone : (start : List ℕ) (rest : List Node) → IsPattern start rest
+    → trees_behind rest ≡ rest_tree rest ∷ []
+rest_alone start rest p =
+    let u = front_before (bytes_tree start) rest (pattern_tree start rest) p.builds in
+    u.1 ∙ ap (λ (t : Tree). t ∷ []) (sym (ap tree_from u.1))
