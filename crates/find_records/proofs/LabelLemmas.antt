@@ -37,11 +37,11 @@ spelled_at (s ∷ ss) zero spelled a h =
 spelled_at (s ∷ ss) (suc n) spelled a h = spelled_at ss n spelled a.1 h
 
 -- a spelling that was compared
-pub label_told : (known : List Spelled) (n : ℕ) (spelled : Spelled) (bytes : List ℕ)
+pub label_shown : (known : List Spelled) (n : ℕ) (spelled : Spelled) (bytes : List ℕ)
     → slice_get known n ≡ Some spelled → bytes_eq spelled.text.items bytes ≡ true
     → AreLabelsSpelled known
     → slice_get (labels_in known) n ≡ Some (label_of bytes)
-label_told known n spelled bytes h e a =
+label_shown known n spelled bytes h e a =
     label_found known n spelled h
     ∙ ap (λ l. Some l) (spelled_at known n spelled a h
     ∙ ap label_of ((bytes_eq-Decides spelled.text.items bytes).0 e))

@@ -8,7 +8,7 @@ use Rattle.std.proofs.lemmas.Option.{get_or_from_slice_get}
 use Rattle.file_paths.specs.Path.{path_names}
 use Rattle.file_paths.specs.PathText.{IsNormal}
 use Rattle.find_records.specs.Labels.{Extends}
-use Rattle.find_records.specs.Marks.{Mark, no_mark}
+use Rattle.find_records.specs.Profiles.{Profile, no_profile}
 use Rattle.find_records.specs.Places.{ArePlaces, no_record, records_at}
 use Rattle.find_records.specs.Record.{Record}
 use Rattle.find_records.specs.Rows.{AreLaid, AreWithin, Fit, moved_to, record_in, records_in}
@@ -25,7 +25,8 @@ place_at count [] i a l = absurd (omega arith)
 place_at count (p ∷ ps) zero a l = a.0
 place_at count (p ∷ ps) (suc i) a l = place_at count ps i a.1 (omega arith)
 
-pub all_fit : (t : List ℕ) (l : List Mark) (rows : List RecordRow) → AreWithin t l rows → Fit t rows
+pub all_fit : (t : List ℕ) (l : List Profile) (rows : List RecordRow) → AreWithin t l rows
+    → Fit t rows
 all_fit t l [] w = tt
 all_fit t l (r ∷ rs) w = (w.0.fits, all_fit t l rs w.1)
 
@@ -43,7 +44,8 @@ text_size : (t : List ℕ) (row : RecordRow) → row.at + row.size ≤ length t 
     ≡ row.size
 text_size t row h = length-take-le row.size (drop row.at t) (omega (arith, h, length-drop row.at t))
 
-pub laid_more : (t u v : List ℕ) (l : List Mark) (rows new newer : List RecordRow) (places : List ℕ)
+pub laid_more : (t u v : List ℕ) (l : List Profile) (rows new newer : List RecordRow)
+    (places : List ℕ)
     (i : ℕ) (row : RecordRow)
     → i < length places → slice_get rows (get_or places i 0) ≡ Some row → AreWithin t l rows
     → v ≡ u ++ row_text t row → newer ≡ new ++ moved_to (length u) row ∷ []
@@ -60,10 +62,10 @@ laid_more t u v l rows new newer places i row m r w e f laid =
     let one : record_in v l (moved_to (length u) row) ≡ record_in t l row =
     (λ j. record {
       kind = row.kind;
-      device = (get_or l row.mark no_mark).device;
+      device = (get_or l row.profile no_profile).device;
       inode = row.inode;
-      links = (get_or l row.mark no_mark).links;
-      label = (get_or l row.mark no_mark).label;
+      links = (get_or l row.profile no_profile).links;
+      label = (get_or l row.profile no_profile).label;
       path =
           path_names (text j);
     }) in
@@ -90,7 +92,7 @@ laid_more t u v l rows new newer places i row m r w e f laid =
     }
 
 -- there are as many as places
-pub laid_count : (t u : List ℕ) (l : List Mark) (rows new : List RecordRow) (places : List ℕ)
+pub laid_count : (t u : List ℕ) (l : List Profile) (rows new : List RecordRow) (places : List ℕ)
     → AreLaid t l rows places u new → length new ≡ length places
 laid_count t u l rows new places laid =
     omega (

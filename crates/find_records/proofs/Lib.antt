@@ -1,7 +1,7 @@
 pub mod LabelLemmas
 pub mod LabelledLemmas
 pub mod LayLemmas
-pub mod MarkLemmas
+pub mod ProfileLemmas
 pub mod NulCuts
 pub mod Outcomes
 pub mod RecordGrammar

@@ -58,13 +58,14 @@ read_of format limits bytes new (Err OutOfMemory) few ends taken answer =
     (bytes, taken, omega (arith, few))
 
 -- the bytes that were left are the bytes that were taken
-pub told_of : (format : Format) (limits : RecordLimits) (old new : Option (List ℕ)) (bytes : List ℕ)
+pub shown_of : (format : Format) (limits : RecordLimits) (old new : Option (List ℕ))
+    (bytes : List ℕ)
     (result : Result (List Record) RecordsFault) → length bytes ≤ limits.bytes
     → Consumes old new bytes → IfSome old (λ _. IsAtEnd new) → IsAnswer format limits bytes result
     → RecordsAsKnown format old new limits result
-told_of format limits None new bytes result few taken ends answer = tt
-told_of format limits (Some all) None bytes result few taken ends answer = absurd taken
-told_of format limits (Some all) (Some left) bytes result few taken ends answer =
+shown_of format limits None new bytes result few taken ends answer = tt
+shown_of format limits (Some all) None bytes result few taken ends answer = absurd taken
+shown_of format limits (Some all) (Some left) bytes result few taken ends answer =
     let same : all ≡ bytes = taken ∙ ap (λ t. bytes ++ t) ends ∙ append-nil bytes in
     subst (λ text. RecordsRead format text (Some left) limits result) (sym same)
     (read_of format limits bytes (Some left) result few (ap Some ends)

@@ -321,7 +321,8 @@ from_values : (format : Format) (bytes : List ℕ) (f : Fields) (meant : Result 
 from_values format bytes f (Ok found) h m = record {
   fields = f;
   cut = h;
-  told = record { kind = m.0; device = m.1; inode = m.2; links = m.3; label = m.4; path = m.5 };
+  record_is = record
+      { kind = m.0; device = m.1; inode = m.2; links = m.3; label = m.4; path = m.5 };
 }
 from_values format bytes f (Err MissingField) h m = absurd m
 from_values format bytes f (Err BadType) h m = (f, h, m)
@@ -358,8 +359,14 @@ missing_in format bytes few (inr (f, h)) = absurd (omega (arith, few, spaces_of 
 pub record_complete : (format : Format) (bytes : List ℕ) (meant : Result Record RecordWhy)
     → RecordMeans format bytes meant → record_of format bytes ≡ meant
 record_complete format bytes (Ok found) m =
-    read_as format bytes m.fields (Ok found) m.cut
-    (m.told.kind, m.told.device, m.told.inode, m.told.links, m.told.label, m.told.path)
+    read_as format bytes m.fields (Ok found) m.cut (
+      m.record_is.kind,
+      m.record_is.device,
+      m.record_is.inode,
+      m.record_is.links,
+      m.record_is.label,
+      m.record_is.path,
+    )
 record_complete format bytes (Err MissingField) m = missing_in format bytes m (divided format bytes)
 record_complete format bytes (Err BadType) (f, h, m) = read_as format bytes f (Err BadType) h m
 record_complete format bytes (Err BadNumber) (f, h, m) = read_as format bytes f (Err BadNumber) h m
@@ -385,4 +392,4 @@ counts_by Two (Some field) found h e = some_counted (number_of field) found e
 pub spelled_counts : (format : Format) (bytes : List ℕ) (found : Record)
     → SpellsRecord format bytes found → CountsBy format found.links
 spelled_counts format bytes found s = counts_by format s.fields.links found.links s.cut.links
-    s.told.links
+    s.record_is.links

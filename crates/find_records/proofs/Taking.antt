@@ -16,7 +16,7 @@ use Rattle.find_records.specs.Cause.{records_cause}
 use Rattle.find_records.specs.Grammar.{records_from, records_of}
 use Rattle.find_records.specs.Reading.{RecordsCounts, RecordsAsKnown}
 use Rattle.find_records.specs.SoFar.{meant_with}
-use Rattle.find_records.proofs.Outcomes.{counts_of, told_of}
+use Rattle.find_records.proofs.Outcomes.{counts_of, shown_of}
 use Rattle.find_records.proofs.RunGrammar.{run_means, run_of}
 
 -- so many bytes were taken, and with any bytes behind them they mean what is meant with what is
@@ -53,23 +53,23 @@ taken_more format old mid now most count more s t piece a e n h = record {
 
 -- ---- what an answer says of the bytes that were left
 
-pub told_want : (format : Format) (limits : RecordLimits) (old now : Option (List ℕ))
+pub shown_want : (format : Format) (limits : RecordLimits) (old now : Option (List ℕ))
     (bytes : List ℕ) → Consumes old now bytes → length bytes ≤ limits.bytes + 1
     → RecordsAsKnown format old now limits (Err OutOfMemory)
-told_want format limits None now bytes h n = tt
-told_want format limits (Some all) now bytes h n = (bytes, h, n)
+shown_want format limits None now bytes h n = tt
+shown_want format limits (Some all) now bytes h n = (bytes, h, n)
 
-pub told_fault : (format : Format) (limits : RecordLimits) (old now : Option (List ℕ))
+pub shown_fault : (format : Format) (limits : RecordLimits) (old now : Option (List ℕ))
     (bytes : List ℕ) → Consumes old now bytes → length bytes ≤ limits.bytes + 1
     → RecordsAsKnown format old now limits (Err ReadFault)
-told_fault format limits None now bytes h n = tt
-told_fault format limits (Some all) now bytes h n = (bytes, h, n)
+shown_fault format limits None now bytes h n = tt
+shown_fault format limits (Some all) now bytes h n = (bytes, h, n)
 
-pub told_long : (format : Format) (limits : RecordLimits) (old now : Option (List ℕ))
+pub shown_long : (format : Format) (limits : RecordLimits) (old now : Option (List ℕ))
     (bytes : List ℕ) → Consumes old now bytes → length bytes ≡ limits.bytes + 1
     → RecordsAsKnown format old now limits (Err TooLong)
-told_long format limits None now bytes h n = tt
-told_long format limits (Some all) now bytes h n = (bytes, h, n)
+shown_long format limits None now bytes h n = tt
+shown_long format limits (Some all) now bytes h n = (bytes, h, n)
 
 -- nothing is left, and this is what all bytes mean
 answered : (format : Format) (limits : RecordLimits) (old mid : Option (List ℕ)) (count : ℕ)
@@ -81,13 +81,14 @@ answered format limits old mid count s result a h =
     subst (Answers (λ records. records) records_cause result)
     (sym (a.meant []) ∙ ap (records_from format limits.records 1) (append-nil a.bytes)) h
 
-pub told_end : (format : Format) (limits : RecordLimits) (old mid now : Option (List ℕ)) (count : ℕ)
+pub shown_end : (format : Format) (limits : RecordLimits) (old mid now : Option (List ℕ))
+    (count : ℕ)
     (s : SoFar) (result : Result (List Record) RecordsFault) → IsTaken format old mid limits.records
     count s → count ≤ limits.bytes
     → IsAtEnd mid → Keeps mid now → Answers (λ records. records) records_cause result
     (meant_with s []) → RecordsAsKnown format old now limits result
-told_end format limits old mid now count s result a few ends keeps h =
-    told_of format limits old now a.bytes result (omega (arith, few, a.size))
+shown_end format limits old mid now count s result a few ends keeps h =
+    shown_of format limits old now a.bytes result (omega (arith, few, a.size))
     (Consumes-keeps old mid now a.bytes a.took keeps)
     (AtEnd-keeps old mid now a.bytes a.took ends keeps)
     (answered format limits old mid count s result a h)
@@ -102,9 +103,9 @@ counts_end format limits old mid count before now s result a same h =
     (answered format limits old mid count s result a h)
 
 -- nothing was taken
-pub told_nothing : (format : Format) (limits : RecordLimits) (old : Option (List ℕ))
+pub shown_nothing : (format : Format) (limits : RecordLimits) (old : Option (List ℕ))
     → RecordsAsKnown format old old limits (Err OutOfMemory)
-told_nothing format limits old = told_want format limits old old [] (consumes_nothing old)
+shown_nothing format limits old = shown_want format limits old old [] (consumes_nothing old)
     (omega arith)
 
 -- the records that all bytes mean are of the format

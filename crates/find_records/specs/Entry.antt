@@ -4,7 +4,7 @@ use Rattle.file_paths.specs.PathRef.{path_of}
 use Rattle.context_syntax.specs.Label.{label_of}
 use Rattle.find_records.specs.Record.{Record}
 use Rattle.find_records.specs.declared.entry.Entry.{Entry}
-use Rattle.find_records.specs.declared.entry.Told.{Told}
+use Rattle.find_records.specs.declared.entry.RawRecord.{RawRecord}
 
 -- its record
 abbrev pub entry_of : Entry → Record
@@ -18,8 +18,8 @@ entry_of e = record {
 }
 
 -- the record that is told
-abbrev pub record_told : Told → Record
-record_told t = record {
+abbrev pub record_seen : RawRecord → Record
+record_seen t = record {
   kind = t.kind;
   device = t.device;
   inode = t.inode;

@@ -71,7 +71,7 @@ links_of None = Some None
 links_of (Some field) = option_map (λ count. Some count) (number_of field)
 
 -- what the fields tell: a kind, decimal numbers of at most 64 bits, a label, an absolute path
-pub record TellsRecord (fields : Fields) (found : Record) : Type 0 where
+pub record AreFieldsOf (fields : Fields) (found : Record) : Type 0 where
   pub kind : kind_of fields.letter ≡ Some found.kind
   pub device : number_of fields.device ≡ Some found.device
   pub inode : number_of fields.inode ≡ Some found.inode
@@ -83,7 +83,7 @@ pub record TellsRecord (fields : Fields) (found : Record) : Type 0 where
 pub record SpellsRecord (format : Format) (bytes : List ℕ) (found : Record) : Type 0 where
   pub fields : Fields
   pub cut : HasFields format bytes fields
-  pub told : TellsRecord fields found
+  pub record_is : AreFieldsOf fields found
 
 -- nothing is wrong with the fields before the path
 pub record AreGoodFields (fields : Fields) : Type 0 where

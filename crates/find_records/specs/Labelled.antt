@@ -2,10 +2,10 @@
 use Rattle.std.specs.Prelude.{◌≡◌, ℕ, ◌<◌, ◌^◌, List, [], ◌∷◌, length, get_or}
 use Rattle.context_syntax.specs.declared.label.Label.{Label}
 use Rattle.context_syntax.specs.declared.label.Label.TheVariants.{Absent}
-use Rattle.find_records.specs.Marks.{AreLabelled, Mark, marks_in}
+use Rattle.find_records.specs.Profiles.{AreLabelled, Profile, profiles_in}
 use Rattle.find_records.specs.Record.{Record}
 use Rattle.find_records.specs.Rows.{AreWithin, records_in}
-use Rattle.find_records.specs.declared.mark_row.MarkRow.{MarkRow}
+use Rattle.find_records.specs.declared.profile_row.ProfileRow.{ProfileRow}
 use Rattle.find_records.specs.declared.row.RecordRow.{RecordRow}
 
 -- the record with this label
@@ -21,13 +21,13 @@ with_labels labels (number ∷ numbers) (r ∷ rs) =
 
 -- ---- how they are kept
 
--- the new rows stand for the records of the rows with these labels, by these rows of marks
-pub record ArePaired (texts : List ℕ) (marks : List Mark) (rows : List RecordRow)
-    (numbers : List ℕ) (labels : List Label) (own : List MarkRow) (new : List RecordRow)
+-- the new rows stand for the records of the rows with these labels, by these rows of profiles
+pub record ArePaired (texts : List ℕ) (profiles : List Profile) (rows : List RecordRow)
+    (numbers : List ℕ) (labels : List Label) (own : List ProfileRow) (new : List RecordRow)
     : Type 0 where
   pub known : AreLabelled (length labels) own
   pub few : length own < 2 ^ 32
   pub counted : length new ≡ length rows
-  pub same : records_in texts (marks_in labels own) new
-      ≡ with_labels labels numbers (records_in texts marks rows)
-  pub within : AreWithin texts (marks_in labels own) new
+  pub same : records_in texts (profiles_in labels own) new
+      ≡ with_labels labels numbers (records_in texts profiles rows)
+  pub within : AreWithin texts (profiles_in labels own) new

@@ -3,8 +3,8 @@ pub mod Entry
 pub mod Grammar
 pub mod Labelled
 pub mod Labels
-pub mod MarkRef
-pub mod Marks
+pub mod ProfileRef
+pub mod Profiles
 pub mod Places
 pub mod Reading
 pub mod Record

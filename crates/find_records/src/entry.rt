@@ -18,7 +18,7 @@ pub struct Entry<'a> {
 
 /// What is told of an entry, before its label and path are read.
 #[derive(Clone, Copy, Debug)]
-pub struct Told<'a> {
+pub struct RawRecord<'a> {
     pub kind: EntryKind,
     /// The number of the device on which the entry lies.
     pub device: u64,

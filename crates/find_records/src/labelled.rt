@@ -6,8 +6,8 @@ ghost use Rattle.find_records.specs.Places.{ArePlaces};
 ghost use Rattle.find_records.specs.Rows.{AreWithin};
 
 use crate::guesses::Guesses;
-use crate::mark_row::MarkRow;
-use crate::marks::{Marks, number_guessed};
+use crate::profile_row::ProfileRow;
+use crate::profiles::{Profiles, number_guessed};
 use crate::row::RecordRow;
 use context_syntax::Label;
 use label_base::{OutOfMemory, Row};
@@ -24,43 +24,43 @@ pub fn copy_labels(alloc: Global, labels: &Row<Label>) -> Result<Vec<Label>, Out
     Ok(copies)
 }
 
-// Rows, and the marks that they have.
+// Rows, and the profiles that they have.
 #[derive(Drop)]
-pub struct Marked {
-    pub marks: Vec<MarkRow>,
+pub struct Profiled {
+    pub profiles: Vec<ProfileRow>,
     pub rows: Vec<RecordRow>,
 }
 
 /// The rows as they are, but for their labels, of which each is that with this number.
-pub fn mark_rows(
+pub fn profile_rows(
     alloc: Global,
-    marks: &Marks,
+    profiles: &Profiles,
     rows: &[RecordRow],
     numbers: &[u32],
-) -> Result<Marked, OutOfMemory>
+) -> Result<Profiled, OutOfMemory>
     requires counted { length numbers.now ≡ length rows.now }
-    requires known { AllByRecursion (λ row. row.mark < length marks.now) rows.now }
-    ensures { IfOk result (λ marked. (texts : List ℕ) → (labels : List Label)
-        → ArePlaces (length labels) numbers.now → AreWithin texts marks.now rows.now
-        → ArePaired texts marks.now rows.now numbers.now labels marked.marks.items
-        marked.rows.items) }
+    requires known { AllByRecursion (λ row. row.profile < length profiles.now) rows.now }
+    ensures { IfOk result (λ profiled. (texts : List ℕ) → (labels : List Label)
+        → ArePlaces (length labels) numbers.now → AreWithin texts profiles.now rows.now
+        → ArePaired texts profiles.now rows.now numbers.now labels profiled.profiles.items
+        profiled.rows.items) }
 {
-    let mut marked = Marked {
-        marks: Vec::new(alloc),
+    let mut profiled = Profiled {
+        profiles: Vec::new(alloc),
         rows: Vec::with_capacity(alloc, rows.len())?,
     };
     let mut guesses = Guesses::new(alloc);
     guesses.make_room(alloc)?;
     'rows: for i in 0..rows.len() {
         let row = &rows[i];
-        let given = marks.get(row.mark);
-        let own = MarkRow {
+        let given = profiles.get(row.profile);
+        let own = ProfileRow {
             device: given.device,
             links: given.links,
             label: numbers[i],
         };
-        let mark = number_guessed(&mut marked.marks, &mut guesses, own)?;
-        marked.rows.push(RecordRow { mark, ..*row })?;
+        let profile = number_guessed(&mut profiled.profiles, &mut guesses, own)?;
+        profiled.rows.push(RecordRow { profile, ..*row })?;
     }
-    Ok(marked)
+    Ok(profiled)
 }

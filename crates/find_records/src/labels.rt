@@ -67,7 +67,7 @@ fn mix_bytes(bytes: &[u8]) -> u64 {
 }
 
 // The number, if the bytes spell the label that it has.
-fn number_told(known: &[Spelled], number: Option<u32>, bytes: &[u8]) -> Option<u32>
+fn number_known(known: &[Spelled], number: Option<u32>, bytes: &[u8]) -> Option<u32>
     ensures { IfSome result (λ number. AreLabelsSpelled known.now
         → slice_get (labels_in known.now) number ≡ Some (label_of bytes.now)) }
 {
@@ -97,7 +97,7 @@ fn number_in(
     if is_spelled(known, guess, bytes) {
         return Some(guess);
     }
-    let number = number_told(known, numbers.get(bytes).copied(), bytes)?;
+    let number = number_known(known, numbers.get(bytes).copied(), bytes)?;
     guesses.keep(mixed, number);
     Some(number)
 }

@@ -1,5 +1,5 @@
 ghost use Rattle.std.specs.Prelude.{◌≡◌, ◌++◌, ◌∷◌, [], List, true, ◌+◌, ◌≤◌, length, IfOk, OnOk};
-ghost use Rattle.find_records.specs.Marks.{Mark};
+ghost use Rattle.find_records.specs.Profiles.{Profile};
 ghost use Rattle.find_records.specs.Places.{ArePlaces, records_at};
 ghost use Rattle.find_records.specs.Record.{Record};
 ghost use Rattle.find_records.specs.Rows.{AreLaid, AreWithin, Fit, moved_to, row_text};
@@ -54,8 +54,8 @@ pub fn lay(
 ) -> Result<Laid, OutOfMemory>
     requires fit { Fit texts.now rows.now }
     requires known { ArePlaces (length rows.now) places.now }
-    ensures { IfOk result (λ laid. (marks : List Mark) → AreWithin texts.now marks rows.now
-        → AreLaid texts.now marks rows.now places.now laid.texts.items laid.rows.items) }
+    ensures { IfOk result (λ laid. (profiles : List Profile) → AreWithin texts.now profiles rows.now
+        → AreLaid texts.now profiles rows.now places.now laid.texts.items laid.rows.items) }
 {
     let mut laid = Laid {
         texts: Vec::with_capacity(alloc, texts.len())?,

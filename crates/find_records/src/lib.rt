@@ -11,15 +11,15 @@ mod labelled;
 mod labels;
 mod laws;
 mod lay;
-mod mark_row;
-mod marks;
+mod profile_row;
+mod profiles;
 mod reading;
 mod record;
 mod records;
 mod row;
 mod so_far;
 
-pub use entry::{Entry, Told};
+pub use entry::{Entry, RawRecord};
 pub use fault::{RecordWhy, RecordsFault};
 pub use file_paths::PathWhy;
 pub use format::Format;

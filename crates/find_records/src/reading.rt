@@ -53,7 +53,7 @@ fn take_pieces<I: Source>(
         meant_with so_far.old rest ≡ records_from format limits.records 1 rest }
     ensures sound { IfOk result (λ _. IsSound so_far.new) }
     ensures most { IfOk result (λ _. so_far.new.most ≡ limits.records) }
-    ensures told { IfOk result (λ _. (answer : Result (List Record) RecordsFault)
+    ensures known { IfOk result (λ _. (answer : Result (List Record) RecordsFault)
         → Answers (λ records. records) records_cause answer (meant_with so_far.new [])
         → RecordsAsKnown format (I.left source.old) (I.left source.new) limits answer) }
     ensures counts { IfOk result (λ _. (answer : Result (List Record) RecordsFault)
@@ -96,7 +96,7 @@ pub fn read_records<I: Source>(
     limits: RecordLimits,
 ) -> Result<Records, RecordsFault>
     requires { limits.bytes < 2 ^ 64 - 1 }
-    ensures told { RecordsAsKnown format (I.left source.old) (I.left source.new) limits result }
+    ensures known { RecordsAsKnown format (I.left source.old) (I.left source.new) limits result }
     ensures counts { RecordsCounts (I.faults source.old) (I.faults source.new) result }
     ensures few { IfOk result (λ records. length records ≤ limits.records) }
     ensures of_format { IfOk result (λ records. AreOfFormat format records) }

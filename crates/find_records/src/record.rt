@@ -7,7 +7,7 @@ ghost use Rattle.find_records.specs.Grammar.{with_links, with_path, with_rest};
 ghost use Rattle.find_records.specs.Reading.{with_one};
 ghost use Rattle.find_records.specs.declared.format.Format.TheVariants.{Two};
 
-use crate::entry::Told;
+use crate::entry::RawRecord;
 use crate::fault::RecordWhy;
 use crate::format::Format;
 use crate::records::Records;
@@ -54,14 +54,18 @@ fn read_links(field: Option<&[u8]>) -> Option<Option<u64>>
     }
 }
 
-fn add_told(alloc: Global, records: &mut Records, told: &Told<'_>) -> Result<(), Fault<RecordWhy>>
+fn add_raw(
+    alloc: Global,
+    records: &mut Records,
+    raw: &RawRecord<'_>,
+) -> Result<(), Fault<RecordWhy>>
     requires { length records.old < 2 ^ 32 - 1 }
     ensures answer { Answers (λ _. records.new) fault_cause result (with_one records.old
-        (record_from (Some told.now.kind) (Some told.now.device) (Some told.now.inode)
-        (Some told.now.links) (label_of told.now.label.now) (path_field told.now.path.now))) }
+        (record_from (Some raw.now.kind) (Some raw.now.device) (Some raw.now.inode)
+        (Some raw.now.links) (label_of raw.now.label.now) (path_field raw.now.path.now))) }
     ensures same { OnErr result (records.new ≡ records.old) }
 {
-    match records.push(alloc, told) {
+    match records.push(alloc, raw) {
         Ok(()) => Ok(()),
         Err(Fault::Why(why)) => Err(Fault::Why(RecordWhy::BadPath(why))),
         Err(Fault::OutOfMemory) => Err(Fault::OutOfMemory),
@@ -94,7 +98,7 @@ fn add_fields(
     let Some(links) = read_links(fields.links) else {
         return Err(Fault::Why(RecordWhy::BadNumber));
     };
-    let told = Told {
+    let raw = RawRecord {
         kind,
         device,
         inode,
@@ -102,7 +106,7 @@ fn add_fields(
         label: fields.label,
         path: fields.path,
     };
-    add_told(alloc, records, &told)
+    add_raw(alloc, records, &raw)
 }
 
 // Adds the record whose label and path these are.

@@ -6,16 +6,16 @@ ghost use Rattle.file_paths.specs.Path.{path_names, path_read};
 ghost use Rattle.file_paths.specs.PathRef.{path_of};
 ghost use Rattle.context_syntax.specs.Label.{same_label};
 ghost use Rattle.find_records.specs.Record.{Record};
-ghost use Rattle.find_records.specs.Entry.{entry_of, record_told};
+ghost use Rattle.find_records.specs.Entry.{entry_of, record_seen};
 ghost use Rattle.find_records.specs.Labelled.{with_labels};
 ghost use Rattle.find_records.specs.Labels.{Extends};
 ghost use Rattle.find_records.specs.Places.{ArePlaces, records_at};
 ghost use Rattle.find_records.specs.Rows.{IsRowWithin, record_in};
 
-use crate::entry::{Entry, Told};
-use crate::labelled::{copy_labels, mark_rows};
+use crate::entry::{Entry, RawRecord};
+use crate::labelled::{copy_labels, profile_rows};
 use crate::lay::{is_given, lay};
-use crate::marks::Marks;
+use crate::profiles::Profiles;
 use crate::row::{RecordRow, text_at};
 use context_syntax::Label;
 use file_paths::{PathFault, PathRef, add_path};
@@ -27,7 +27,7 @@ use std::marker::Model;
 pub struct Records {
     // The texts of all paths, one behind the other.
     texts: Vec<u8>,
-    marks: Marks,
+    profiles: Profiles,
     rows: Vec<RecordRow>,
 }
 
@@ -36,7 +36,7 @@ impl Drop for Records {
     fn drop(self) {
         let Records {
             texts: _,
-            marks: _,
+            profiles: _,
             rows: _,
         } = self;
     }
@@ -49,9 +49,9 @@ impl Model for Records {
 
     ghost Value = { List Record };
 
-    ghost view = { λ r. records_in r.texts.items r.marks r.rows.items };
+    ghost view = { λ r. records_in r.texts.items r.profiles r.rows.items };
 
-    ghost invariant = { λ r. AreRecordRows r.texts.items r.marks r.rows.items };
+    ghost invariant = { λ r. AreRecordRows r.texts.items r.profiles r.rows.items };
 }
 
 fn reserve_row(rows: &mut Vec<RecordRow>) -> Result<(), PathFault>
@@ -65,32 +65,32 @@ fn reserve_row(rows: &mut Vec<RecordRow>) -> Result<(), PathFault>
     }
 }
 
-// Adds a record's text and its mark, and makes its row.
+// Adds a record's text and its profile, and makes its row.
 fn row_of(
     alloc: Global,
     texts: &mut Vec<u8>,
-    marks: &mut Marks,
-    told: &Told<'_>,
+    profiles: &mut Profiles,
+    raw: &RawRecord<'_>,
 ) -> Result<RecordRow, PathFault>
-    ensures answer { Answers (λ _. path_names told.now.path.now) fault_cause result
-        (path_read told.now.path.now) }
+    ensures answer { Answers (λ _. path_names raw.now.path.now) fault_cause result
+        (path_read raw.now.path.now) }
     ensures value { IfOk result (λ row.
-        record_in texts.new.items marks.new row ≡ record_told told.now) }
-    ensures within { IfOk result (λ row. IsRowWithin texts.new.items marks.new row) }
+        record_in texts.new.items profiles.new row ≡ record_seen raw.now) }
+    ensures within { IfOk result (λ row. IsRowWithin texts.new.items profiles.new row) }
     ensures more_texts { Extends texts.old.items texts.new.items }
-    ensures more_marks { Extends marks.old marks.new }
-    ensures same { OnErr result (marks.new ≡ marks.old) }
+    ensures more_profiles { Extends profiles.old profiles.new }
+    ensures same { OnErr result (profiles.new ≡ profiles.old) }
 {
     let at = texts.len();
-    add_path(alloc, texts, told.path)?;
+    add_path(alloc, texts, raw.path)?;
     let size = (texts.len() - at) as u16;
-    let mark = marks.number_of(alloc, told)?;
+    let profile = profiles.number_of(alloc, raw)?;
     Ok(RecordRow {
-        inode: told.inode,
+        inode: raw.inode,
         at,
-        mark,
+        profile,
         size,
-        kind: told.kind,
+        kind: raw.kind,
     })
 }
 
@@ -101,7 +101,7 @@ impl Records {
     {
         Records {
             texts: Vec::new(alloc),
-            marks: Marks::new(alloc),
+            profiles: Profiles::new(alloc),
             rows: Vec::new(alloc),
         }
     }
@@ -114,15 +114,15 @@ impl Records {
     }
 
     /// Adds a record behind the others. After a refusal the records are as they were.
-    pub fn push(&mut self, alloc: Global, told: &Told<'_>) -> Result<(), PathFault>
+    pub fn push(&mut self, alloc: Global, raw: &RawRecord<'_>) -> Result<(), PathFault>
         requires { length self.old < 2 ^ 32 - 1 }
-        ensures answer { Answers (λ _. path_names told.now.path.now) fault_cause result
-            (path_read told.now.path.now) }
-        ensures ok { OnOk result (self.new ≡ self.old ++ record_told told.now ∷ []) }
+        ensures answer { Answers (λ _. path_names raw.now.path.now) fault_cause result
+            (path_read raw.now.path.now) }
+        ensures ok { OnOk result (self.new ≡ self.old ++ record_seen raw.now ∷ []) }
         ensures err { OnErr result (self.new ≡ self.old) }
     {
         reserve_row(&mut self.rows)?;
-        let row = row_of(alloc, &mut self.texts, &mut self.marks, told)?;
+        let row = row_of(alloc, &mut self.texts, &mut self.profiles, raw)?;
         match self.rows.push(row) {
             Ok(()) => Ok(()),
             Err(_) => unreachable!(),
@@ -135,13 +135,13 @@ impl Records {
         ensures { slice_get self.now i ≡ Some (entry_of result) }
     {
         let row = &self.rows[i as usize];
-        let mark = self.marks.get(row.mark);
+        let profile = self.profiles.get(row.profile);
         Entry {
             kind: row.kind,
-            device: mark.device,
+            device: profile.device,
             inode: row.inode,
-            links: mark.links,
-            label: mark.label,
+            links: profile.links,
+            label: profile.label,
             path: PathRef::of_text(text_at(self.texts.as_slice(), row)),
         }
     }
@@ -154,8 +154,7 @@ impl Records {
         ensures { (a b : Record) → slice_get self.now i ≡ Some a → slice_get self.now j ≡ Some b
             → result ≡ same_label a.label b.label }
     {
-        self.marks
-            .has_same_label(self.rows[i as usize].mark, self.rows[j as usize].mark)
+        self.profiles.has_same_label(self.rows[i as usize].profile, self.rows[j as usize].profile)
     }
 
     /// The path of the record at a place, counted from 0.
@@ -181,12 +180,12 @@ impl Records {
             records ≡ with_labels labels.now numbers.now self.now) }
     {
         let copies = copy_labels(alloc, labels)?;
-        let marked = mark_rows(alloc, &self.marks, self.rows.as_slice(), numbers)?;
+        let profiled = profile_rows(alloc, &self.profiles, self.rows.as_slice(), numbers)?;
         let texts = Vec::from_slice(alloc, self.texts.as_slice())?;
         Ok(Records {
             texts,
-            marks: Marks::of_rows(alloc, copies, marked.marks),
-            rows: marked.rows,
+            profiles: Profiles::of_rows(alloc, copies, profiled.profiles),
+            rows: profiled.rows,
         })
     }
 
@@ -203,12 +202,12 @@ impl Records {
         let laid = lay(alloc, self.texts.as_slice(), self.rows.as_slice(), places)?;
         let Records {
             texts: _,
-            marks,
+            profiles,
             rows: _,
         } = self;
         Ok(Records {
             texts: laid.texts,
-            marks,
+            profiles,
             rows: laid.rows,
         })
     }

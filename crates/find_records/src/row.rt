@@ -3,12 +3,12 @@ ghost use Rattle.find_records.specs.Rows.{row_text};
 
 use label_base::EntryKind;
 
-// A record: the place and length of its path among the texts, and the number of its mark.
+// A record: the place and length of its path among the texts, and the number of its profile.
 #[derive(Clone, Copy)]
 pub struct RecordRow {
     pub inode: u64,
     pub at: usize,
-    pub mark: u32,
+    pub profile: u32,
     pub size: u16,
     pub kind: EntryKind,
 }

@@ -1,5 +1,5 @@
 use crate::{
-    Format, PathWhy, RecordLimits, RecordWhy, Records, RecordsFault, Told, read_records,
+    Format, PathWhy, RawRecord, RecordLimits, RecordWhy, Records, RecordsFault, read_records,
     records_follow_grammar,
 };
 use context_syntax::Label;
@@ -66,7 +66,7 @@ fn reads_records(rt: HostRuntime) -> Result<(), Fail> {
 fn records_are_added(rt: HostRuntime) -> Result<(), Fail> {
     let alloc = rt.alloc();
     let mut records = Records::new(alloc);
-    let told = Told {
+    let raw = RawRecord {
         kind: EntryKind::Link,
         device: 1,
         inode: 2,
@@ -74,7 +74,7 @@ fn records_are_added(rt: HostRuntime) -> Result<(), Fail> {
         label: b"?",
         path: b"/a//b",
     };
-    records.push(alloc, &told)?;
+    records.push(alloc, &raw)?;
     assert_eq!(rt; records.len(), 1);
     assert_eq!(rt; records.entry(0).links, Some(3));
     assert_eq!(rt; records.path(0).as_text(), b"/a/b".as_slice());

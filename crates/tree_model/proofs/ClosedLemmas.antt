@@ -161,10 +161,10 @@ last_is groups zero g x l h = absurd (omega (arith, l))
 last_is groups (suc n) g x l h = last_step groups n g x (get_or groups n 0 == g) refl l h
     (λ lt. last_is groups n g x lt h)
 
-last_told : (groups : List ℕ) (x k : ℕ) → x < length groups → get_or groups x 0 ≡ get_or groups k 0
+last_shown : (groups : List ℕ) (x k : ℕ) → x < length groups → get_or groups x 0 ≡ get_or groups k 0
     → IsLast groups (length groups) (get_or groups k 0) x (last_name groups k)
 unfolding last_at
-last_told groups x k l h = last_is groups (length groups) (get_or groups k 0) x l h
+last_shown groups x k l h = last_is groups (length groups) (get_or groups k 0) x l h
 
 -- what the first entry is
 first_high : (groups : List ℕ) (x k : ℕ) → x < length groups → get_or groups x 0 ≡ get_or groups k 0
@@ -234,7 +234,7 @@ module _ (groups ends : List ℕ) (d least greatest : ℕ) (within : get_or ends
       let a = first_own groups low.place (omega (arith, low.upto, within)) in
       let below = closed_at_both low.place (first_of_group groups low.place) h low.from low.upto a.0
       a.1 in
-      let z = last_told groups high.place high.place (omega (arith, high.upto, within)) refl in
+      let z = last_shown groups high.place high.place (omega (arith, high.upto, within)) refl in
       let above = closed_at_both high.place (last_name groups high.place) h high.from high.upto
       z.within z.own in
       and_from (nat_le d least) (nat_lt greatest end)
@@ -247,7 +247,7 @@ module _ (groups ends : List ℕ) (d least greatest : ℕ) (within : get_or ends
   closed_entry p q e x l m w same =
       let a = first_high groups x e w same in
       let b = low.low e l m in
-      let y = last_told groups x e w same in
+      let y = last_shown groups x e w same in
       let z = high.high e l m in
       run_from ends d x (omega (arith, p, a, b)) (omega (arith, q, y.high, z))
 

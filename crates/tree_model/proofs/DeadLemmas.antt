@@ -11,7 +11,7 @@ use Rattle.std.proofs.Math.Seq.{get_or-append_seam}
 use Rattle.std.specs.Cmp.{both_ways}
 use Rattle.label_base.specs.Bounded.{all_below, all_numbers, implies, greatest_below}
 use Rattle.label_base.proofs.BoundedLemmas.{IsGreatest, all_at, all_from, count_numbers}
-use Rattle.label_base.proofs.BoundedLemmas.{greatest_told, implies_at}
+use Rattle.label_base.proofs.BoundedLemmas.{greatest_shown, implies_at}
 use Rattle.find_records.specs.Record.{Record}
 use Rattle.tree_model.specs.Extents.{extent_of, in_extent, one_behind}
 use Rattle.tree_model.specs.LiveLists.{AreDead, AreFlags, IsDead, KeepsFlags, live_from, live_of}
@@ -72,14 +72,14 @@ flag_case live e dead false l h r = elim (cases_lt e dead) [
 ]
 
 -- an entry is live where the next place without a flag is another
-pub flag_told : (live : List Bool) (e dead : ℕ) → e < length live → IsDead live e dead
+pub flag_shown : (live : List Bool) (e dead : ℕ) → e < length live → IsDead live e dead
     → not (dead == e) ≡ get_or live e false
-flag_told live e dead l r = flag_case live e dead (get_or live e false) l refl r
+flag_shown live e dead l r = flag_case live e dead (get_or live e false) l refl r
 
 kept_at : (live : List Bool) (dead : List ℕ) (count e : ℕ) → KeepsFlags live dead count
     → e < length live → get_or (live_of dead count) e false ≡ get_or live e false
 kept_at live dead count e r l = elim (cases_lt e (length dead)) [
-  | inl lt ↦ live_read dead count e lt ∙ flag_told live e (get_or dead e 0) l
+  | inl lt ↦ live_read dead count e lt ∙ flag_shown live e (get_or dead e 0) l
       (r.dead_are.each e (omega arith) lt)
   | inr ge ↦ live_behind dead count e ge (omega (arith, l, r.count_is))
       ∙ sym (r.dead_are.ends.lives e ge l)
@@ -130,7 +130,7 @@ upto_case n p (Some k) g = omega (arith, g.0)
 extent_upto : (entries : List Record) (d : ℕ) → extent_of entries d ≤ length entries
 extent_upto entries d = upto_case (length entries) (in_extent entries d)
     (greatest_below (length entries) (in_extent entries d))
-    (greatest_told (length entries) (in_extent entries d))
+    (greatest_shown (length entries) (in_extent entries d))
 
 module _ (entries : List Record) (live : List Bool) (d end dead : ℕ)
     (sized : length live ≡ length entries) (end_is : end ≡ extent_of entries d)

@@ -14,7 +14,7 @@ use Rattle.tree_model.specs.LiveLists.{IsCleared, IsFilled}
 use Rattle.find_records.specs.Places.{no_record}
 use Rattle.tree_model.specs.Tree.{ByPath, IsFrom}
 use Rattle.tree_model.proofs.AboveLemmas.{below_chain, below_itself, between, not_before}
-use Rattle.tree_model.proofs.ExtentLemmas.{extent_has, extent_told}
+use Rattle.tree_model.proofs.ExtentLemmas.{extent_has, extent_shown}
 use Rattle.tree_model.proofs.MarkLemmas.{IsClearedTo, cleared_all, cleared_more, cleared_none}
 use Rattle.tree_model.proofs.HeadLemmas.{path_total}
 use Rattle.tree_model.proofs.SameLemmas.{path_exact, same_path_is}
@@ -46,10 +46,10 @@ module _ (entries : List Record) (up : ByPath entries) (ends : List ℕ)
     own_end = kept.each c (omega arith) under_within
 
     pub under_more : c < get_or ends c 0
-    under_more = let t = extent_told entries up c under_within in omega (arith, t.behind, own_end)
+    under_more = let t = extent_shown entries up c under_within in omega (arith, t.behind, own_end)
 
     pub under_upto : get_or ends c 0 ≤ length entries
-    under_upto = let t = extent_told entries up c under_within in omega (arith, t.within, own_end)
+    under_upto = let t = extent_shown entries up c under_within in omega (arith, t.within, own_end)
 
     pub under_step : (start old new : List Bool) → IsClearedTo is_under c start old
         → IsFilled c (get_or ends c 0) false old new → IsClearedTo is_under (get_or ends c 0) start

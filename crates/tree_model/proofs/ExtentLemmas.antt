@@ -6,7 +6,7 @@ use Rattle.std.specs.Prelude.{Option, Some, None, ◌&&◌, nat_le, nat_lt}
 use Rattle.std.specs.declared.cmp.Ordering.TheVariants.{Less}
 use Rattle.label_base.specs.Bounded.{greatest_below}
 use Rattle.file_paths.specs.Path.{Path, path_cmp}
-use Rattle.label_base.proofs.BoundedLemmas.{IsGreatest, greatest_is, greatest_told}
+use Rattle.label_base.proofs.BoundedLemmas.{IsGreatest, greatest_is, greatest_shown}
 use Rattle.find_records.specs.Record.{Record}
 use Rattle.tree_model.specs.Extents.{entry_at, extent_of, in_extent, one_behind}
 use Rattle.find_records.specs.Places.{no_record}
@@ -85,22 +85,22 @@ module _ (entries : List Record) (up : ByPath entries) where
         next_out = λ m. g.2 (e + 1) (omega arith) m;
       }
 
-  pub extent_told : (d : ℕ) → d < length entries → HasExtent entries d (extent_of entries d)
-  extent_told d l = has_greatest d (greatest_below (length entries) (in_extent entries d)) l
-      (greatest_told (length entries) (in_extent entries d))
+  pub extent_shown : (d : ℕ) → d < length entries → HasExtent entries d (extent_of entries d)
+  extent_shown d l = has_greatest d (greatest_below (length entries) (in_extent entries d)) l
+      (greatest_shown (length entries) (in_extent entries d))
 
   -- the entries from d up to its extent are those at or below d
   pub extent_has : (d e : ℕ) → d < length entries → d ≤ e → e < extent_of entries d
       → in_extent entries d e ≡ true
   extent_has d e l a b =
-      let t = extent_told d l in
+      let t = extent_shown d l in
       in_between d e (extent_of entries d - 1) a (omega (arith, b))
       (omega (arith, t.behind, t.within)) t.last_in
 
   pub has_extent : (d e : ℕ) → d < length entries → e < length entries → in_extent entries d e
       ≡ true → (d ≤ e) × (e < extent_of entries d)
   has_extent d e l m h =
-      let t = extent_told d l in
+      let t = extent_shown d l in
       let from = in_behind d e l h in (
         from,
         elim (cases_lt e (extent_of entries d)) [

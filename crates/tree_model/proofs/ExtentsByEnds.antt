@@ -14,7 +14,7 @@ use Rattle.tree_model.specs.Selection.{admits, stays_on}
 use Rattle.tree_model.specs.Tree.{ByPath}
 use Rattle.tree_model.specs.declared.choice.Choice.{Choice}
 use Rattle.tree_model.proofs.ClosedLemmas.{implied}
-use Rattle.tree_model.proofs.ExtentLemmas.{extent_has, extent_law, extent_told, has_extent}
+use Rattle.tree_model.proofs.ExtentLemmas.{extent_has, extent_law, extent_shown, has_extent}
 use Rattle.tree_model.proofs.ExtentLemmas.{in_chain, in_itself}
 use Rattle.tree_model.proofs.GroupLemmas.{groups_of, group_at, count_groups}
 use Rattle.tree_model.proofs.MarkLemmas.{and_true}
@@ -27,8 +27,8 @@ module _ (entries : List Record) (up : ByPath entries) (ends : List ℕ)
   nested : (d c : ℕ) → d < length entries → d ≤ c → c < extent_of entries d
       → extent_of entries c ≤ extent_of entries d
   nested d c l a b =
-      let t = extent_told entries up d l in
-      let s = extent_told entries up c (omega (arith, b, t.within)) in
+      let t = extent_shown entries up d l in
+      let s = extent_shown entries up c (omega (arith, b, t.within)) in
       let there = extent_has entries up d c l a b in
       let last = has_extent entries up d (extent_of entries c - 1) l
       (omega (arith, s.behind, s.within))
@@ -39,12 +39,12 @@ module _ (entries : List Record) (up : ByPath entries) (ends : List ℕ)
   ends_runs few = record {
     few = omega (arith, few, kept.count);
     behind = λ d l. (let w : d < length entries = omega (arith, l, kept.count) in
-        let t = extent_told entries up d w in omega (arith, t.behind, end_is d w));
+        let t = extent_shown entries up d w in omega (arith, t.behind, end_is d w));
     within = λ d l. (let w : d < length entries = omega (arith, l, kept.count) in
-        let t = extent_told entries up d w in omega (arith, t.within, end_is d w, kept.count));
+        let t = extent_shown entries up d w in omega (arith, t.within, end_is d w, kept.count));
     nested = λ d c l a b. (
         let w : d < length entries = omega (arith, l, kept.count) in
-        let t = extent_told entries up d w in
+        let t = extent_shown entries up d w in
         let e = end_is d w in
         let v : c < length entries = omega (arith, t.within, e, b) in
         let n = nested d c w a (omega (arith, e, b)) in

@@ -58,9 +58,9 @@ strictly_is (t ∷ ts) name (m ∷ ms) =
     ∙ within (same_bytes m t) (at_or_below (ts ++ name ∷ []) ms)
     (nat_lt (length ms) (length (ts ++ name ∷ []))) (at_or_below ts ms) (strictly_is ts name ms)
 
-strictly_told : (path top q : Path) → IsOneBelow path top → strictly_below path q ≡ at_or_below top
+strictly_shown : (path top q : Path) → IsOneBelow path top → strictly_below path q ≡ at_or_below top
     q
-strictly_told path top q one = ap (λ p. strictly_below p q) one.1 ∙ strictly_is top one.0 q
+strictly_shown path top q one = ap (λ p. strictly_below p q) one.1 ∙ strictly_is top one.0 q
 
 nothing_above : (q : Path) → strictly_below [] q ≡ false
 nothing_above [] = refl
@@ -128,19 +128,19 @@ module _ (entries : List Record) (up : ByPath entries) where
   pub above_found : (path top : Path) (d : ℕ) → IsOneBelow path top → directory_in top entries
       ≡ Some d → nearest_above entries path ≡ Some d
   above_found path top d one h =
-      let told = directory_case entries (find_in top entries) d h in
-      let place = position-Some (is_entry_at top) entries d no_record told.0 in
+      let shown = directory_case entries (find_in top entries) d h in
+      let place = position-Some (is_entry_at top) entries d no_record shown.0 in
       let same : (entry_at entries d).path ≡ top =
       path_exact (entry_at entries d).path top place.1 in
       greatest_is (length entries)
       (λ k. is_directory entries k && strictly_below path (entry_at entries k).path) d place.0
-      (and_from (is_directory entries d) (strictly_below path (entry_at entries d).path) told.1
-      (strictly_told path top (entry_at entries d).path one ∙ subst (λ p. at_or_below top p ≡ true)
+      (and_from (is_directory entries d) (strictly_below path (entry_at entries d).path) shown.1
+      (strictly_shown path top (entry_at entries d).path one ∙ subst (λ p. at_or_below top p ≡ true)
       (sym same) (below_itself top)))
       (λ j a b. false_from_ne_true
       (is_directory entries j && strictly_below path (entry_at entries j).path) (λ t.
       not_before top (entry_at entries j).path
-      (sym (strictly_told path top (entry_at entries j).path one)
+      (sym (strictly_shown path top (entry_at entries j).path one)
       ∙ second_so (is_directory entries j) (strictly_below path (entry_at entries j).path) t)
       (subst (λ p. path_cmp p (entry_at entries j).path ≡ Less) same (rise entries up d j a b))))
 
@@ -169,7 +169,7 @@ module _ (entries : List Record) (up : ByPath entries) where
       (λ k. is_directory entries k && strictly_below path (entry_at entries k).path)
       (λ k. is_directory entries k && strictly_below top (entry_at entries k).path)
       (λ k l. ap (λ b. is_directory entries k && b)
-      (strictly_told path top (entry_at entries k).path one)
+      (strictly_shown path top (entry_at entries k).path one)
       ∙ all_three (is_directory entries k) (at_or_below top (entry_at entries k).path)
       (nat_lt (length (entry_at entries k).path) (length top)) (longer_if top k none l))
 

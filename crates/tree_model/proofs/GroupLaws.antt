@@ -9,7 +9,7 @@ use Rattle.find_records.specs.Record.{Record}
 use Rattle.tree_model.specs.Extents.{entry_at}
 use Rattle.tree_model.specs.Groups.{inode_added, inodes_of, group_of, groups_in}
 use Rattle.tree_model.specs.GroupLists.{groups_behind}
-use Rattle.tree_model.specs.Laws.{GroupsAreInodes, HasEntryBefore, TellOneInode}
+use Rattle.tree_model.specs.Laws.{GroupsAreInodes, HasEntryBefore, NameOneInode}
 use Rattle.tree_model.specs.Links.{inode_of, same_inode}
 use Rattle.tree_model.proofs.GroupLemmas.{by_head, count_groups, group_at, group_inside}
 use Rattle.tree_model.proofs.GroupLemmas.{group_named, groups_of, name_here}
@@ -50,7 +50,7 @@ module _ (entries : List Record) where
 
   one_inode : (a b : ℕ) → a < length entries → b < length entries
       → group_of entries a ≡ group_of entries b
-      → TellOneInode (entry_at entries a) (entry_at entries b)
+      → NameOneInode (entry_at entries a) (entry_at entries b)
   one_inode a b l m h =
       let same : inode_at a ≡ inode_at b =
       sym (read_back (inode_at a) (inodes_of entries) (within a l))
@@ -58,7 +58,7 @@ module _ (entries : List Record) where
       ∙ read_back (inode_at b) (inodes_of entries) (within b m) in
       record { device = ap (λ i. i.0) same; inode = ap (λ i. i.1) same }
 
-  one_group : (a b : ℕ) → TellOneInode (entry_at entries a) (entry_at entries b)
+  one_group : (a b : ℕ) → NameOneInode (entry_at entries a) (entry_at entries b)
       → group_of entries a ≡ group_of entries b
   one_group a b h = (λ i. place (h.device i, h.inode i) (inodes_of entries))
 

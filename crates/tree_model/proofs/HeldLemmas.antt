@@ -11,15 +11,15 @@ use Rattle.std.proofs.lemmas.List.{drop_all, drop_more}
 use Rattle.label_base.specs.Bounded.{all_numbers}
 use Rattle.file_paths.specs.Path.{strictly_below}
 use Rattle.label_base.proofs.BoundedLemmas.{IsGreatest, count_numbers, greatest_is, greatest_none}
-use Rattle.label_base.proofs.BoundedLemmas.{greatest_told}
+use Rattle.label_base.proofs.BoundedLemmas.{greatest_shown}
 use Rattle.find_records.specs.Record.{Record}
 use Rattle.tree_model.specs.Extents.{entry_at, extent_of, is_above, is_directory, parent_of}
 use Rattle.tree_model.specs.Jobs.{IsPlaced, directories_in, end_under, children_from}
 use Rattle.tree_model.specs.Jobs.{entries_of_job, entry_home, job_directory, job_for}
 use Rattle.tree_model.specs.Tree.{ByPath}
 use Rattle.tree_model.proofs.DeadLemmas.{number_at}
-use Rattle.tree_model.proofs.ExtentLemmas.{extent_has, extent_told, has_extent, in_chain}
-use Rattle.tree_model.proofs.JobLaws.{home_told, job_back, told_at}
+use Rattle.tree_model.proofs.ExtentLemmas.{extent_has, extent_shown, has_extent, in_chain}
+use Rattle.tree_model.proofs.JobLaws.{home_shown, job_back, shown_at}
 use Rattle.tree_model.proofs.JobLemmas.{parent_known}
 use Rattle.tree_model.proofs.ParentLemmas.{above_before, above_between, above_in, parent_before}
 use Rattle.tree_model.proofs.ParentLemmas.{strict_is}
@@ -115,7 +115,7 @@ module _ (entries : List Record) (up : ByPath entries) where
   above_from : (d e : ℕ) → is_directory entries d ≡ true → d < e → e < extent_of entries d → d < n
       → is_above entries e d ≡ true
   above_from d e dir l m k =
-      let t = extent_told entries up d k in
+      let t = extent_shown entries up d k in
       let w : e < n = omega (arith, m, t.within) in
       let below = strict_is entries up d e l w ∙ extent_has entries up d e k (omega (arith, l)) m in
       rw (dir, below) refl
@@ -126,9 +126,9 @@ module _ (entries : List Record) (up : ByPath entries) where
   nested_end : (d c : ℕ) → d < n → d ≤ c → c < extent_of entries d
       → extent_of entries c ≤ extent_of entries d
   nested_end d c l a b =
-      let t = extent_told entries up d l in
+      let t = extent_shown entries up d l in
       let w : c < n = omega (arith, b, t.within) in
-      let s = extent_told entries up c w in
+      let s = extent_shown entries up c w in
       let last = has_extent entries up d (extent_of entries c - 1) l
       (omega (arith, s.behind, s.within))
       (in_chain entries up d c (extent_of entries c - 1) (extent_has entries up d c l a b)
@@ -136,11 +136,11 @@ module _ (entries : List Record) (up : ByPath entries) where
       omega (arith, last.1, s.behind)
 
   next_behind : (e next : ℕ) → e < n → IsNext entries e next → e < next
-  next_behind e next l (inl h) = let t = extent_told entries up e l in omega (arith, t.behind, h.1)
+  next_behind e next l (inl h) = let t = extent_shown entries up e l in omega (arith, t.behind, h.1)
   next_behind e next l (inr h) = omega (arith, h.1)
 
   next_within : (e next : ℕ) → e < n → IsNext entries e next → next ≤ n
-  next_within e next l (inl h) = let t = extent_told entries up e l in omega (arith, t.within, h.1)
+  next_within e next l (inl h) = let t = extent_shown entries up e l in omega (arith, t.within, h.1)
   next_within e next l (inr h) = omega (arith, h.1, l)
 
   -- what is above the next one is above the entry
@@ -170,7 +170,7 @@ module _ (entries : List Record) (up : ByPath entries) where
       (λ x w. false_from_ne_true (is_above entries next x)
       (λ a. let b = still_above e next x l h m w a in let c = g x w in cc))
   parent_moves e next (Some d) l h m g =
-      let t = extent_told entries up d g.0 in
+      let t = extent_shown entries up d g.0 in
       let w : next < n = omega (arith, m, t.within) in
       let before = above_before entries up d e g.0 g.1 in
       greatest_is n (is_above entries next) d g.0
@@ -184,7 +184,7 @@ module _ (entries : List Record) (up : ByPath entries) where
       ≡ found
   next_parent e next found l h p m =
       parent_moves e next found l h m
-      (subst (IsGreatest n (is_above entries e)) p (greatest_told n (is_above entries e)))
+      (subst (IsGreatest n (is_above entries e)) p (greatest_shown n (is_above entries e)))
 
   -- those between have another parent, which stands from the entry on
   inner_parent : (d k : ℕ) (found : Option ℕ) → IsGreatest n (is_above entries k) found → d < n
@@ -204,7 +204,7 @@ module _ (entries : List Record) (up : ByPath entries) where
   between_differ e next k l (inr h) a b same = omega (arith, a, b, h.1)
   between_differ e next k l (inl h) a b same =
       let there = above_from e k h.0 a (omega (arith, b, h.1)) l in
-      let r = inner_parent e k (parent_of entries k) (greatest_told n (is_above entries k)) l
+      let r = inner_parent e k (parent_of entries k) (greatest_shown n (is_above entries k)) l
       there in
       by_parent (parent_of entries e) refl r
     where
@@ -225,7 +225,7 @@ module _ (entries : List Record) (up : ByPath entries) where
       → held job k ≡ false
   held_not job k never =
       false_from_ne_true (held job k)
-      (λ h. never (sym (home_told entries k)
+      (λ h. never (sym (home_shown entries k)
       ∙ ap (job_directory entries) (eqb-true (entry_home entries k) job h)))
 
   held_is : (job k : ℕ) → job ≤ length (directories_in entries)
@@ -238,7 +238,7 @@ module _ (entries : List Record) (up : ByPath entries) where
   end_held None k l m p = omega (arith, l, m)
   end_held (Some d) k l m p =
       let known = parent_known entries k d p in
-      let g = subst (IsGreatest n (is_above entries k)) p (greatest_told n (is_above entries k)) in
+      let g = subst (IsGreatest n (is_above entries k)) p (greatest_shown n (is_above entries k)) in
       let a = above_end d k known.0 m g.1 in
       omega (arith, a, l)
 
@@ -260,7 +260,7 @@ module _ (entries : List Record) (up : ByPath entries) where
       → parent_of entries (first_held found) ≡ found
   first_parent None h l = none_first (parent_of entries 0) (parent_before entries up 0)
   first_parent (Some d) h l =
-      let t = extent_told entries up d h.0 in
+      let t = extent_shown entries up d h.0 in
       let w : d + 1 < n = omega (arith, l, t.within) in
       greatest_is n (is_above entries (d + 1)) d h.0 (above_from d (d + 1) h.1 (omega arith) l h.0)
       (λ x a b. false_from_ne_true (is_above entries (d + 1) x)
@@ -279,7 +279,7 @@ module _ (entries : List Record) (up : ByPath entries) where
   in_by : (job : ℕ) (found : Option ℕ) → job_directory entries job ≡ found → IsIn found
   in_by job None h = tt
   in_by zero (Some d) h = cc
-  in_by (suc i) (Some d) h = let r = told_at entries i d h in (r.known, r.is_one)
+  in_by (suc i) (Some d) h = let r = shown_at entries i d h in (r.known, r.is_one)
 
   left_by : (job : ℕ) (found : Option ℕ) → job_directory entries job ≡ found
       → children_from entries job (first_held found) ≡ entries_of_job entries job
@@ -315,7 +315,7 @@ module _ (entries : List Record) (up : ByPath entries) where
     where
       by_found : (found : Option ℕ) → IsIn found → end_under entries found ≤ n
       by_found None h = omega arith
-      by_found (Some d) h = (extent_told entries up d h.0).within
+      by_found (Some d) h = (extent_shown entries up d h.0).within
 
   module _ (job next end : ℕ) (placed : IsPlaced entries job next end) where
     abbrev directory : Option ℕ

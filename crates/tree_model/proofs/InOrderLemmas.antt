@@ -28,9 +28,9 @@ test_stays f e apart = elim (cases_lt f e) [
   | inr ge ↦ le-ltb f (e + 1) (omega (arith, ge, apart)) ∙ sym (le-ltb f e ge)
 ]
 
-told_stays : (inodes : List Inode) (e : ℕ) (q : Inode) → (first_with_inode inodes q ≡ e → ⊥)
+shown_stays : (inodes : List Inode) (e : ℕ) (q : Inode) → (first_with_inode inodes q ≡ e → ⊥)
     → first_before inodes e q ≡ first_before inodes (e + 1) q
-told_stays inodes e q apart = ap (λ b. cond b (Some (first_with_inode inodes q)) None)
+shown_stays inodes e q apart = ap (λ b. cond b (Some (first_with_inode inodes q)) None)
     (sym (test_stays (first_with_inode inodes q) e apart))
 
 module _ (inodes : List Inode) (e : ℕ) (l : e < length inodes) where
@@ -42,12 +42,12 @@ module _ (inodes : List Inode) (e : ℕ) (l : e < length inodes) where
       exact q own (ap (λ k. same_inode q (inode_in inodes k)) (sym f)
       ∙ same_first inodes q (omega (arith, f, l)))
 
-  by_told : (b : Bool) (f : ℕ) → nat_lt (first_with_inode inodes own) e ≡ b
+  by_shown : (b : Bool) (f : ℕ) → nat_lt (first_with_inode inodes own) e ≡ b
       → cond b (Some (first_with_inode inodes own)) None ≡ Some f
       → (first_with_inode inodes own ≡ f) × (first_with_inode inodes own < e)
-  by_told true f h same =
+  by_shown true f h same =
       (same_Some (first_with_inode inodes own) f same, ltb-true (first_with_inode inodes own) e h)
-  by_told false f h same = cc
+  by_shown false f h same = cc
 
   by_none : (b : Bool) → nat_lt (first_with_inode inodes own) e ≡ b
       → cond b (Some (first_with_inode inodes own)) None ≡ None → first_with_inode inodes own ≡ e
@@ -57,16 +57,17 @@ module _ (inodes : List Inode) (e : ℕ) (l : e < length inodes) where
 
   module _ (kept : BTreeMap Inode ℕ) (put : AreFirstsPut inodes e kept) where
     -- an inode that is kept
-    pub told_first : (f : ℕ) → tree.get inode_cmp kept own ≡ Some f
+    pub shown_first : (f : ℕ) → tree.get inode_cmp kept own ≡ Some f
         → f ≡ first_with_inode inodes own
-    told_first f h =
-        sym (by_told (nat_lt (first_with_inode inodes own) e) f refl (sym (put own) ∙ h)).0
+    shown_first f h =
+        sym (by_shown (nat_lt (first_with_inode inodes own) e) f refl (sym (put own) ∙ h)).0
 
     pub put_again : (f : ℕ) → tree.get inode_cmp kept own ≡ Some f
         → AreFirstsPut inodes (e + 1) kept
     put_again f h =
-        let low = (by_told (nat_lt (first_with_inode inodes own) e) f refl (sym (put own) ∙ h)).1 in
-        λ q. put q ∙ told_stays inodes e q
+        let low = (by_shown (nat_lt (first_with_inode inodes own) e) f refl (sym (put own) ∙ h)).1
+        in
+        λ q. put q ∙ shown_stays inodes e q
         (λ same. (let one = ap (first_with_inode inodes) (met_here q same) in
         omega (arith, same, one, low)))
 
@@ -82,7 +83,7 @@ module _ (inodes : List Inode) (e : ℕ) (l : e < length inodes) where
         sym (ap (λ b. cond b (Some (first_with_inode inodes q)) None)
         (lt-ltb (first_with_inode inodes q) (e + 1) (omega (arith, one))) ∙ ap Some one)
     put_case q false f other =
-        put q ∙ told_stays inodes e q
+        put q ∙ shown_stays inodes e q
         (λ same. true≢false (sym (ap (same_inode own) (met_here q same) ∙ same_itself own) ∙ other))
 
     pub put_new : (kept' : BTreeMap Inode ℕ) → tree.get inode_cmp kept own ≡ None

@@ -37,8 +37,8 @@ module _ (entries : List Record) where
   dirs = directories_in entries
 
   -- the directory at an index, and its job
-  pub told_at : (i d : ℕ) → slice_get dirs i ≡ Some d → IsJobOf entries (suc i) d
-  told_at i d h =
+  pub shown_at : (i d : ℕ) → slice_get dirs i ≡ Some d → IsJobOf entries (suc i) d
+  shown_at i d h =
       let l : i < length dirs = slice_get_within dirs i d h in
       let r = passes_at (is_directory entries) (length entries) i l in
       let same : get_or dirs i 0 ≡ d = get_or_from_slice_get dirs i d 0 h in
@@ -66,7 +66,7 @@ module _ (entries : List Record) where
       → IfSome found (λ d. d < length entries)
   directory_known job None h = tt
   directory_known zero (Some d) h = cc
-  directory_known (suc i) (Some d) h = (told_at i d (sym h)).known
+  directory_known (suc i) (Some d) h = (shown_at i d (sym h)).known
 
   -- the job of a directory leads back to it
   pub directory_back : (d : ℕ) → d < length entries → is_directory entries d ≡ true
@@ -97,14 +97,14 @@ module _ (entries : List Record) where
   parent_job None e h = refl
   parent_job (Some d) e h = let k = parent_known entries e d h in directory_back d k.0 k.1
 
-  pub home_told : (e : ℕ) → job_directory entries (entry_home entries e) ≡ parent_of entries e
-  home_told e = parent_job (parent_of entries e) e refl
+  pub home_shown : (e : ℕ) → job_directory entries (entry_home entries e) ≡ parent_of entries e
+  home_shown e = parent_job (parent_of entries e) e refl
 
   has_each : (job : ℕ) → 0 < job → job ≤ length dirs → (d : ℕ) × IsJobOf entries job d
   has_each zero low high = absurd (omega (arith, low))
   has_each (suc i) low high = (
     get_or dirs i 0,
-    told_at i (get_or dirs i 0)
+    shown_at i (get_or dirs i 0)
         (slice_get-get_or dirs i 0 (omega (arith, high))),
   )
 
@@ -114,7 +114,7 @@ module _ (entries : List Record) where
   job_back (suc i) h =
       let t : slice_get dirs i ≡ Some (get_or dirs i 0) =
       slice_get-get_or dirs i 0 (omega (arith, h)) in
-      ap (job_for entries) t ∙ (told_at i (get_or dirs i 0) t).back
+      ap (job_for entries) t ∙ (shown_at i (get_or dirs i 0) t).back
 
   parent_there : (job d : ℕ) → job_directory entries job ≡ Some d
       → job_directory entries (get_or (map (entry_home entries) dirs) (job - 1) 0)
@@ -127,7 +127,7 @@ module _ (entries : List Record) where
       (ap (λ k. get_or (map (entry_home entries) dirs) k 0) at
       ∙ get_or-map (entry_home entries) dirs i 0 0 l
       ∙ ap (entry_home entries) (get_or_from_slice_get dirs i d 0 h))
-      ∙ home_told d
+      ∙ home_shown d
 
   -- ---- the job of a directory, by a search
 
@@ -153,7 +153,7 @@ module _ (entries : List Record) where
       × ((k : ℕ) → i ≤ k → k < length dirs → d < get_or dirs k 0))
       → Searched d r
   search_case d l dir (Ok i) s =
-      let t = told_at i d (slice_get-get_or dirs i 0 s.0 ∙ ap Some s.1) in
+      let t = shown_at i d (slice_get-get_or dirs i 0 s.0 ∙ ap Some s.1) in
       let few : length dirs ≤ length entries = below_few entries (length entries) in
       (omega (arith, t.back), omega (arith, s.0, few))
   search_case d l dir (Err i) s =
@@ -195,6 +195,6 @@ jobs_are entries = record {
     back = refl;
   };
   home = λ e l. ap (job_directory entries) (mapped_at (entry_home entries) (length entries) e l)
-      ∙ home_told entries e;
+      ∙ home_shown entries e;
   parent = parent_there entries;
 }

@@ -14,7 +14,7 @@ use Rattle.std.proofs.lemmas.List.Sums.{position_or_len_is}
 use Rattle.std.proofs.Math.Seq.{get_or-append_seam}
 use Rattle.label_base.specs.Bounded.{all_numbers}
 use Rattle.file_paths.specs.Path.{strictly_below}
-use Rattle.label_base.proofs.BoundedLemmas.{IsGreatest, count_numbers, greatest_told}
+use Rattle.label_base.proofs.BoundedLemmas.{IsGreatest, count_numbers, greatest_shown}
 use Rattle.find_records.specs.Record.{Record}
 use Rattle.walk_steps.specs.Shaped.{IsValid}
 use Rattle.walk_steps.specs.declared.shape.Shape.{Shape}
@@ -199,7 +199,7 @@ parent_case entries e d (Some x) g h =
 pub parent_known : (entries : List Record) (e d : ℕ) → parent_of entries e ≡ Some d
     → (d < length entries) × (is_directory entries d ≡ true)
 parent_known entries e d h = parent_case entries e d (parent_of entries e)
-    (greatest_told (length entries) (is_above entries e)) h
+    (greatest_shown (length entries) (is_above entries e)) h
 
 pub home_some : (entries : List Record) (e d : ℕ) → parent_of entries e ≡ Some d
     → directories_below entries (suc d) ≡ entry_home entries e
@@ -249,9 +249,9 @@ mapped_count : (f : ℕ → ℕ) (n : ℕ) → length (map f (all_numbers n)) �
 mapped_count f n = length-map (all_numbers n) f ∙ count_numbers n
 
 -- a list that is told item by item
-pub told_all : (f : ℕ → ℕ) (n : ℕ) (xs : List ℕ) → length xs ≡ n
+pub shown_all : (f : ℕ → ℕ) (n : ℕ) (xs : List ℕ) → length xs ≡ n
     → ((e : ℕ) → e < n → get_or xs e 0 ≡ f e) → xs ≡ map f (all_numbers n)
-told_all f n xs s h = ext_get_or 0 xs (map f (all_numbers n)) (s ∙ sym (mapped_count f n))
+shown_all f n xs s h = ext_get_or 0 xs (map f (all_numbers n)) (s ∙ sym (mapped_count f n))
     (λ e l. let w : e < n = omega (arith, l, s) in h e w ∙ sym (mapped_at f n e w))
 
 -- the shape of a tree is valid

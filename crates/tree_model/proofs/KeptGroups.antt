@@ -55,10 +55,10 @@ lists_groups entries groups names starts count h n names_is starts_is = record {
 pub groups_held : (entries : List Record) (ends groups : List ℕ) (closed : List Bool)
     → ByPath entries → EndsFrom 0 entries ends → groups ≡ groups_behind [] (map inode_of entries)
     → AreClosed groups ends 0 closed → AreClosedFrom entries (length entries) closed
-groups_held entries ends groups closed up kept h told =
+groups_held entries ends groups closed up kept h shown =
     let same : groups_of entries ≡ groups = own entries ∙ sym h in
     let flags : AreClosed (groups_of entries) ends 0 closed =
-    subst (λ gs. AreClosed gs ends 0 closed) (sym same) told in
+    subst (λ gs. AreClosed gs ends 0 closed) (sym same) shown in
     record {
       sized = flags.sized ∙ count_groups entries;
       before = λ d a l. flags.flags d (omega arith) (omega (arith, l, count_groups entries))
@@ -137,8 +137,8 @@ module _ (entries : List Record) (groups names starts : List ℕ)
   same_groups : groups_of entries ≡ groups
   same_groups = own entries ∙ sym kept.groups_are
 
-  pub group_told : (e : ℕ) → e < length entries → get_or groups e 0 ≡ group_of entries e
-  group_told e l = ap (λ gs. get_or gs e 0) (sym same_groups) ∙ group_at entries e l
+  pub group_shown : (e : ℕ) → e < length entries → get_or groups e 0 ≡ group_of entries e
+  group_shown e l = ap (λ gs. get_or gs e 0) (sym same_groups) ∙ group_at entries e l
 
   pub group_count : length groups ≡ length entries
   group_count = sized entries groups kept.groups_are
@@ -146,11 +146,11 @@ module _ (entries : List Record) (groups names starts : List ℕ)
   pub starts_count : length starts ≡ groups_in entries + 1
   starts_count = kept.starts_are.sized
 
-  pub names_told : (g from to : ℕ) → g < groups_in entries → from ≡ get_or starts g 0
+  pub names_seen : (g from to : ℕ) → g < groups_in entries → from ≡ get_or starts g 0
       → to ≡ get_or starts (g + 1) 0
       → (from ≤ to) × (to ≤ length names)
       × (take (to - from) (drop from names) ≡ names_in entries g)
-  names_told g from to l f t =
+  names_seen g from to l f t =
       let p = part_of groups names starts (groups_in entries) g from to kept.names_are
       kept.starts_are l f t in
       (p.0, p.1, p.2 ∙ ap (λ gs. names_at gs 0 g) (sym same_groups) ∙ names_are entries g)
@@ -171,7 +171,7 @@ pub part_here : (entries : List Record) (groups names starts : List ℕ)
     → ListsGroups entries groups names starts → (g : ℕ) → g < groups_in entries
     → IsPart entries names starts g
 part_here entries groups names starts kept g l =
-    let t = names_told entries groups names starts kept g (get_or starts g 0)
+    let t = names_seen entries groups names starts kept g (get_or starts g 0)
     (get_or starts (g + 1) 0) l refl refl in
     record {
       known = omega (arith, l, kept.starts_are.sized);

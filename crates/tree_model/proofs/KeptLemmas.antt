@@ -8,7 +8,7 @@ use Rattle.std.specs.Cmp.{first_so, second_so}
 use Rattle.find_records.specs.Record.{Record}
 use Rattle.tree_model.specs.Extents.{EndsFrom, extent_of, in_extent, is_inside}
 use Rattle.tree_model.specs.Tree.{ByPath}
-use Rattle.tree_model.proofs.ExtentLemmas.{HasExtent, extent_is, extent_told, in_chain, in_itself}
+use Rattle.tree_model.proofs.ExtentLemmas.{HasExtent, extent_is, extent_shown, in_chain, in_itself}
 
 -- the entries from d to c are at or below d
 pub record Inside (entries : List Record) (d c : ℕ) : Type 0 where
@@ -26,18 +26,18 @@ module _ (entries : List Record) (up : ByPath entries) (ends : List ℕ) (d : �
         subst (λ k. in_extent entries d k ≡ true) (sym same) (in_itself entries up d));
   }
 
-  told : (c : ℕ) → Inside entries d c → is_inside entries d c ≡ true
+  shown : (c : ℕ) → Inside entries d c → is_inside entries d c ≡ true
       → HasExtent entries c (get_or ends c 0)
-  told c i h =
+  shown c i h =
       let l = ltb-true c (length entries)
       (first_so (nat_lt c (length entries)) (in_extent entries d c) h) in
       subst (HasExtent entries c) (sym (kept.each c (omega (arith, i.behind)) l))
-      (extent_told entries up c l)
+      (extent_shown entries up c l)
 
   pub inside_next : (c : ℕ) → Inside entries d c → is_inside entries d c ≡ true
       → Inside entries d (get_or ends c 0)
   inside_next c i h =
-      let t = told c i h in
+      let t = shown c i h in
       record {
         behind = omega (arith, i.behind, t.behind);
         within = t.within;
@@ -47,7 +47,7 @@ module _ (entries : List Record) (up : ByPath entries) (ends : List ℕ) (d : �
 
   pub inside_more : (c : ℕ) → Inside entries d c → is_inside entries d c ≡ true
       → length entries - get_or ends c 0 < length entries - c
-  inside_more c i h = let t = told c i h in omega (arith, t.behind, t.within)
+  inside_more c i h = let t = shown c i h in omega (arith, t.behind, t.within)
 
   pub inside_end : (c : ℕ) → Inside entries d c → is_inside entries d c ≡ false
       → c ≡ extent_of entries d

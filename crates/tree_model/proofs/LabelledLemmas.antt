@@ -126,12 +126,12 @@ module _ (old new : List Record) (count : length new ≡ length old)
 
   pub rises : ByPath old → ByPath new
   rises up i j d l m =
-      let told : (k : ℕ) → k < length new → get_or new k d ≡ entry_at new k =
+      let shown : (k : ℕ) → k < length new → get_or new k d ≡ entry_at new k =
       λ k h. get_or_default new k d no_record h in
       subst (λ p. path_cmp p (get_or new j d).path ≡ Less)
-      (sym (ap (λ r. r.path) (told i (omega (arith, l, m))) ∙ paths i))
+      (sym (ap (λ r. r.path) (shown i (omega (arith, l, m))) ∙ paths i))
       (subst (λ p. path_cmp (entry_at old i).path p ≡ Less)
-      (sym (ap (λ r. r.path) (told j m) ∙ paths j))
+      (sym (ap (λ r. r.path) (shown j m) ∙ paths j))
       (up i j no_record l (omega (arith, m, count))))
 
   all_same : {X : Type 0} (f : Record → X) → ((e : ℕ) → f (entry_at new e) ≡ f (entry_at old e))

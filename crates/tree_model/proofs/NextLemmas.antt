@@ -8,7 +8,7 @@ use Rattle.find_records.specs.Record.{Record}
 use Rattle.tree_model.specs.Extents.{is_directory}
 use Rattle.tree_model.specs.Jobs.{directories_below, directories_in, job_directory, job_of}
 use Rattle.tree_model.proofs.JobLemmas.{below_more, job_is, passes_at}
-use Rattle.tree_model.proofs.JobLaws.{directory_back, told_at}
+use Rattle.tree_model.proofs.JobLaws.{directory_back, shown_at}
 
 -- a directory stands behind those before it
 next_there : (entries : List Record) (e : ℕ) → e < length entries → is_directory entries e ≡ true
@@ -30,7 +30,7 @@ next_some entries e d l found = by_case (is_directory entries e) refl
         eq-eqb d e (same_Some d e (sym found ∙ next_there entries e l h)) ∙ sym h
     by_case false h =
         ne_eqb d e (λ same. true≢false
-        (sym (told_at entries (directories_below entries e) d found).is_one
+        (sym (shown_at entries (directories_below entries e) d found).is_one
         ∙ ap (is_directory entries) same ∙ h)) ∙ sym h
 
 pub next_none : (entries : List Record) (e : ℕ) → e < length entries

@@ -5,7 +5,7 @@ use Rattle.std.proofs.lemmas.Bool.{cases_lt, le-leb, lt-ltb, false_from_ne_true,
 use Rattle.std.specs.Prelude.{Option, Some, None, IfSome, ◌&&◌, nat_lt}
 use Rattle.std.specs.Cmp.{first_so, second_so}
 use Rattle.file_paths.specs.Path.{strictly_below}
-use Rattle.label_base.proofs.BoundedLemmas.{IsGreatest, greatest_is, greatest_none, greatest_told}
+use Rattle.label_base.proofs.BoundedLemmas.{IsGreatest, greatest_is, greatest_none, greatest_shown}
 use Rattle.find_records.specs.Record.{Record}
 use Rattle.tree_model.specs.Extents.{EndsFrom, before, entry_at, extent_of, in_extent, is_above}
 use Rattle.tree_model.specs.Extents.{is_directory, one_behind, parent_of}
@@ -125,7 +125,7 @@ module _ (entries : List Record) (up : ByPath entries) where
   upto_next a e new u m not h =
       subst (UpTo entries e) (sym h)
       (upto_by a e (parent_of entries a) u m not
-      (greatest_told (length entries) (is_above entries a)))
+      (greatest_shown (length entries) (is_above entries a)))
 
   less_by : (a : ℕ) (found : Option ℕ) → IsGreatest (length entries) (is_above entries a) found
       → one_behind found < a + 1
@@ -135,7 +135,7 @@ module _ (entries : List Record) (up : ByPath entries) where
   pub parent_less : (a : ℕ) (new : Option ℕ) → new ≡ parent_of entries a → one_behind new < a + 1
   parent_less a new h =
       subst (λ o. one_behind o < a + 1) (sym h)
-      (less_by a (parent_of entries a) (greatest_told (length entries) (is_above entries a)))
+      (less_by a (parent_of entries a) (greatest_shown (length entries) (is_above entries a)))
 
   pub upto_found : (a e : ℕ) → UpTo entries e (Some a) → e < length entries → is_above entries e a
       ≡ true → Some a ≡ parent_of entries e
@@ -152,4 +152,4 @@ module _ (entries : List Record) (up : ByPath entries) where
 
   pub parent_before : (e : ℕ) → IfSome (parent_of entries e) (λ d. d < e)
   parent_before e =
-      before_by e (parent_of entries e) (greatest_told (length entries) (is_above entries e))
+      before_by e (parent_of entries e) (greatest_shown (length entries) (is_above entries e))

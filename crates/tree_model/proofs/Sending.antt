@@ -9,8 +9,8 @@ use Rattle.context_syntax.specs.contracts.label.Label as Label
 use Rattle.find_records.specs.contracts.labels.Spelled as Spelled
 use Rattle.find_records.specs.contracts.labels.Labels as Labels
 use Rattle.find_records.specs.contracts.all_labels.AllLabels as AllLabels
-use Rattle.find_records.specs.contracts.mark_row.MarkRow as MarkRow
-use Rattle.find_records.specs.contracts.marks.Marks as Marks
+use Rattle.find_records.specs.contracts.profile_row.ProfileRow as ProfileRow
+use Rattle.find_records.specs.contracts.profiles.Profiles as Profiles
 use Rattle.find_records.specs.contracts.row.RecordRow as RecordRow
 use Rattle.find_records.specs.contracts.records.Records as Records
 use Rattle.tree_model.specs.contracts.sorted.Sorted as Sorted
@@ -33,11 +33,12 @@ labels_sync = search (sendable, crosses, spelled_sync, BTreeMap-sync) depth 60
 all_labels_sync : IsSync AllLabels.the_row
 all_labels_sync = search (sendable, crosses, label_sync, labels_sync) depth 40
 
-mark_row_sync : IsSync MarkRow.the_row
-mark_row_sync = search (sendable, crosses) depth 40
+profile_row_sync : IsSync ProfileRow.the_row
+profile_row_sync = search (sendable, crosses) depth 40
 
-marks_sync : IsSync Marks.the_row
-marks_sync = search (sendable, crosses, all_labels_sync, mark_row_sync, BTreeMap-sync) depth 60
+profiles_sync : IsSync Profiles.the_row
+profiles_sync = search
+    (sendable, crosses, all_labels_sync, profile_row_sync, BTreeMap-sync) depth 60
 
 kind_sync : IsSync (EntryKind.the_field).row
 kind_sync = search (sendable, crosses) depth 40
@@ -46,7 +47,7 @@ record_row_sync : IsSync RecordRow.the_row
 record_row_sync = search (sendable, crosses, kind_sync) depth 40
 
 pub records_sync : IsSync Records.the_row
-records_sync = search (sendable, crosses, marks_sync, record_row_sync) depth 40
+records_sync = search (sendable, crosses, profiles_sync, record_row_sync) depth 40
 
 sorted_sync : IsSync Sorted.the_row
 sorted_sync = search (sendable, crosses, records_sync) depth 40

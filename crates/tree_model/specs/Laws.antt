@@ -8,7 +8,7 @@ use Rattle.tree_model.specs.Groups.{group_of, groups_in}
 use Rattle.tree_model.specs.Tree.{find_in}
 
 -- two records tell one inode: one number on one device
-pub record TellOneInode (a b : Record) : Type 0 where
+pub record NameOneInode (a b : Record) : Type 0 where
   pub device : a.device ≡ b.device
   pub inode : a.inode ≡ b.inode
 
@@ -23,7 +23,7 @@ pub record GroupsAreInodes (entries : List Record) : Type 0 where
   -- two entries have one group just where they tell one inode
   pub same : (a b : ℕ) → a < length entries → b < length entries
       → (group_of entries a ≡ group_of entries b)
-      ↔ TellOneInode (entry_at entries a) (entry_at entries b)
+      ↔ NameOneInode (entry_at entries a) (entry_at entries b)
   -- each entry has one of the groups, and each group has an entry
   pub within : (e : ℕ) → e < length entries → group_of entries e < groups_in entries
   pub some : (g : ℕ) → g < groups_in entries → HasEntryBefore entries (length entries) g

@@ -118,7 +118,8 @@ fn first_along(entries: &Bucketed<'_>, e: u32, steps: &mut u64) -> u32
         entries.now.first.now entries.now.next.now }
     requires within { e < length entries.now.inodes.now }
     ensures { result < length entries.now.inodes.now
-        → result ≡ first_with_inode entries.now.inodes.now (get_or entries.now.inodes.now e (0, 0)) }
+        → result ≡ first_with_inode entries.now.inodes.now
+        (get_or entries.now.inodes.now e (0, 0)) }
 {
     let mut found = entries.first[entries.buckets[e as usize] as usize];
     'names: while !is_same_inode(entries.inodes, e, found) {

@@ -179,7 +179,7 @@ impl Selected {
     }
 
     /// Whether an entry is meant.
-    #[tactic(auto, using(crate::proofs::DeadLemmas::flag_told))]
+    #[tactic(auto, using(crate::proofs::DeadLemmas::flag_shown))]
     pub fn is_live(&self, e: u32) -> bool
         requires { e < length self.now.live }
         ensures { result ≡ get_or self.now.live e false }

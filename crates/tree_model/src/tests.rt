@@ -3,14 +3,14 @@ use crate::{
 };
 use context_syntax::Label;
 use file_paths::NormPath;
-use find_records::{Records, Told};
+use find_records::{RawRecord, Records};
 use label_base::{EntryKind, Row};
 use std::alloc::Global;
 use std::test::Fail;
 
 // What is told of an entry on device 1.
-fn told<'a>(kind: EntryKind, inode: u64, path: &'a [u8]) -> Told<'a> {
-    Told {
+fn told<'a>(kind: EntryKind, inode: u64, path: &'a [u8]) -> RawRecord<'a> {
+    RawRecord {
         kind,
         device: 1,
         inode,
@@ -20,15 +20,15 @@ fn told<'a>(kind: EntryKind, inode: u64, path: &'a [u8]) -> Told<'a> {
     }
 }
 
-fn file<'a>(inode: u64, path: &'a [u8]) -> Told<'a> {
+fn file<'a>(inode: u64, path: &'a [u8]) -> RawRecord<'a> {
     told(EntryKind::Regular, inode, path)
 }
 
-fn directory<'a>(inode: u64, path: &'a [u8]) -> Told<'a> {
+fn directory<'a>(inode: u64, path: &'a [u8]) -> RawRecord<'a> {
     told(EntryKind::Directory, inode, path)
 }
 
-fn tree_from(alloc: Global, all: &[Told<'_>]) -> Result<Tree, TreeFault> {
+fn tree_from(alloc: Global, all: &[RawRecord<'_>]) -> Result<Tree, TreeFault> {
     let mut records = Records::new(alloc);
     for told in all {
         if records.len() == u32::MAX || records.push(alloc, told).is_err() {
@@ -41,7 +41,7 @@ fn tree_from(alloc: Global, all: &[Told<'_>]) -> Result<Tree, TreeFault> {
     Tree::new(alloc, records)
 }
 
-fn fault_of(alloc: Global, all: &[Told<'_>]) -> Option<TreeFault> {
+fn fault_of(alloc: Global, all: &[RawRecord<'_>]) -> Option<TreeFault> {
     tree_from(alloc, all).err()
 }
 
@@ -73,7 +73,7 @@ fn counts_a_record_once(rt: HostRuntime) -> Result<(), Fail> {
 }
 
 // Whether these records make no tree, for the doubled ones have these numbers.
-fn is_doubled(alloc: Global, all: &[Told<'_>], first: u32, second: u32) -> bool {
+fn is_doubled(alloc: Global, all: &[RawRecord<'_>], first: u32, second: u32) -> bool {
     match tree_from(alloc, all) {
         Ok(_) => false,
         Err(fault) => fault == TreeFault::Doubled { first, second },
@@ -222,7 +222,7 @@ fn tells_groups(rt: HostRuntime) -> Result<(), Fail> {
 }
 
 // The same, with a link count.
-fn counted<'a>(told: Told<'a>, links: u64) -> Told<'a> {
+fn counted<'a>(told: RawRecord<'a>, links: u64) -> RawRecord<'a> {
     let mut counted = told;
     counted.links = Some(links);
     counted
@@ -291,7 +291,7 @@ fn takes_the_first_label(rt: HostRuntime) -> Result<(), Fail> {
 }
 
 // The tree of names of one inode, without its label.
-fn unlabelled(alloc: Global, all: &[Told<'_>]) -> Result<Tree, TreeFault> {
+fn unlabelled(alloc: Global, all: &[RawRecord<'_>]) -> Result<Tree, TreeFault> {
     let tree = tree_from(alloc, all)?;
     let mut labels = Row::new(alloc);
     labels.push(Label::Absent)?;
@@ -358,7 +358,7 @@ fn means(
 // The same of the tree of these records, where no operand is absent.
 fn means_in(
     alloc: Global,
-    all: &[Told<'_>],
+    all: &[RawRecord<'_>],
     choice: &Choice,
     wanted: &[bool],
 ) -> Result<bool, TreeFault> {

@@ -1,4 +1,4 @@
-use Rattle.find_records.proofs.Taking.{answer_of, told_nothing}
+use Rattle.find_records.proofs.Taking.{answer_of, shown_nothing}
 use Rattle.find_records.proofs.reading.read_records.Goals as goal
 
 pub returns-clause-of_format : goal.returns-clause-of_format

@@ -2,8 +2,9 @@ use Rattle.std.proofs.Common.{◌+◌, ◌≤◌, ◌∙◌, arith, rules, lengt
 use Rattle.std.proofs.lemmas.Result.{err_from_is_err_and}
 use Rattle.std.proofs.lemmas.List.{length-take, length-drop}
 use Rattle.input_output.proofs.Known.{Consumes-then, Consumes-keeps}
-use Rattle.find_records.proofs.Taking.{counts_end, taken_more, taken_nothing, told_end, told_fault}
-use Rattle.find_records.proofs.Taking.{told_long, told_want, of_end}
+use Rattle.find_records.proofs.Taking.{counts_end, taken_more, taken_nothing, shown_end}
+use Rattle.find_records.proofs.Taking.{shown_fault}
+use Rattle.find_records.proofs.Taking.{shown_long, shown_want, of_end}
 use Rattle.find_records.proofs.reading.take_pieces.Goals as goal
 
 pub pieces-init : goal.pieces-init
@@ -25,7 +26,7 @@ returns-in_err-take-in-Got-clause-fault g c =
     let small : c.pieces.taken + c.in-Got.count ≤ c.args.limits.bytes + 1 = search rules in
     let size : length (take c.in-Got.count c.read.new.buf) ≤ c.in-Got.count =
     omega (arith, length-take c.in-Got.count c.read.new.buf) in
-    rw (p.1, p.2) (told_want c.args.format c.args.limits (left c.args.source.now)
+    rw (p.1, p.2) (shown_want c.args.format c.args.limits (left c.args.source.now)
     (left c.read.new.self) _
     (Consumes-then (left c.args.source.now) (left c.pieces.source) (left c.read.new.self)
     so_far.bytes _ so_far.took c.in-Got.ensures.took.2)
@@ -54,10 +55,10 @@ pieces-preserved g c =
       room = search (arith, length-append, length-drop, c.pieces.invariant.room);
     }
 
-pub returns-in-End-clause-told : goal.returns-in-End-clause-told
-returns-in-End-clause-told g c answer meant =
+pub returns-in-End-clause-known : goal.returns-in-End-clause-known
+returns-in-End-clause-known g c answer meant =
     let left = g.I.Source.left in
-    told_end c.args.format c.args.limits (left c.args.source.now) (left c.pieces.source)
+    shown_end c.args.format c.args.limits (left c.args.source.now) (left c.pieces.source)
     (left c.read.new.self) c.pieces.taken c.pieces.so_far answer c.pieces.invariant.taken
     (omega (arith, c.pieces-test.true))
     c.in-End.ensures.took.0 c.in-End.ensures.took.1 meant
@@ -73,7 +74,7 @@ pub returns-in-Failed-clause-fault : goal.returns-in-Failed-clause-fault
 returns-in-Failed-clause-fault g c =
     let left = g.I.Source.left in
     let so_far = c.pieces.invariant.taken in
-    told_fault c.args.format c.args.limits (left c.args.source.now) (left c.read.new.self)
+    shown_fault c.args.format c.args.limits (left c.args.source.now) (left c.read.new.self)
     so_far.bytes (Consumes-keeps (left c.args.source.now) (left c.pieces.source)
     (left c.read.new.self) so_far.bytes so_far.took c.in-Failed.ensures.took)
     (omega (arith, so_far.size, c.pieces.invariant.small))
@@ -82,7 +83,7 @@ pub returns-clause-fault : goal.returns-clause-fault
 returns-clause-fault g c =
     let left = g.I.Source.left in
     let so_far = c.pieces.invariant.taken in
-    told_long c.args.format c.args.limits (left c.args.source.now) (left c.pieces.source)
+    shown_long c.args.format c.args.limits (left c.args.source.now) (left c.pieces.source)
     so_far.bytes so_far.took
     (omega (arith, so_far.size, c.pieces-test.false, c.pieces.invariant.small))
 

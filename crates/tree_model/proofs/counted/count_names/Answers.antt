@@ -1,6 +1,6 @@
 use Rattle.std.proofs.Common.{◌≡◌, ◌∙◌, ◌<◌, ap, sym, subst, arith, length, get_or}
 use Rattle.tree_model.specs.Groups.{group_of, groups_in, names_in}
-use Rattle.tree_model.proofs.KeptGroups.{group_count, group_told, group_within, part_is}
+use Rattle.tree_model.proofs.KeptGroups.{group_count, group_shown, group_within, part_is}
 use Rattle.tree_model.proofs.counted.count_names.Goals as goal
 
 pub word_at-group-requires : goal.word_at-group-requires
@@ -15,7 +15,7 @@ part_at-requires c =
     let e = c.args.e in
     let own : c.word_at-group.result ≡ group_of s e = c.word_at-group.ensures
     ∙ ap (λ ws. get_or ws e 0) c.as_slice.ensures.value
-    ∙ group_told s _ _ _ lists e c.requires.known in
+    ∙ group_shown s _ _ _ lists e c.requires.known in
     let within : c.word_at-group.result < groups_in s =
     subst (λ g. g < groups_in s) (sym own) (group_within s _ _ _ lists e c.requires.known) in
     let p = part_is s s _ _ _ c.as_slice-2.result.now c.as_slice-3.result.now (λ i. s)
@@ -29,7 +29,7 @@ returns c =
     let e = c.args.e in
     let own : c.word_at-group.result ≡ group_of s e = c.word_at-group.ensures
     ∙ ap (λ ws. get_or ws e 0) c.as_slice.ensures.value
-    ∙ group_told s _ _ _ lists e c.requires.known in
+    ∙ group_shown s _ _ _ lists e c.requires.known in
     let within : c.word_at-group.result < groups_in s =
     subst (λ g. g < groups_in s) (sym own) (group_within s _ _ _ lists e c.requires.known) in
     let p = part_is s s _ _ _ c.as_slice-2.result.now c.as_slice-3.result.now (λ i. s)

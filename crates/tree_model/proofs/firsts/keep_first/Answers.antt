@@ -3,7 +3,7 @@ use Rattle.std.specs.BTreeMap as tree
 use Rattle.std.specs.Ordering.{is_eq}
 use Rattle.std.specs.Prelude.{Some}
 use Rattle.tree_model.specs.Firsts.{inode_cmp}
-use Rattle.tree_model.proofs.InOrderLemmas.{first_here, put_again, put_new, told_first}
+use Rattle.tree_model.proofs.InOrderLemmas.{first_here, put_again, put_new, shown_first}
 use Rattle.tree_model.proofs.firsts.keep_first.Goals as goal
 
 pub returns-in-Some-clause-put : goal.returns-in-Some-clause-put
@@ -15,7 +15,7 @@ returns-in-Some-clause-put c =
 
 pub returns-in-Some-clause-first : goal.returns-in-Some-clause-first
 returns-in-Some-clause-first c =
-    told_first c.args.inodes.now c.args.e c.requires.within c.args.kept.now c.requires.put
+    shown_first c.args.inodes.now c.args.e c.requires.within c.args.kept.now c.requires.put
     c.in-Some.first.now
     (ap (tree.get inode_cmp c.args.kept.now) (sym c.get-inode.ensures)
     ∙ sym c.in-Some.ensures.value)

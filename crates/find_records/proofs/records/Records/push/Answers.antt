@@ -1,7 +1,7 @@
 use Rattle.std.proofs.Common.{◌≡◌, ◌<◌, ◌^◌, ◌-◌, ◌∙◌, ap, ◌++◌, ◌∷◌, [], length, arith}
 use Rattle.std.proofs.lemmas.List.{length-map}
 use Rattle.find_records.specs.Rows.{record_in}
-use Rattle.find_records.specs.Entry.{record_told}
+use Rattle.find_records.specs.Entry.{record_seen}
 use Rattle.find_records.proofs.RowLemmas.{on_err, rows_kept, rows_more, records_more, records_same}
 use Rattle.find_records.proofs.records.Records.push.Goals as goal
 
@@ -16,11 +16,11 @@ invariant_of-self-2 c =
       c.requires,
       ap length c.self.view_is,
       length-map s.rows.items
-          (record_in s.texts.items s.marks),
+          (record_in s.texts.items s.profiles),
     ) in
-    rows_more s.texts.items c.row_of.new.texts.items s.marks c.row_of.new.marks s.rows.items
+    rows_more s.texts.items c.row_of.new.texts.items s.profiles c.row_of.new.profiles s.rows.items
     c.push.new.self.items c.in_ok-row.row
-    c.row_of.ensures.more_texts c.row_of.ensures.more_marks more few c.in_ok-row.ensures.within
+    c.row_of.ensures.more_texts c.row_of.ensures.more_profiles more few c.in_ok-row.ensures.within
     c.self.invariant
 
 pub returns-clause-ok : goal.returns-clause-ok
@@ -28,16 +28,17 @@ returns-clause-ok c =
     let s = c.self.inside in
     let more : c.push.new.self.items ≡ s.rows.items ++ c.in_ok-row.row ∷ [] = c.in-Ok.ensures.items
     ∙ ap (λ rows. rows ++ c.in_ok-row.row ∷ []) c.reserve_row.ensures.same in
-    records_more s.texts.items c.row_of.new.texts.items s.marks c.row_of.new.marks s.rows.items
+    records_more s.texts.items c.row_of.new.texts.items s.profiles c.row_of.new.profiles
+    s.rows.items
     c.push.new.self.items c.in_ok-row.row _
-    c.row_of.ensures.more_texts c.row_of.ensures.more_marks more c.in_ok-row.ensures.value
+    c.row_of.ensures.more_texts c.row_of.ensures.more_profiles more c.in_ok-row.ensures.value
     c.self.invariant
-    ∙ ap (λ seen. seen ++ record_told c.args.told.now ∷ []) c.self.view_is
+    ∙ ap (λ seen. seen ++ record_seen c.args.raw.now ∷ []) c.self.view_is
 
 pub invariant_of-self-in_err-row : goal.invariant_of-self-in_err-row
 invariant_of-self-in_err-row c =
     let s = c.self.inside in
-    rows_kept s.texts.items c.row_of.new.texts.items s.marks c.row_of.new.marks s.rows.items
+    rows_kept s.texts.items c.row_of.new.texts.items s.profiles c.row_of.new.profiles s.rows.items
     c.reserve_row.new.rows.items
     c.row_of.ensures.more_texts c.in_err-row.ensures.same c.reserve_row.ensures.same
     c.self.invariant
@@ -46,7 +47,8 @@ pub returns-in_err-row-clause-err : goal.returns-in_err-row-clause-err
 returns-in_err-row-clause-err c =
     let s = c.self.inside in
     on_err _ _
-    (records_same s.texts.items c.row_of.new.texts.items s.marks c.row_of.new.marks s.rows.items
+    (records_same s.texts.items c.row_of.new.texts.items s.profiles c.row_of.new.profiles
+    s.rows.items
     c.reserve_row.new.rows.items
     c.row_of.ensures.more_texts c.in_err-row.ensures.same c.reserve_row.ensures.same
     c.self.invariant

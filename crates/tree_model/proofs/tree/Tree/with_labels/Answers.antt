@@ -2,7 +2,7 @@ use Rattle.std.proofs.Common.{◌≡◌, ◌∙◌, ◌<◌, ap, sym, subst, ari
 use Rattle.tree_model.specs.Groups.{groups_in}
 use Rattle.tree_model.specs.Kept.{IsTreeKept}
 use Rattle.tree_model.specs.Labelled.{DifferInLabels, labelled}
-use Rattle.tree_model.proofs.KeptGroups.{group_count, group_told, group_within}
+use Rattle.tree_model.proofs.KeptGroups.{group_count, group_shown, group_within}
 use Rattle.tree_model.proofs.LabelledLemmas.{are_places, with_differ, with_groups, with_kept}
 use Rattle.tree_model.proofs.tree.Tree.with_labels.Goals as goal
 
@@ -25,7 +25,7 @@ with_labels-requires-clause-known c =
     subst (λ gs. get_or gs e 0 < length c.args.labels.now) (sym same)
     (subst (λ k. get_or s.groups.group_of.items e 0 < k) (sym total)
     (subst (λ k. k < groups_in s.sorted)
-    (sym (group_told s.sorted _ _ _ c.self.invariant.groups_are.lists e w)) t)))
+    (sym (group_shown s.sorted _ _ _ c.self.invariant.groups_are.lists e w)) t)))
 
 pub invariant_of-result : goal.invariant_of-result
 invariant_of-result c =
@@ -50,7 +50,7 @@ returns-clause-value c =
     c.in_ok-with_labels.ensures
     ∙ with_groups c.args.labels.now c.as_slice-numbers.result.now s.sorted (ap length same ∙ count)
     (λ e l. ap (λ gs. get_or gs e 0) same
-    ∙ group_told s.sorted _ _ _ c.self.invariant.groups_are.lists e l)
+    ∙ group_shown s.sorted _ _ _ c.self.invariant.groups_are.lists e l)
     ∙ ap (labelled c.args.labels.now) c.self.view_is
 
 pub returns-clause-same : goal.returns-clause-same

@@ -3,14 +3,15 @@ use Rattle.context_syntax.specs.declared.label.Label.{Label}
 use Rattle.find_records.specs.Labelled.{ArePaired}
 use Rattle.find_records.specs.Places.{ArePlaces}
 use Rattle.find_records.specs.Rows.{AreWithin}
-use Rattle.find_records.proofs.labelled.mark_rows.Given as goal
+use Rattle.find_records.proofs.labelled.profile_rows.Given as goal
 
 -- the new rows stand for the records of the rows so far
 abbrev pub invariant-rows : goal.invariant-rows
 invariant-rows l = record {
-  few : length l.marked.marks.items < 2 ^ 32;
+  few : length l.profiled.profiles.items < 2 ^ 32;
   paired : (texts : List ℕ) → (labels : List Label) → ArePlaces (length labels) l.numbers
-      → AreWithin texts l.marks l.rows
-      → ArePaired texts l.marks (take l.i l.rows) (take l.i l.numbers) labels l.marked.marks.items
-      l.marked.rows.items;
+      → AreWithin texts l.profiles l.rows
+      → ArePaired texts l.profiles (take l.i l.rows)
+      (take l.i l.numbers) labels l.profiled.profiles.items
+      l.profiled.rows.items;
 }

@@ -2,13 +2,14 @@ ghost use Rattle.std.specs.Prelude.{◌≡◌, ◌++◌, ◌∷◌, ◌<◌, ◌
 ghost use Rattle.std.specs.Prelude.{Some, IfOk, IfSome, OnOk, OnErr};
 ghost use Rattle.context_syntax.specs.Label.{label_of, same_label};
 ghost use Rattle.find_records.specs.Labels.{Extends};
-ghost use Rattle.find_records.specs.MarkRef.{mark_lent};
-ghost use Rattle.find_records.specs.Marks.{AreMarkRows, IsWithRow, mark_of, marks_in, no_mark};
+ghost use Rattle.find_records.specs.ProfileRef.{profile_lent};
+ghost use Rattle.find_records.specs.Profiles.{AreProfileRows, IsWithRow, no_profile};
+ghost use Rattle.find_records.specs.Profiles.{profile_of, profiles_in};
 
 use crate::all_labels::AllLabels;
-use crate::entry::Told;
+use crate::entry::RawRecord;
 use crate::guesses::Guesses;
-use crate::mark_row::MarkRow;
+use crate::profile_row::ProfileRow;
 use context_syntax::Label;
 use label_base::OutOfMemory;
 use std::alloc::Global;
@@ -17,7 +18,7 @@ use std::marker::Model;
 
 /// What many records have in common.
 #[derive(Clone, Copy)]
-pub struct MarkRef<'a> {
+pub struct ProfileRef<'a> {
     pub device: u64,
     pub links: Option<u64>,
     pub label: &'a Label,
@@ -27,7 +28,7 @@ pub struct MarkRef<'a> {
 #[derive(Drop)]
 struct RowNumbers {
     // In order, as those of spellings are.
-    by_row: BTreeMap<MarkRow, u32>,
+    by_row: BTreeMap<ProfileRow, u32>,
     guesses: Guesses,
 }
 
@@ -44,25 +45,25 @@ impl RowNumbers {
 // The devices, link counts and labels of records, seen as the list of what goes together. They are
 // found by their number, from 0 on. So a record without a link count costs nothing for it.
 #[derive(Drop)]
-pub struct Marks {
+pub struct Profiles {
     labels: AllLabels,
-    rows: Vec<MarkRow>,
+    rows: Vec<ProfileRow>,
     numbers: RowNumbers,
 }
 
-impl Model for Marks {
+impl Model for Profiles {
     ghost use Rattle.std.specs.Prelude.{List};
-    ghost use Rattle.find_records.specs.Marks.{AreMarkRows, Mark, marks_in};
+    ghost use Rattle.find_records.specs.Profiles.{AreProfileRows, Profile, profiles_in};
 
-    ghost Value = { List Mark };
+    ghost Value = { List Profile };
 
-    ghost view = { λ m. marks_in m.labels m.rows.items };
+    ghost view = { λ m. profiles_in m.labels m.rows.items };
 
-    ghost invariant = { λ m. AreMarkRows m.labels m.rows.items };
+    ghost invariant = { λ m. AreProfileRows m.labels m.rows.items };
 }
 
 // The row with a number.
-fn row_at(rows: &[MarkRow], number: u32) -> MarkRow
+fn row_at(rows: &[ProfileRow], number: u32) -> ProfileRow
     requires { number < length rows.now }
     ensures { slice_get rows.now number ≡ Some result }
 {
@@ -70,7 +71,7 @@ fn row_at(rows: &[MarkRow], number: u32) -> MarkRow
 }
 
 // Whether the row with a number is this one.
-fn is_row(rows: &[MarkRow], number: u32, row: MarkRow) -> bool
+fn is_row(rows: &[ProfileRow], number: u32, row: ProfileRow) -> bool
     ensures { result ≡ true → slice_get rows.now number ≡ Some row }
 {
     match rows.get(number as usize) {
@@ -80,7 +81,7 @@ fn is_row(rows: &[MarkRow], number: u32, row: MarkRow) -> bool
 }
 
 // The number, if that row has it.
-fn number_told(rows: &[MarkRow], number: Option<u32>, row: MarkRow) -> Option<u32>
+fn number_known(rows: &[ProfileRow], number: Option<u32>, row: ProfileRow) -> Option<u32>
     ensures { IfSome result (λ number. slice_get rows.now number ≡ Some row) }
 {
     let number = number?;
@@ -92,18 +93,18 @@ fn number_told(rows: &[MarkRow], number: Option<u32>, row: MarkRow) -> Option<u3
 
 // The number of a row that is there, which mixes to this: one that is guessed, or one that is
 // found.
-fn number_in(rows: &[MarkRow], numbers: &RowNumbers, mixed: u64, row: MarkRow) -> Option<u32>
+fn number_in(rows: &[ProfileRow], numbers: &RowNumbers, mixed: u64, row: ProfileRow) -> Option<u32>
     ensures { IfSome result (λ number. slice_get rows.now number ≡ Some row) }
 {
     let guess = numbers.guesses.get(mixed);
     if is_row(rows, guess, row) {
         return Some(guess);
     }
-    number_told(rows, numbers.by_row.get(&row).copied(), row)
+    number_known(rows, numbers.by_row.get(&row).copied(), row)
 }
 
 // Adds a row behind the others: its number. There is no memory for more than there are numbers.
-fn add_row(rows: &mut Vec<MarkRow>, row: MarkRow) -> Result<u32, OutOfMemory>
+fn add_row(rows: &mut Vec<ProfileRow>, row: ProfileRow) -> Result<u32, OutOfMemory>
     requires { length rows.old.items < 2 ^ 32 }
     ensures number { IfOk result (λ number. slice_get rows.new.items number ≡ Some row) }
     ensures added { OnOk result (rows.new.items ≡ rows.old.items ++ row ∷ []) }
@@ -119,7 +120,11 @@ fn add_row(rows: &mut Vec<MarkRow>, row: MarkRow) -> Result<u32, OutOfMemory>
 }
 
 // The number of a row, which is added unless it is the one that is guessed.
-fn number_behind(rows: &mut Vec<MarkRow>, guess: u32, row: MarkRow) -> Result<u32, OutOfMemory>
+fn number_behind(
+    rows: &mut Vec<ProfileRow>,
+    guess: u32,
+    row: ProfileRow,
+) -> Result<u32, OutOfMemory>
     requires { length rows.old.items < 2 ^ 32 }
     ensures number { IfOk result (λ number. slice_get rows.new.items number ≡ Some row) }
     ensures with { IsWithRow rows.old.items row rows.new.items }
@@ -134,9 +139,9 @@ fn number_behind(rows: &mut Vec<MarkRow>, guess: u32, row: MarkRow) -> Result<u3
 
 // The number of a row, which is added if no guess leads to it.
 pub fn number_guessed(
-    rows: &mut Vec<MarkRow>,
+    rows: &mut Vec<ProfileRow>,
     guesses: &mut Guesses,
-    row: MarkRow,
+    row: ProfileRow,
 ) -> Result<u32, OutOfMemory>
     requires { length rows.old.items < 2 ^ 32 }
     ensures number { IfOk result (λ number. slice_get rows.new.items number ≡ Some row) }
@@ -153,9 +158,9 @@ pub fn number_guessed(
 // The number of a row, which is added and noted if it is new.
 fn number_of(
     alloc: Global,
-    rows: &mut Vec<MarkRow>,
+    rows: &mut Vec<ProfileRow>,
     numbers: &mut RowNumbers,
-    row: MarkRow,
+    row: ProfileRow,
 ) -> Result<u32, OutOfMemory>
     requires { length rows.old.items < 2 ^ 32 }
     ensures number { IfOk result (λ number. slice_get rows.new.items number ≡ Some row) }
@@ -177,62 +182,62 @@ fn number_of(
 
 // The number of the device, the link count and the label that are told, which are added if they are
 // new.
-fn mark_number(
+fn profile_number(
     alloc: Global,
     labels: &mut AllLabels,
-    rows: &mut Vec<MarkRow>,
+    rows: &mut Vec<ProfileRow>,
     numbers: &mut RowNumbers,
-    told: &Told<'_>,
+    raw: &RawRecord<'_>,
 ) -> Result<u32, OutOfMemory>
-    requires { AreMarkRows labels.old rows.old.items }
-    ensures marks { AreMarkRows labels.new rows.new.items }
-    ensures number { IfOk result (λ number. slice_get (marks_in labels.new rows.new.items) number
-        ≡ Some (mark_of told.now.device told.now.links (label_of told.now.label.now))) }
-    ensures extends { Extends (marks_in labels.old rows.old.items)
-        (marks_in labels.new rows.new.items) }
-    ensures same { OnErr result (marks_in labels.new rows.new.items
-        ≡ marks_in labels.old rows.old.items) }
+    requires { AreProfileRows labels.old rows.old.items }
+    ensures profiles { AreProfileRows labels.new rows.new.items }
+    ensures number { IfOk result (λ number. slice_get (profiles_in labels.new rows.new.items) number
+        ≡ Some (profile_of raw.now.device raw.now.links (label_of raw.now.label.now))) }
+    ensures extends { Extends (profiles_in labels.old rows.old.items)
+        (profiles_in labels.new rows.new.items) }
+    ensures same { OnErr result (profiles_in labels.new rows.new.items
+        ≡ profiles_in labels.old rows.old.items) }
 {
-    let label = labels.number_of(alloc, told.label)?;
-    let row = MarkRow {
-        device: told.device,
-        links: told.links,
+    let label = labels.number_of(alloc, raw.label)?;
+    let row = ProfileRow {
+        device: raw.device,
+        links: raw.links,
         label,
     };
     number_of(alloc, rows, numbers, row)
 }
 
-impl Marks {
+impl Profiles {
     // No records.
-    pub fn new(alloc: Global) -> Marks
+    pub fn new(alloc: Global) -> Profiles
         ensures { result ≡ [] }
     {
-        Marks {
+        Profiles {
             labels: AllLabels::new(alloc),
             rows: Vec::new(alloc),
             numbers: RowNumbers::new(alloc),
         }
     }
 
-    // The marks of these rows, whose labels are these.
-    pub fn of_rows(alloc: Global, labels: Vec<Label>, rows: Vec<MarkRow>) -> Marks
-        requires { AreMarkRows labels.items rows.items }
-        ensures { result ≡ marks_in labels.items rows.items }
+    // The profiles of these rows, whose labels are these.
+    pub fn of_rows(alloc: Global, labels: Vec<Label>, rows: Vec<ProfileRow>) -> Profiles
+        requires { AreProfileRows labels.items rows.items }
+        ensures { result ≡ profiles_in labels.items rows.items }
     {
-        Marks {
+        Profiles {
             labels: AllLabels::of_given(alloc, labels),
             rows,
             numbers: RowNumbers::new(alloc),
         }
     }
 
-    // The mark with a number.
-    pub fn get(&self, number: u32) -> MarkRef<'_>
+    // The profile with a number.
+    pub fn get(&self, number: u32) -> ProfileRef<'_>
         requires { number < length self.now }
-        ensures { slice_get self.now number ≡ Some (mark_lent result) }
+        ensures { slice_get self.now number ≡ Some (profile_lent result) }
     {
         let row = row_at(self.rows.as_slice(), number);
-        MarkRef {
+        ProfileRef {
             device: row.device,
             links: row.links,
             label: self.labels.get(row.label),
@@ -243,8 +248,8 @@ impl Marks {
     pub fn has_same_label(&self, first: u32, second: u32) -> bool
         requires first { first < length self.now }
         requires second { second < length self.now }
-        ensures { result ≡ same_label (get_or self.now first no_mark).label
-            (get_or self.now second no_mark).label }
+        ensures { result ≡ same_label (get_or self.now first no_profile).label
+            (get_or self.now second no_profile).label }
     {
         let first = row_at(self.rows.as_slice(), first);
         let second = row_at(self.rows.as_slice(), second);
@@ -253,18 +258,18 @@ impl Marks {
 
     // The number of the device, the link count and the label that are told, which are added if they
     // are new.
-    pub fn number_of(&mut self, alloc: Global, told: &Told<'_>) -> Result<u32, OutOfMemory>
+    pub fn number_of(&mut self, alloc: Global, raw: &RawRecord<'_>) -> Result<u32, OutOfMemory>
         ensures number { IfOk result (λ number. slice_get self.new number
-            ≡ Some (mark_of told.now.device told.now.links (label_of told.now.label.now))) }
+            ≡ Some (profile_of raw.now.device raw.now.links (label_of raw.now.label.now))) }
         ensures extends { Extends self.old self.new }
         ensures same { OnErr result (self.new ≡ self.old) }
     {
-        mark_number(
+        profile_number(
             alloc,
             &mut self.labels,
             &mut self.rows,
             &mut self.numbers,
-            told,
+            raw,
         )
     }
 }

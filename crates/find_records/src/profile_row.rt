@@ -1,14 +1,14 @@
 use crate::guesses::mix;
 
-/// What is kept of a mark: its device, its link count, if it has one, and the number of its label.
+/// What is kept of a profile: its device, its link count, if it has one, and its label's number.
 #[derive(Clone, Copy, PartialEq, Eq, PartialOrd, Ord)]
-pub struct MarkRow {
+pub struct ProfileRow {
     pub device: u64,
     pub links: Option<u64>,
     pub label: u32,
 }
 
-impl MarkRow {
+impl ProfileRow {
     /// Its fields, mixed to one word.
     pub fn mixed(&self) -> u64 {
         let front = mix(self.device, u64::from(self.label));
