@@ -29,8 +29,8 @@ seat_send S V s =
       leaving = λ k f vs. tt;
     }
 
-shared_sync : (S V K P : RattleType) (g : Rule.Ghosts P.Denot S.Denot V.Denot K.Denot) → IsSend S
-    → IsSync (Shared.the_row S V K P g)
+pub shared_sync : (S V K P : RattleType) (g : Rule.Ghosts P.Denot S.Denot V.Denot K.Denot)
+    → IsSend S → IsSync (Shared.the_row S V K P g)
 shared_sync S V K P g s = let fields : IsSync (Struct (shape (Shared.the_type S V K P g))) =
     search sendable depth 20 in
     record {
@@ -41,7 +41,7 @@ shared_sync S V K P g s = let fields : IsSync (Struct (shape (Shared.the_type S 
       );
     }
 
-lease_sync : (T A : RattleType) (g : Ghosts A.Denot) → IsSend A → Frees g g.dealloc_token
+pub lease_sync : (T A : RattleType) (g : Ghosts A.Denot) → IsSend A → Frees g g.dealloc_token
     → IsSync (SendLease.the_row T A g)
 lease_sync T A g s f =
     record {

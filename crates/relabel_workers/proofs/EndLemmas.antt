@@ -33,7 +33,7 @@ use Rattle.tree_model.specs.Extents.{is_directory}
 use Rattle.tree_model.specs.Groups.{group_of, groups_in}
 use Rattle.tree_model.specs.Jobs.{directories_in, entry_home, job_directory, job_of, shape_of}
 use Rattle.tree_model.specs.Tree.{ByPath}
-use Rattle.tree_model.proofs.JobLaws.{directory_back, home_told, jobs_are}
+use Rattle.tree_model.proofs.JobLaws.{directory_back, home_shown, jobs_are}
 use Rattle.tree_model.proofs.JobLemmas.{mapped_at, shape_valid}
 use Rattle.relabel_core.specs.Walk.{Walk, can_win, walk_count, count_wanted, is_skipped, is_wanted}
 use Rattle.relabel_core.specs.Walk.{skippable, wanted, winner}
@@ -67,7 +67,7 @@ module _ (w : Walk) (up : ByPath w.entries) where
   parent_open : (job d : ℕ) → job_directory w.entries job ≡ Some d
       → is_job_open w (shaped.parent_job shape job) ≡ is_job_open w (entry_home w.entries d)
   parent_open job d h =
-      ap (lies_open w) ((jobs_are w.entries).parent job d h ∙ sym (home_told w.entries d))
+      ap (lies_open w) ((jobs_are w.entries).parent job d h ∙ sym (home_shown w.entries d))
 
   home_open : (e : ℕ) → e < walk_count w → is_skipped w e ≡ false
       → is_job_open w (entry_home w.entries e) ≡ true
@@ -333,16 +333,16 @@ module _ (w : Walk) (up : ByPath w.entries) where
             (taken_is (entry_home w.entries e)
             ((end.taken (entry_home w.entries e)).1 (home_within e l, lies)))) [
               | inl some ↦ absurd (omega (arith, some))
-              | inr handled ↦ handled.told
+              | inr handled ↦ handled.is_noted
             ];
       }
 
       -- the word of a group says its winner
-      winner_told : (g : ℕ) → IsLeast (λ e. (e < entry_count shape) × (is_wanted w e ≡ true)
+      winner_shown : (g : ℕ) → IsLeast (λ e. (e < entry_count shape) × (is_wanted w e ≡ true)
           × (group_of_entry shape e ≡ g)) (claim_word_at winners g)
           → winner_of winners g ≡ winner w g
       unfolding winner
-      winner_told g least = ⊎_elim none some least.met
+      winner_shown g least = ⊎_elim none some least.met
         where
           can : (e : ℕ) → e < walk_count w → can_win w g e ≡ true → (e < entry_count shape)
               × (is_wanted w e ≡ true) × (group_of_entry shape e ≡ g)
@@ -387,7 +387,7 @@ module _ (w : Walk) (up : ByPath w.entries) where
               both false b h k = absurd (true≢false (sym h))
 
       pub are_winners : AreWinnersClaimed w winners
-      are_winners = record { sized = wins.sized; each = λ g l. winner_told g (end.words g l) }
+      are_winners = record { sized = wins.sized; each = λ g l. winner_shown g (end.words g l) }
 
       called_once : (e : ℕ) → e < walk_count w
           → times e (positions_claimed calls) ≡ count_if (is_wanted w e)

@@ -6,13 +6,13 @@ use Rattle.std.specs.Prelude.{is_some}
 use Rattle.std.proofs.lemmas.Bool.{and_from, and_parts, and_right, cases_eq, cases_lt}
 use Rattle.std.proofs.lemmas.Bool.{false_from_ne_true}
 use Rattle.label_base.specs.Bounded.{any_below}
-use Rattle.label_base.proofs.BoundedLemmas.{IsGreatest, any_at, any_has, greatest_told, none_from}
+use Rattle.label_base.proofs.BoundedLemmas.{IsGreatest, any_at, any_has, greatest_shown, none_from}
 use Rattle.tree_model.specs.Extents.{in_extent, is_above, is_directory, parent_of}
 use Rattle.tree_model.specs.Jobs.{entry_home}
 use Rattle.tree_model.specs.Tree.{ByPath}
 use Rattle.tree_model.proofs.ExtentLemmas.{in_behind, in_between, in_chain, in_itself}
 use Rattle.tree_model.proofs.ParentLemmas.{above_before, above_in, strict_is}
-use Rattle.tree_model.proofs.JobLaws.{home_told}
+use Rattle.tree_model.proofs.JobLaws.{home_shown}
 use Rattle.label_rules.specs.LookUp.{given_at, index_for}
 use Rattle.relabel_core.specs.Swept.{skip_of}
 use Rattle.relabel_core.specs.Walk.{Walk, walk_count, deciding, digest_now, is_current, is_live}
@@ -105,8 +105,9 @@ module _ (w : Walk) (up : ByPath w.entries) where
       → is_job_open w (entry_home w.entries e) ≡ false
   shut_below d e c ne m =
       let from = in_behind w.entries up d e c.known c.inside in
-      ap (lies_open w) (home_told w.entries e)
-      ∙ above_case d e (parent_of w.entries e) (greatest_told (walk_count w) (is_above w.entries e))
+      ap (lies_open w) (home_shown w.entries e)
+      ∙ above_case d e (parent_of w.entries e)
+      (greatest_shown (walk_count w) (is_above w.entries e))
       c (omega (arith, from, ne)) m
 
   shut_case : (e : ℕ) (found : Option ℕ) → e < walk_count w
@@ -137,8 +138,8 @@ module _ (w : Walk) (up : ByPath w.entries) where
   shut_cover : (e : ℕ) → e < walk_count w → is_job_open w (entry_home w.entries e) ≡ false
       → HasCoverAbove w e
   shut_cover e l h =
-      shut_case e (parent_of w.entries e) l (greatest_told (walk_count w) (is_above w.entries e))
-      (sym (ap (lies_open w) (home_told w.entries e)) ∙ h)
+      shut_case e (parent_of w.entries e) l (greatest_shown (walk_count w) (is_above w.entries e))
+      (sym (ap (lies_open w) (home_shown w.entries e)) ∙ h)
 
   -- below a directory that is skipped everything is
   pub shut_skipped : (e : ℕ) → e < walk_count w → is_job_open w (entry_home w.entries e) ≡ false

@@ -81,16 +81,17 @@ none_put w noted swept room none skips made = record {
   decided = record {
     room = room.each_entry;
     right = λ e l. inl (none e l);
-    told = λ e l h. absurd
+    where_noted = λ e l h. absurd
         (omega (arith, h));
   };
   skips = record {
     room = ap length skips ∙ length-replicate (walk_count w) Not;
     right = λ e l. inl (ap (λ s. get_or s e Not) skips ∙ get_or-replicate (walk_count w) e Not Not
         l);
-    told = λ d e l h s m i. absurd (omega (arith, h));
+    where_noted = λ d e l h s m i. absurd (omega (arith, h));
   };
-  digests = record { right = λ e l. inl (made e); told = λ e l h. absurd (omega (arith, h)) };
+  digests = record
+      { right = λ e l. inl (made e); where_noted = λ e l h. absurd (omega (arith, h)) };
   winners_room = room.each_group;
 }
 
@@ -163,7 +164,7 @@ winner_small w g (Some k) e l = let b : k < walk_count w =
 pub put_more : (f : ℕ → Option ℕ) (old new : List ℕ) (i : ℕ) (found : Option ℕ) → i < length old
     → ((k : ℕ) → k < i → found_in old k ≡ f k) → IsNumberPut old new i found → found ≡ f i
     → (k : ℕ) → k < i + 1 → found_in new k ≡ f k
-put_more f old new i found l told put is k m = elim (cases_eq k i) [
+put_more f old new i found l shown put is k m = elim (cases_eq k i) [
   | inl same ↦ subst (λ j. found_in new j ≡ f j) (sym same) (put.here l ∙ is)
-  | inr differ ↦ put.others k differ ∙ told k (omega (arith, m, differ))
+  | inr differ ↦ put.others k differ ∙ shown k (omega (arith, m, differ))
 ]

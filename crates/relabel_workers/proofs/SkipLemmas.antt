@@ -13,7 +13,7 @@ use Rattle.tree_model.specs.Extents.{extent_of, in_extent}
 use Rattle.tree_model.specs.Groups.{groups_in}
 use Rattle.tree_model.specs.Jobs.{entry_home}
 use Rattle.tree_model.specs.Tree.{ByPath}
-use Rattle.tree_model.proofs.ExtentLemmas.{extent_has, extent_told, has_extent}
+use Rattle.tree_model.proofs.ExtentLemmas.{extent_has, extent_shown, has_extent}
 use Rattle.relabel_core.specs.Numbers.{IsNumberPut, found_in, put_at}
 use Rattle.relabel_core.specs.Swept.{AreSwept, renewal, skip_of}
 use Rattle.relabel_core.specs.Stored.{AddsDigest, digests_in}
@@ -27,7 +27,7 @@ use Rattle.relabel_core.proofs.SweptLemmas.{none_renewed_if_skipped}
 use Rattle.relabel_workers.specs.Alone.{is_job_open, noted_in}
 use Rattle.relabel_workers.specs.PutBack.{AreAllNoted, AreDecidedPut, AreDigestsPut, ArePutBack}
 use Rattle.relabel_workers.specs.PutBack.{AreSkippedTo, AreSkipsPut, IsOpenNote, KeepsFirst}
-use Rattle.relabel_workers.specs.PutBack.{first_told}
+use Rattle.relabel_workers.specs.PutBack.{first_digest}
 use Rattle.relabel_workers.specs.declared.note.Note.{Note}
 use Rattle.relabel_workers.proofs.ListLemmas.{hit_is}
 use Rattle.relabel_workers.proofs.OpenLemmas.{below_first, not_skipped, open_deciding, open_first}
@@ -93,11 +93,11 @@ same_both : (b : Bool) (x : Option (List ℕ)) → x ≡ ite b x x
 same_both true x = refl
 same_both false x = refl
 
-first_none : (x : Option (List ℕ)) → first_told x None ≡ x
+first_none : (x : Option (List ℕ)) → first_digest x None ≡ x
 first_none None = refl
 first_none (Some y) = refl
 
-first_some : (x found : Option (List ℕ)) → is_some x ≡ true → first_told x found ≡ x
+first_some : (x found : Option (List ℕ)) → is_some x ≡ true → first_digest x found ≡ x
 first_some None found h = absurd (true≢false (sym h))
 first_some (Some y) found h = refl
 
@@ -111,7 +111,7 @@ kept_before made d found h e = elim (cases_eq d e) [
   | inl same ↦ same_both (d == e) (digests_in made e) ∙ ap (λ x. ite (d == e) x (digests_in made e))
       (sym (first_some (digests_in made e) found
       (subst (λ k. is_some (digests_in made k) ≡ true) same h)))
-  | inr differ ↦ sym (ap (λ b. ite b (first_told (digests_in made e) found) (digests_in made e))
+  | inr differ ↦ sym (ap (λ b. ite b (first_digest (digests_in made e) found) (digests_in made e))
       (ne_eqb d e differ))
 ]
 
@@ -119,9 +119,9 @@ pub kept_first : (old new : BTreeMap ℕ (List ℕ)) (d : ℕ) (found : Option (
     → digests_in old d ≡ None → AddsDigest old new d found → KeepsFirst old new d found
 kept_first old new d found none adds e = adds e ∙ elim (cases_eq d e) [
   | inl same ↦ ap (λ x. ite (d == e) x (digests_in old e))
-      (sym (ap (λ x. first_told x found) (ap (digests_in old) (sym same) ∙ none)))
+      (sym (ap (λ x. first_digest x found) (ap (digests_in old) (sym same) ∙ none)))
   | inr differ ↦ ap (λ b. ite b found (digests_in old e)) (ne_eqb d e differ)
-      ∙ sym (ap (λ b. ite b (first_told (digests_in old e) found) (digests_in old e))
+      ∙ sym (ap (λ b. ite b (first_digest (digests_in old e) found) (digests_in old e))
       (ne_eqb d e differ))
 ]
 
@@ -151,10 +151,10 @@ module _ (w : Walk) (up : ByPath w.entries) where
       | inr differ ↦ ⊎_elim (λ none. inl (put.others e differ ∙ none))
           (λ is. inr (put.others e differ ∙ is)) (d.right e l)
     ];
-    told = λ e l h. elim (cases_eq e note.entry) [
+    where_noted = λ e l h. elim (cases_eq e note.entry) [
       | inl same ↦ subst (λ k. found_in new k ≡ deciding w k) (sym same) here
       | inr differ ↦ ⊎_elim (λ (old_one : 0 < times e (noted_in done)). put.others e differ
-          ∙ d.told e l old_one) (λ (this : note.entry ≡ e). absurd (differ (sym this)))
+          ∙ d.where_noted e l old_one) (λ (this : note.entry ≡ e). absurd (differ (sym this)))
           (noted_more done note e h)
     ];
   }
@@ -171,8 +171,9 @@ module _ (w : Walk) (up : ByPath w.entries) where
   skips_more done note old new s n over put = record {
     room = put.room ∙ s.room;
     right = λ e l. place_right e l;
-    told = λ d e l h skips m inside. ⊎_elim
-        (λ (old_one : 0 < times d (noted_in done)). stays e m (s.told d e l old_one skips m inside))
+    where_noted = λ d e l h skips m inside. ⊎_elim
+        (λ (old_one : 0 < times d (noted_in done)). stays e m
+        (s.where_noted d e l old_one skips m inside))
         (λ (this : note.entry ≡ d). within e m
         (subst (λ k. in_extent w.entries k e ≡ true) (sym this) inside))
         (noted_more done note d h);
@@ -182,7 +183,7 @@ module _ (w : Walk) (up : ByPath w.entries) where
       known = n.noted.known
 
       behind : note.entry < extent_of w.entries note.entry
-      behind = (extent_told w.entries up note.entry known).behind
+      behind = (extent_shown w.entries up note.entry known).behind
 
       first : get_or new note.entry Not ≡ skip_of w note.entry
       first = put.here (let room = s.room in let k = known in omega (arith, room, k))
@@ -234,8 +235,8 @@ module _ (w : Walk) (up : ByPath w.entries) where
   skips_stay done note skips s over = record {
     room = s.room;
     right = s.right;
-    told = λ d e l h skipped m inside. ⊎_elim
-        (λ (old_one : 0 < times d (noted_in done)). s.told d e l old_one skipped m inside)
+    where_noted = λ d e l h skipped m inside. ⊎_elim
+        (λ (old_one : 0 < times d (noted_in done)). s.where_noted d e l old_one skipped m inside)
         (λ (this : note.entry ≡ d). absurd
         (true≢false (sym skipped ∙ ap (skippable w) (sym this) ∙ over)))
         (noted_more done note d h);
@@ -250,33 +251,33 @@ module _ (w : Walk) (up : ByPath w.entries) where
       | inr differ ↦ ⊎_elim (λ none. inl (elsewhere e differ ∙ none))
           (λ is. inr (elsewhere e differ ∙ is)) (d.right e l)
     ];
-    told = λ e l h. elim (cases_eq note.entry e) [
+    where_noted = λ e l h. elim (cases_eq note.entry e) [
       | inl same ↦ this e l same
       | inr differ ↦ ⊎_elim (λ (old_one : 0 < times e (noted_in done)). elsewhere e differ
-          ∙ d.told e l old_one) (λ (same : note.entry ≡ e). absurd (differ same))
+          ∙ d.where_noted e l old_one) (λ (same : note.entry ≡ e). absurd (differ same))
           (noted_more done note e h)
     ];
   }
     where
       elsewhere : (e : ℕ) → note.entry ≢ e → digests_in new e ≡ digests_in old e
       elsewhere e differ =
-          keeps e ∙ ap (λ b. ite b (first_told (digests_in old e) (renewal w note.entry))
+          keeps e ∙ ap (λ b. ite b (first_digest (digests_in old e) (renewal w note.entry))
           (digests_in old e)) (ne_eqb note.entry e differ)
 
-      told_by : (x y : Option (List ℕ)) → (x ≡ None) ⊎ (x ≡ y) → first_told x y ≡ y
-      told_by x y h = ⊎_elim (λ none. ap (λ z. first_told z y) none)
-          (λ is. ap (λ z. first_told z y) is ∙ itself y) h
+      shown_by : (x y : Option (List ℕ)) → (x ≡ None) ⊎ (x ≡ y) → first_digest x y ≡ y
+      shown_by x y h = ⊎_elim (λ none. ap (λ z. first_digest z y) none)
+          (λ is. ap (λ z. first_digest z y) is ∙ itself y) h
         where
-          itself : (z : Option (List ℕ)) → first_told z z ≡ z
+          itself : (z : Option (List ℕ)) → first_digest z z ≡ z
           itself None = refl
           itself (Some v) = refl
 
       this : (e : ℕ) → e < walk_count w → note.entry ≡ e → digests_in new e ≡ renewal w e
       this e l same =
-          keeps e ∙ ap (λ b. ite b (first_told (digests_in old e) (renewal w note.entry))
+          keeps e ∙ ap (λ b. ite b (first_digest (digests_in old e) (renewal w note.entry))
           (digests_in old e)) (eq-eqb note.entry e same)
-          ∙ ap (λ k. first_told (digests_in old e) (renewal w k)) same
-          ∙ told_by (digests_in old e) (renewal w e) (d.right e l)
+          ∙ ap (λ k. first_digest (digests_in old e) (renewal w k)) same
+          ∙ shown_by (digests_in old e) (renewal w e) (d.right e l)
 
   -- of a directory that is skipped no digest is made
   pub digests_stay : (done : List Note) (note : Note) (made : BTreeMap ℕ (List ℕ))
@@ -284,7 +285,8 @@ module _ (w : Walk) (up : ByPath w.entries) where
       → AreDigestsPut w (done ++ note ∷ []) made
   digests_stay done note made d n over = record {
     right = d.right;
-    told = λ e l h. ⊎_elim (λ (old_one : 0 < times e (noted_in done)). d.told e l old_one)
+    where_noted = λ e l h. ⊎_elim
+        (λ (old_one : 0 < times e (noted_in done)). d.where_noted e l old_one)
         (λ (same : note.entry ≡ e). let none = none_renewed_if_skipped w up e
         (ap (is_skipped w) (sym same) ∙ skippable_skipped w up note.entry n.noted.known over) in
         ⊎_elim (λ is_none. is_none ∙ sym none) (λ is. is) (d.right e l)) (noted_more done note e h);
@@ -303,7 +305,7 @@ module _ (w : Walk) (up : ByPath w.entries) where
     where
       by_home : (e : ℕ) → e < walk_count w → (b : Bool) → is_job_open w (entry_home w.entries e) ≡ b
           → found_in noted.decided.items e ≡ deciding w e
-      by_home e l true h = p.decided.told e l (a.whole e l h)
+      by_home e l true h = p.decided.where_noted e l (a.whole e l h)
       by_home e l false h = ⊎_elim (λ none. none ∙ sym (skipped_none w e (shut_skipped w up e l h)))
           (λ right. right) (p.decided.right e l)
 
@@ -316,7 +318,7 @@ module _ (w : Walk) (up : ByPath w.entries) where
     where
       by_home : (e : ℕ) → e < walk_count w → (b : Bool) → is_job_open w (entry_home w.entries e) ≡ b
           → digests_in swept.made e ≡ renewal w e
-      by_home e l true h = p.digests.told e l (a.whole e l h)
+      by_home e l true h = p.digests.where_noted e l (a.whole e l h)
       by_home e l false h =
           ⊎_elim (λ none. none ∙ sym (none_renewed_if_skipped w up e (shut_skipped w up e l h)))
           (λ right. right) (p.digests.right e l)
@@ -327,5 +329,5 @@ module _ (w : Walk) (up : ByPath w.entries) where
           (p.skips.right e l)
       by_skip e l true h =
           let top = top_cover w up e h in
-          p.skips.told top.directory e top.covers.known
+          p.skips.where_noted top.directory e top.covers.known
           (a.whole top.directory top.covers.known top.lies) top.covers.over l top.covers.inside

@@ -78,16 +78,16 @@ still_right w taken more g p keeps r =
           r.home;
     }
 
-still_handled : (w : Walk) (given more : List ℕ) (calls all : List Call) (noted told : List ℕ)
+still_handled : (w : Walk) (given more : List ℕ) (calls all : List Call) (noted after : List ℕ)
     (e : ℕ)
     → ((j : ℕ) → 0 < times j given → 0 < times j more)
     → ((g p : ℕ) → IsClaimed g p calls → IsClaimed g p all)
-    → ((x : ℕ) → 0 < times x noted → 0 < times x told)
-    → IsHandled w given calls noted e → IsHandled w more all told e
-still_handled w given more calls all noted told e gives claims notes h = record {
+    → ((x : ℕ) → 0 < times x noted → 0 < times x after)
+    → IsHandled w given calls noted e → IsHandled w more all after e
+still_handled w given more calls all noted after e gives claims notes h = record {
   offered = λ b. gives (job_of w.entries e) (h.offered b);
   claimed = λ b. claims (group_of w.entries e) e (h.claimed b);
-  told = notes e h.told;
+  is_noted = notes e h.is_noted;
 }
 
 -- ---- a job is taken
@@ -286,7 +286,7 @@ entry_done w e rest taken given gives calls all notes note d is a same right = r
       offered = λ b. subst (λ l. 0 < times (job_of w.entries e) l) (sym is)
           (given_here (is_to_be_given w e) given (job_of w.entries e) b);
       claimed = calls_here (gives_alone w e) (group_of w.entries e) e calls all a;
-      told = noted_second e notes (note ∷ []) (let z = hit_same note.entry e same in
+      is_noted = noted_second e notes (note ∷ []) (let z = hit_same note.entry e same in
           omega (arith, z));
     }
 

@@ -43,7 +43,7 @@ pub record AreDecidedPut (w : Walk) (notes : List Note) (decided : List ℕ) : T
   pub room : length decided ≡ walk_count w
   pub right : (e : ℕ) → e < walk_count w
       → (found_in decided e ≡ None) ⊎ (found_in decided e ≡ deciding w e)
-  pub told : (e : ℕ) → e < walk_count w → 0 < times e (noted_in notes)
+  pub where_noted : (e : ℕ) → e < walk_count w → 0 < times e (noted_in notes)
       → found_in decided e ≡ deciding w e
 
 -- and so at or below each noted directory that is skipped
@@ -51,13 +51,14 @@ pub record AreSkipsPut (w : Walk) (notes : List Note) (skips : List Skip) : Type
   pub room : length skips ≡ walk_count w
   pub right : (e : ℕ) → e < walk_count w
       → (get_or skips e Not ≡ Not) ⊎ (get_or skips e Not ≡ skip_of w e)
-  pub told : (d e : ℕ) → d < walk_count w → 0 < times d (noted_in notes) → skippable w d ≡ true
+  pub where_noted : (d e : ℕ) → d < walk_count w → 0 < times d (noted_in notes) → skippable w d
+      ≡ true
       → e < walk_count w → in_extent w.entries d e ≡ true → get_or skips e Not ≡ skip_of w e
 
 pub record AreDigestsPut (w : Walk) (notes : List Note) (made : BTreeMap ℕ (List ℕ)) : Type 0 where
   pub right : (e : ℕ) → e < walk_count w
       → (digests_in made e ≡ None) ⊎ (digests_in made e ≡ renewal w e)
-  pub told : (e : ℕ) → e < walk_count w → 0 < times e (noted_in notes)
+  pub where_noted : (e : ℕ) → e < walk_count w → 0 < times e (noted_in notes)
       → digests_in made e ≡ renewal w e
 
 pub record ArePutBack (w : Walk) (notes : List Note) (noted : Noted) (swept : Swept) : Type 0
@@ -76,12 +77,12 @@ pub record AreSkippedTo (old : List Skip) (d end : ℕ) (new : List Skip) : Type
   pub below : (e : ℕ) → d < e → e < end → e < length old → get_or new e Not ≡ Below
   pub others : (e : ℕ) → (e < d) ⊎ (end ≤ e) → d < end → get_or new e Not ≡ get_or old e Not
 
--- what was told first stays
-abbrev pub first_told : Option (List ℕ) → Option (List ℕ) → Option (List ℕ)
-first_told None found = found
-first_told (Some digest) found = Some digest
+-- the digest that was put first stays
+abbrev pub first_digest : Option (List ℕ) → Option (List ℕ) → Option (List ℕ)
+first_digest None found = found
+first_digest (Some digest) found = Some digest
 
 -- a digest is kept for a directory for which none is
 abbrev pub KeepsFirst : (old new : BTreeMap ℕ (List ℕ)) → ℕ → Option (List ℕ) → Type 0
 KeepsFirst old new d found = (e : ℕ) → digests_in new e
-    ≡ (if d == e then first_told (digests_in old e) found else digests_in old e)
+    ≡ (if d == e then first_digest (digests_in old e) found else digests_in old e)

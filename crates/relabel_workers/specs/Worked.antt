@@ -29,7 +29,7 @@ pub record IsHandled (w : Walk) (given : List ℕ) (calls : List Call) (noted : 
     : Type 0 where
   pub offered : is_to_be_given w e ≡ true → 0 < times (job_of w.entries e) given
   pub claimed : gives_alone w e ≡ true → IsClaimed (group_of w.entries e) e calls
-  pub told : 0 < times e noted
+  pub is_noted : 0 < times e noted
 
 -- the job is that of a directory which was to be given, whose home was taken and which isn't left
 pub record IsOffered (w : Walk) (left taken : List ℕ) (job : ℕ) : Type 0 where

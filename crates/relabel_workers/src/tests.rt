@@ -9,7 +9,8 @@ use walk_steps::NONE_WORD;
 // Two directories, and an inode with a name in each, which get different contexts.
 const LINKED: Given<'static> = Given {
     specs: b"/[ab] -d u:r:dir_t:s0\n/a/x u:r:a_t:s0\n/b/x u:r:b_t:s0\n",
-    records: b"d 1 2 u:r:dir_t:s0 /a\0f 1 10 u:r:old_t:s0 /a/x\0d 1 3 u:r:dir_t:s0 /b\0f 1 10 u:r:old_t:s0 /b/x\0",
+    records: b"d 1 2 u:r:dir_t:s0 /a\0f 1 10 u:r:old_t:s0 /a/x\0d 1 3 u:r:dir_t:s0 /b\0\
+        f 1 10 u:r:old_t:s0 /b/x\0",
     operands: (b"/a", b"/b"),
     kept: b"",
     options: Options {
@@ -19,8 +20,8 @@ const LINKED: Given<'static> = Given {
     },
 };
 
-const LINKED_REPORT: &[u8] =
-    b"Would relabel /a/x from u:r:old_t:s0 to u:r:a_t:s0\nconflicting specifications for /a/x and /b/x, using u:r:a_t:s0.\n";
+const LINKED_REPORT: &[u8] = b"Would relabel /a/x from u:r:old_t:s0 to u:r:a_t:s0\n\
+        conflicting specifications for /a/x and /b/x, using u:r:a_t:s0.\n";
 
 // Counts what it is told.
 #[derive(Drop)]
@@ -78,7 +79,8 @@ fn any_number_of_workers_finds_the_same(rt: HostRuntime) -> Result<(), Fail> {
 // A directory whose stored digest is the one that it has, and two below it.
 const SKIPPED: Given<'static> = Given {
     specs: b"/srv(/.*)? u:r:var_t:s0\n",
-    records: b"d 1 30 u:r:var_t:s0 /srv\0d 1 33 u:r:var_t:s0 /srv/other\0d 1 31 u:r:var_t:s0 /srv/sub\0f 1 32 u:r:var_t:s0 /srv/sub/f\0",
+    records: b"d 1 30 u:r:var_t:s0 /srv\0d 1 33 u:r:var_t:s0 /srv/other\0\
+        d 1 31 u:r:var_t:s0 /srv/sub\0f 1 32 u:r:var_t:s0 /srv/sub/f\0",
     operands: (b"/srv", b"/srv"),
     kept: b"# file: /srv\nsecurity.sehash=0x2f409ad7b5704325f609fc499a6af2db7062c720\n\n",
     options: Options {
@@ -105,7 +107,11 @@ fn digests_are_those_of_one_worker(rt: HostRuntime) -> Result<(), Fail> {
     let answered = answer(&rt, rt.alloc(), &given, 2, &OpenGate)?;
     assert!(rt;
         answered.text.as_slice()
-            == b"# file: /srv\nsecurity.sehash=0x2f409ad7b5704325f609fc499a6af2db7062c720\n\n# file: /srv/other\nsecurity.sehash=0xa0084f1d891eb1355975ea05799e8507dcde9544\n\n# file: /srv/sub\nsecurity.sehash=0x8c9c9fd4b3aa017aaa3acb63fc8b547cd50f05c1\n\n".as_slice()
+            == b"# file: /srv\nsecurity.sehash=0x2f409ad7b5704325f609fc499a6af2db7062c720\n\n\
+                # file: /srv/other\nsecurity.sehash=0xa0084f1d891eb1355975ea05799e8507dcde9544\n\n\
+                # file: /srv/sub\n\
+                security.sehash=0x8c9c9fd4b3aa017aaa3acb63fc8b547cd50f05c1\n\n"
+                .as_slice()
     );
     Ok(())
 }

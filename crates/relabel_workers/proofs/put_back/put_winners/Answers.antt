@@ -7,10 +7,10 @@ use Rattle.relabel_workers.proofs.put_back.put_winners.Goals as goal
 pub groups-preserved : goal.groups-preserved
 groups-preserved c = record {
   room = c.put_winner.ensures.winners.room ∙ c.groups.invariant.room;
-  told = put_more (winner (walk_of c.args.input.now)) _ _ c.groups.g c.winner_in.result
+  put = put_more (winner (walk_of c.args.input.now)) _ _ c.groups.g c.winner_in.result
       (let room = c.groups.invariant.room in let test = c.groups-test.true in
       let count = c.groups-g-end.ensures in omega (arith, room, test, count))
-      c.groups.invariant.told
+      c.groups.invariant.put
       c.put_winner.ensures.winners
       (c.winner_in.ensures ∙ c.requires.winners.each c.groups.g
       (let test = c.groups-test.true in let count = c.groups-g-end.ensures in

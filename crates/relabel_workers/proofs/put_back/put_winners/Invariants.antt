@@ -9,6 +9,6 @@ use Rattle.relabel_workers.proofs.put_back.put_winners.Given as goal
 abbrev pub invariant-groups : goal.invariant-groups
 invariant-groups l = record {
   room : length l.noted.winners.items ≡ groups_in l.input.tree.now;
-  told : (k : ℕ) → k < l.g → found_in l.noted.winners.items k ≡ winner (walk_of l.input) k;
+  put : (k : ℕ) → k < l.g → found_in l.noted.winners.items k ≡ winner (walk_of l.input) k;
   decided : l.noted.decided.items ≡ l.fn.noted.decided.items;
 }
