@@ -2,7 +2,7 @@
 use Rattle.std.specs.Prelude.{ℕ, ◌==◌, ◌&&◌, Bool, true, false, List, [], ◌∷◌, if◌then◌else◌}
 use Rattle.file_roles.specs.declared.role.Part.{Part}
 use Rattle.file_roles.specs.declared.role.Part.TheVariants.{Base, Homedirs, Local, Subs, SubsDist}
-use Rattle.file_roles.specs.declared.role.Part.TheVariants.{Customizable, Kept, Template, Users}
+use Rattle.file_roles.specs.declared.role.Part.TheVariants.{Customizable, Stored, Template, Users}
 use Rattle.file_roles.specs.declared.role.Part.TheVariants.{Report, Output}
 use Rattle.file_roles.specs.declared.role.FileRole.{FileRole}
 use Rattle.file_roles.specs.declared.role.TheConstants.{MOST_LIST_BYTES, MOST_OUTPUT_BYTES}
@@ -17,7 +17,7 @@ part_number Local = 2
 part_number Subs = 3
 part_number SubsDist = 4
 part_number Customizable = 5
-part_number Kept = 6
+part_number Stored = 6
 part_number Template = 7
 part_number Users = 8
 part_number Report = 9
@@ -40,7 +40,7 @@ most_bytes Local = MOST_SPEC_BYTES
 most_bytes Subs = MOST_LIST_BYTES
 most_bytes SubsDist = MOST_LIST_BYTES
 most_bytes Customizable = MOST_LIST_BYTES
-most_bytes Kept = MOST_STORED_BYTES
+most_bytes Stored = MOST_STORED_BYTES
 most_bytes Template = MOST_SPEC_BYTES
 most_bytes Users = MOST_LIST_BYTES
 most_bytes Report = MOST_REPORT_BYTES
@@ -54,7 +54,7 @@ may_be_absent Local = true
 may_be_absent Subs = true
 may_be_absent SubsDist = true
 may_be_absent Customizable = true
-may_be_absent Kept = false
+may_be_absent Stored = false
 may_be_absent Template = false
 may_be_absent Users = false
 may_be_absent Report = false

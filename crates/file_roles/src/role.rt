@@ -29,7 +29,7 @@ pub enum Part {
     /// customizable_types.
     Customizable,
     /// The file of stored digests.
-    Kept,
+    Stored,
     /// The template of a file of homes.
     Template,
     /// The users for whose homes a file is made.
@@ -60,7 +60,7 @@ fn part_number(part: Part) -> u32
         Part::Subs => 3,
         Part::SubsDist => 4,
         Part::Customizable => 5,
-        Part::Kept => 6,
+        Part::Stored => 6,
         Part::Template => 7,
         Part::Users => 8,
         Part::Report => 9,
@@ -89,7 +89,7 @@ impl FileRole {
         match self.part {
             Part::Base | Part::Homedirs | Part::Local | Part::Template => MOST_SPEC_BYTES,
             Part::Subs | Part::SubsDist | Part::Customizable | Part::Users => MOST_LIST_BYTES,
-            Part::Kept => MOST_STORED_BYTES,
+            Part::Stored => MOST_STORED_BYTES,
             Part::Report => MOST_REPORT_BYTES,
             Part::Output => MOST_OUTPUT_BYTES,
         }
@@ -100,7 +100,7 @@ impl FileRole {
         ensures { result ≡ may_be_absent self.part }
     {
         match self.part {
-            Part::Base | Part::Kept | Part::Template | Part::Users => false,
+            Part::Base | Part::Stored | Part::Template | Part::Users => false,
             Part::Report | Part::Output => false,
             Part::Homedirs | Part::Local | Part::Subs | Part::SubsDist | Part::Customizable => true,
         }

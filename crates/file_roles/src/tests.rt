@@ -7,7 +7,7 @@ fn list(alloc: Global) -> Result<FileList, OutOfMemory> {
     let mut files = FileList::new(alloc);
     files.add(FileRole::alone(Part::Base), Name::copy_of(alloc, "fc")?)?;
     files.add(
-        FileRole::alone(Part::Kept),
+        FileRole::alone(Part::Stored),
         Name::copy_of(alloc, "digests")?,
     )?;
     Ok(files)
@@ -16,7 +16,7 @@ fn list(alloc: Global) -> Result<FileList, OutOfMemory> {
 #[test]
 fn a_file_is_named_by_its_role(rt: HostRuntime) -> Result<(), Fail> {
     let files = list(rt.alloc())?;
-    assert_eq!(rt; files.name_of(FileRole::alone(Part::Kept)), "digests");
+    assert_eq!(rt; files.name_of(FileRole::alone(Part::Stored)), "digests");
     assert_eq!(rt; files.name_of(FileRole::alone(Part::Subs)), "");
     Ok(())
 }
@@ -24,7 +24,7 @@ fn a_file_is_named_by_its_role(rt: HostRuntime) -> Result<(), Fail> {
 #[test]
 fn parts_have_limits(rt: HostRuntime) {
     assert_eq!(rt; FileRole::alone(Part::SubsDist).most_bytes(), 1_048_576);
-    assert!(rt; !FileRole::alone(Part::Kept).may_be_absent());
+    assert!(rt; !FileRole::alone(Part::Stored).may_be_absent());
 }
 
 #[test]

@@ -52,56 +52,56 @@ other_kind a b h =
     ]
 
 -- a verdict gives a context just where it leaves another label
-abbrev Tells : Label → VerdictValue → Type 0
-Tells label verdict = is_some (given_in verdict) ≡ not (same_label (label_by verdict label) label)
+abbrev Shows : Label → VerdictValue → Type 0
+Shows label verdict = is_some (given_in verdict) ≡ not (same_label (label_by verdict label) label)
 
-keep_tells : (label : Label) → Tells label Keep
-keep_tells label = sym (same_self label)
+keep_shows : (label : Label) → Shows label Keep
+keep_shows label = sym (same_self label)
 
-customized_tells : (label : Label) → Tells label Customized
-customized_tells label = sym (same_self label)
+customized_shows : (label : Label) → Shows label Customized
+customized_shows label = sym (same_self label)
 
-on_tells : (force : Bool) (types : NameSet) (c w : ContextValue)
-    → Tells (Is c) (verdict_on force types c w)
-on_tells true types c w =
-    cond_both (same_context c w) Keep (Change w) (Tells (Is c)) (λ h. keep_tells (Is c))
+on_shows : (force : Bool) (types : NameSet) (c w : ContextValue)
+    → Shows (Is c) (verdict_on force types c w)
+on_shows true types c w =
+    cond_both (same_context c w) Keep (Change w) (Shows (Is c)) (λ h. keep_shows (Is c))
     (λ h. sym (ap not (other_context c w h)))
-on_tells false types c w =
+on_shows false types c w =
     cond_both (same_bytes c.kind w.kind) Keep
-    (if set_has_name types c.kind then Customized else Change (with_kind_of c w)) (Tells (Is c))
-    (λ h. keep_tells (Is c))
+    (if set_has_name types c.kind then Customized else Change (with_kind_of c w)) (Shows (Is c))
+    (λ h. keep_shows (Is c))
     (λ h. cond_both (set_has_name types c.kind) Customized (Change (with_kind_of c w))
-    (Tells (Is c)) (λ _. customized_tells (Is c))
+    (Shows (Is c)) (λ _. customized_shows (Is c))
     (λ _. sym (ap not (other_kind c w h))))
 
-for_tells : (label : Label) (w : ContextValue) (force : Bool) (types : NameSet)
-    → Tells label (verdict_for label w force types)
-for_tells Absent w force types = refl
-for_tells (Odd bytes) w force types = refl
-for_tells (Is c) w force types = on_tells force types c w
+for_shows : (label : Label) (w : ContextValue) (force : Bool) (types : NameSet)
+    → Shows label (verdict_for label w force types)
+for_shows Absent w force types = refl
+for_shows (Odd bytes) w force types = refl
+for_shows (Is c) w force types = on_shows force types c w
 
-where_tells : (w : Walk) (g : ℕ) (context : Option ContextValue)
-    → Tells (label_in w.entries g) (verdict_where w g context)
-where_tells w g None = keep_tells (label_in w.entries g)
-where_tells w g (Some context) = for_tells (label_in w.entries g) context w.options.force
+where_shows : (w : Walk) (g : ℕ) (context : Option ContextValue)
+    → Shows (label_in w.entries g) (verdict_where w g context)
+where_shows w g None = keep_shows (label_in w.entries g)
+where_shows w g (Some context) = for_shows (label_in w.entries g) context w.options.force
     w.rules.types
 
-with_tells : (w : Walk) (g : ℕ) (found : Option ℕ)
-    → Tells (label_in w.entries g) (verdict_with w g found)
-with_tells w g found = where_tells w g (option_and_then (wanted w) found)
+with_shows : (w : Walk) (g : ℕ) (found : Option ℕ)
+    → Shows (label_in w.entries g) (verdict_with w g found)
+with_shows w g found = where_shows w g (option_and_then (wanted w) found)
 
 -- with -n no verdict counts
-if_not_dry : (dry : Bool) (label : Label) (verdict : VerdictValue) → Tells label verdict
+if_not_dry : (dry : Bool) (label : Label) (verdict : VerdictValue) → Shows label verdict
     → is_some (if dry then None else given_in verdict)
     ≡ not (same_label (if dry then label else label_by verdict label) label)
-if_not_dry true label verdict tells = sym (same_self label)
-if_not_dry false label verdict tells = tells
+if_not_dry true label verdict shows = sym (same_self label)
+if_not_dry false label verdict shows = shows
 
 group_changes : (w : Walk) (g : ℕ) (found : Option ℕ)
     → is_some (group_change w g found)
     ≡ not (same_label (new_label_with w g found) (label_in w.entries g))
 group_changes w g found = if_not_dry w.options.dry (label_in w.entries g) (verdict_with w g found)
-    (with_tells w g found)
+    (with_shows w g found)
 
 pub changed_name_is : (w : Walk) (e : ℕ)
     → is_some (group_change w (group_of w.entries e) (group_winner w e)) ≡ is_changed_name w e
@@ -119,20 +119,20 @@ if_false : (b : Bool) (label : Label) → b ≡ false
 if_false false label h = refl
 if_false true label h = absurd cc
 
-verdict_attrs : (label : Label) (verdict : VerdictValue) → Tells label verdict
+verdict_attrs : (label : Label) (verdict : VerdictValue) → Shows label verdict
     → (if not (same_label (label_by verdict label) label) then label_attr
     (label_bytes (label_by verdict label)) ∷ [] else []) ≡ given_attrs (given_in verdict)
-verdict_attrs label Keep tells = if_false (not (same_label label label)) label (sym tells)
-verdict_attrs label Customized tells = if_false (not (same_label label label)) label (sym tells)
-verdict_attrs label (Change context) tells = if_true (not (same_label (Is context) label))
-    (Is context) (sym tells)
+verdict_attrs label Keep shows = if_false (not (same_label label label)) label (sym shows)
+verdict_attrs label Customized shows = if_false (not (same_label label label)) label (sym shows)
+verdict_attrs label (Change context) shows = if_true (not (same_label (Is context) label))
+    (Is context) (sym shows)
 
-dry_attrs : (dry : Bool) (label : Label) (verdict : VerdictValue) → Tells label verdict
+dry_attrs : (dry : Bool) (label : Label) (verdict : VerdictValue) → Shows label verdict
     → (if not (same_label (if dry then label else label_by verdict label) label) then label_attr
     (label_bytes (if dry then label else label_by verdict label)) ∷ [] else [])
     ≡ given_attrs (if dry then None else given_in verdict)
-dry_attrs true label verdict tells = if_false (not (same_label label label)) label (same_self label)
-dry_attrs false label verdict tells = verdict_attrs label verdict tells
+dry_attrs true label verdict shows = if_false (not (same_label label label)) label (same_self label)
+dry_attrs false label verdict shows = verdict_attrs label verdict shows
 
 winner_attrs : (here : Bool) (new label : Label) (change : Option ContextValue)
     → (if not (same_label new label) then label_attr (label_bytes new) ∷ [] else []) ≡ given_attrs
@@ -151,7 +151,7 @@ label_attrs_are w e =
     let found = group_winner w e in
     winner_attrs (is_found_at found e) (new_label_with w g found) (label_in w.entries g)
     (group_change w g found)
-    (dry_attrs w.options.dry (label_in w.entries g) (verdict_with w g found) (with_tells w g found))
+    (dry_attrs w.options.dry (label_in w.entries g) (verdict_with w g found) (with_shows w g found))
 
 -- ---- digests
 
@@ -188,10 +188,10 @@ unfolding renewed_or
 after_other w d h = after_is w d
     ∙ ap (λ o. renewed_or o (if is_void w d then Some void_digest else w.stored d)) h
 
-pub told_void : (b : Bool) (stored : Option (List ℕ)) → digest_seen (void_if b) stored
+pub shown_void : (b : Bool) (stored : Option (List ℕ)) → digest_seen (void_if b) stored
     ≡ (if b then Some void_digest else stored)
-told_void true stored = refl
-told_void false stored = refl
+shown_void true stored = refl
+shown_void false stored = refl
 
 -- ---- the digest that an entry's changes to
 
@@ -244,8 +244,8 @@ is_some_if false after h = refl
 is_some_if true (Some digest) h = refl
 is_some_if true None h = sym (h refl)
 
-pub change_told : (w : Walk) (d : ℕ) → is_some (digest_change w d) ≡ digest_changes w d
-change_told w d = is_some_if (digest_changes w d) (digest_after w d) (none_stays w d)
+pub change_shown : (w : Walk) (d : ℕ) → is_some (digest_change w d) ≡ digest_changes w d
+change_shown w d = is_some_if (digest_changes w d) (digest_after w d) (none_stays w d)
 
 attrs_if : (b : Bool) (after : Option (List ℕ)) → (after ≡ None → b ≡ false)
     → (if b then digest_attr (digest_bytes after) ∷ [] else []) ≡ renewed_attrs
@@ -263,9 +263,9 @@ unfolding section_at
 section_is w e = ap₂ (λ xs ys. section_with (path_at w e) (xs ++ ys)) (label_attrs_are w e)
     (digest_attrs_are w e)
 
-pub section_told : (w : Walk) (e : ℕ) (path : Path) (change : Option ContextValue)
+pub section_shown : (w : Walk) (e : ℕ) (path : Path) (change : Option ContextValue)
     (digest : Option (List ℕ)) → path ≡ path_at w e → change ≡ change_at w e
     → digest ≡ digest_change w e → section_by path change digest ≡ section_at w e
-section_told w e path change digest p q r =
+section_shown w e path change digest p q r =
     ap₂ (λ at given. section_by at given digest) p q
     ∙ ap (λ b. section_by (path_at w e) (change_at w e) b) r ∙ sym (section_is w e)

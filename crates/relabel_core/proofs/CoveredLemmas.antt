@@ -43,33 +43,33 @@ any_shrinks (suc n) k p l h =
 -- ---- whether an entry is skipped
 
 -- by whether it may be skipped itself, and whether it is below a skipped one
-told : Bool → Bool → Skip
-told s c = if s && not c then First else if c || s then Below else Not
+shown : Bool → Bool → Skip
+shown s c = if s && not c then First else if c || s then Below else Not
 
-told_below : (s c : Bool) → c ≡ true → told s c ≡ Below
-unfolding told
-told_below true true h = refl
-told_below false true h = refl
-told_below s false h = absurd cc
+shown_below : (s c : Bool) → c ≡ true → shown s c ≡ Below
+unfolding shown
+shown_below true true h = refl
+shown_below false true h = refl
+shown_below s false h = absurd cc
 
-told_first : (s c : Bool) → s ≡ true → c ≡ false → told s c ≡ First
-unfolding told
-told_first true false h k = refl
-told_first false c h k = absurd cc
-told_first true true h k = absurd cc
+shown_first : (s c : Bool) → s ≡ true → c ≡ false → shown s c ≡ First
+unfolding shown
+shown_first true false h k = refl
+shown_first false c h k = absurd cc
+shown_first true true h k = absurd cc
 
-told_not : (s c : Bool) → s ≡ false → c ≡ false → told s c ≡ Not
-unfolding told
-told_not false false h k = refl
-told_not true c h k = absurd cc
-told_not false true h k = absurd cc
+shown_not : (s c : Bool) → s ≡ false → c ≡ false → shown s c ≡ Not
+unfolding shown
+shown_not false false h k = refl
+shown_not true c h k = absurd cc
+shown_not false true h k = absurd cc
 
-told_skips : (s c : Bool) → not (is_not (told s c)) ≡ (c || s)
-unfolding told
-told_skips true true = refl
-told_skips true false = refl
-told_skips false true = refl
-told_skips false false = refl
+shown_skips : (s c : Bool) → not (is_not (shown s c)) ≡ (c || s)
+unfolding shown
+shown_skips true true = refl
+shown_skips true false = refl
+shown_skips false true = refl
+shown_skips false false = refl
 
 run_behind : (e x end : ℕ) → e ≤ x → (nat_le e x && nat_lt x end) ≡ nat_lt x end
 run_behind e x end l = ap (λ b. b && nat_lt x end) (le-leb e x l)
@@ -120,16 +120,16 @@ module _ (w : Walk) (up : ByPath w.entries) where
       (λ d a. and_true (skippable w d && in_extent w.entries d e) (not (d == e))
       (ap not (ne_eqb d e (λ s. omega (arith, a, s))))))
 
-  skip_told : (e : ℕ) → e < walk_count w → skip_of w e ≡ told (skippable w e) (is_covered w e e)
-  unfolding told
-  skip_told e l = ap₂ (λ f s. if f then First else if s then Below else Not) (first_at e l)
+  skip_shown : (e : ℕ) → e < walk_count w → skip_of w e ≡ shown (skippable w e) (is_covered w e e)
+  unfolding shown
+  skip_shown e l = ap₂ (λ f s. if f then First else if s then Below else Not) (first_at e l)
       (skipped_at e l)
 
   pub skipped_is : (e : ℕ) (skip : Skip) → e < walk_count w → skip ≡ skip_of w e
       → not (is_not skip) ≡ is_skipped w e
   skipped_is e skip l is =
-      ap (λ s. not (is_not s)) (is ∙ skip_told e l)
-      ∙ told_skips (skippable w e) (is_covered w e e) ∙ sym (skipped_at e l)
+      ap (λ s. not (is_not s)) (is ∙ skip_shown e l)
+      ∙ shown_skips (skippable w e) (is_covered w e e) ∙ sym (skipped_at e l)
 
   -- ---- what is covered behind an entry
 
@@ -155,7 +155,7 @@ module _ (w : Walk) (up : ByPath w.entries) where
   passed_below e end old l below =
       let covered : is_covered w e e ≡ true = old e (omega arith) l ∙ lt-ltb e end below in
       record {
-        skip_is = sym (skip_told e l ∙ told_below (skippable w e) (is_covered w e e) covered);
+        skip_is = sym (skip_shown e l ∙ shown_below (skippable w e) (is_covered w e e) covered);
         covers = λ x a b.
             one_more e x
             ∙ absorbed (is_covered w e x) (skippable w e && in_extent w.entries e x)
@@ -170,7 +170,7 @@ module _ (w : Walk) (up : ByPath w.entries) where
   passed_over e end extent old l outside over run =
       let clear : is_covered w e e ≡ false = old e (omega arith) l ∙ le-ltb e end outside in
       record {
-        skip_is = sym (skip_told e l ∙ told_first (skippable w e) (is_covered w e e) over clear);
+        skip_is = sym (skip_shown e l ∙ shown_first (skippable w e) (is_covered w e e) over clear);
         covers = λ x a b.
             one_more e x
             ∙ ap₂ (λ c s. c || (s && in_extent w.entries e x)) (old x (omega (arith, a)) b
@@ -183,7 +183,7 @@ module _ (w : Walk) (up : ByPath w.entries) where
   passed_by e end old l outside by =
       let clear : is_covered w e e ≡ false = old e (omega arith) l ∙ le-ltb e end outside in
       record {
-        skip_is = sym (skip_told e l ∙ told_not (skippable w e) (is_covered w e e) by clear);
+        skip_is = sym (skip_shown e l ∙ shown_not (skippable w e) (is_covered w e e) by clear);
         covers = λ x a b.
             one_more e x ∙ ap (λ s. is_covered w e x || (s && in_extent w.entries e x)) by
             ∙ or-false (is_covered w e x)

@@ -115,10 +115,11 @@ skips_more : (w : Walk) (e : ℕ) (old now : List Skip) (skip : Skip) → length
     → ((i : ℕ) → i < e → get_or old i Not ≡ skip_of w i) → skip ≡ skip_of w e
     → now ≡ old ++ skip ∷ []
     → (i : ℕ) → i < e + 1 → get_or now i Not ≡ skip_of w i
-skips_more w e old now skip sized told_old is made i l =
+skips_more w e old now skip sized shown_old is made i l =
     ap (λ xs. get_or xs i Not) made
     ∙ elim (cases_lt i e) [
-      | inl lt ↦ get_or_append_left old (skip ∷ []) Not i (omega (arith, lt, sized)) ∙ told_old i lt
+      | inl lt ↦ get_or_append_left old (skip ∷ []) Not i (omega (arith, lt, sized))
+          ∙ shown_old i lt
       | inr ge ↦
           (let last : i ≡ length old = omega (arith, l, ge, sized) in
           ap (λ k. get_or (old ++ skip ∷ []) k Not) last ∙ get_or-append_seam old skip [] Not ∙ is
@@ -220,10 +221,10 @@ pub passing_by : (w : Walk) (up : ByPath w.entries) (e end : ℕ) (skips now : L
     → AreSweeping w e end skips made → e < walk_count w → end ≤ e → skippable w e ≡ false
     → renewed ≡ renewal w e
     → AddsDigest made new e renewed → now ≡ skips ++ Not ∷ [] → AreSweeping w (e + 1) end now new
-passing_by w up e end skips now made new renewed old l outside by told_renewed adds is =
+passing_by w up e end skips now made new renewed old l outside by shown_renewed adds is =
     passed w e end end skips now made new Not old
     (passed_by w up e end old.covered_are l outside by) is
-    (kept_more (renewal w) e made new renewed old.made_are adds told_renewed)
+    (kept_more (renewal w) e made new renewed old.made_are adds shown_renewed)
 
 -- ---- whether the digest that is found is the stored one
 

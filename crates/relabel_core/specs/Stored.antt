@@ -55,11 +55,11 @@ digests_listed digests = λ d. get_or digests d None
 
 -- what a map keeps
 abbrev pub digests_in : BTreeMap ℕ (List ℕ) → StoredDigests
-digests_in kept = λ d. get nat_cmp kept d
+digests_in stored = λ d. get nat_cmp stored d
 
 -- what is stored
 abbrev pub digests_of : Stored → StoredDigests
-digests_of stored = digests_in stored.kept
+digests_of stored = digests_in stored.by_directory
 
 -- one more is kept, for the directory d
 abbrev pub Keeps : (old new : BTreeMap ℕ (List ℕ)) → ℕ → List ℕ → Type 0

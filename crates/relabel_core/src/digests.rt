@@ -17,7 +17,7 @@ pub struct Digests<'w, 'a> {
     // For each entry, and for the end, how many entries before it are names of a group whose label
     // changes. It is empty where no digest can change.
     counts: Vec<u32>,
-    ghost told: { AreNeededCounts (walk_in walked.now) counts.items },
+    ghost needed: { AreNeededCounts (walk_in walked.now) counts.items },
 }
 
 impl<'w, 'a> Digests<'w, 'a> {

@@ -53,15 +53,20 @@ fn all_digests_above_a_changed_label_are_voided(rt: HostRuntime) -> Result<(), F
         rt.alloc(),
         &Given {
             specs: b"/a(/s)? -d u:r:dir_t:s0\n/a/s/f u:r:g_t:s0\n",
-            records: b"d 1 50 u:r:dir_t:s0 /a\0d 1 51 u:r:dir_t:s0 /a/s\0f 1 52 u:r:f_t:s0 /a/s/f\0d 1 53 u:r:dir_t:s0 /b\0",
+            records: b"d 1 50 u:r:dir_t:s0 /a\0d 1 51 u:r:dir_t:s0 /a/s\0f 1 52 u:r:f_t:s0 /a/s/f\0\
+                d 1 53 u:r:dir_t:s0 /b\0",
             operands: (b"/a/s", b"/a/s"),
-            kept: b"# file: /a\nsecurity.sehash=0x01\n\n# file: /b\nsecurity.sehash=0x02\n\n# file: /a/s\nsecurity.sehash=0x03\n",
+            kept: b"# file: /a\nsecurity.sehash=0x01\n\n# file: /b\nsecurity.sehash=0x02\n\n\
+                # file: /a/s\nsecurity.sehash=0x03\n",
             ..NOTHING
         },
     )?;
     assert_eq!(rt;
         dump.as_slice(),
-        b"# file: /a\nsecurity.sehash=0x0000000000000000000000000000000000000000\n\n# file: /a/s\nsecurity.sehash=0x0000000000000000000000000000000000000000\n\n# file: /a/s/f\nsecurity.selinux=\"u:r:g_t:s0\"\n\n".as_slice()
+        b"# file: /a\nsecurity.sehash=0x0000000000000000000000000000000000000000\n\n# file: /a/s\n\
+            security.sehash=0x0000000000000000000000000000000000000000\n\n# file: /a/s/f\n\
+            security.selinux=\"u:r:g_t:s0\"\n\n"
+            .as_slice()
     );
     Ok(())
 }
@@ -128,7 +133,9 @@ fn the_last_digest_of_a_directory_is_stored(rt: HostRuntime) -> Result<(), Fail>
     let lengths = lengths_of(
         rt.alloc(),
         SRV.records,
-        b"# file: srv\nsecurity.sehash=0x01\nuser.x=\"abc\"\nsecurity.sehash=0x0102\n\n# file: srv/b\nsecurity.sehash=0x010203\n\n# file: srv\nsecurity.sehash=0x01020304\n\n# file: other\nsecurity.sehash=0x0102030405\n",
+        b"# file: srv\nsecurity.sehash=0x01\nuser.x=\"abc\"\nsecurity.sehash=0x0102\n\n\
+            # file: srv/b\nsecurity.sehash=0x010203\n\n# file: srv\nsecurity.sehash=0x01020304\n\n\
+            # file: other\nsecurity.sehash=0x0102030405\n",
     )?;
     assert!(rt; lengths == (Some(4), None));
     Ok(())

@@ -17,26 +17,26 @@ use tree_model::Tree;
 /// The digests that are stored for the directories of a tree, by the indices of their entries. It
 /// takes memory for these alone.
 pub struct Stored {
-    kept: BTreeMap<u32, Bytes>,
+    by_directory: BTreeMap<u32, Bytes>,
 }
 
 // By hand: one call for an owner, where a derived drop is a step for each field.
 impl Drop for Stored {
     fn drop(self) {
-        let Stored { kept: _ } = self;
+        let Stored { by_directory: _ } = self;
     }
 }
 
-// Keeps a digest of a directory, in the place of the one that is kept of it.
+// Keeps a digest of a directory, in the place of the one that is stored of it.
 fn keep(
     alloc: Global,
-    kept: &mut BTreeMap<u32, Bytes>,
+    stored: &mut BTreeMap<u32, Bytes>,
     d: u32,
     value: &[u8],
 ) -> Result<(), OutOfMemory>
-    ensures { OnOk result (Keeps kept.old kept.new d value.now) }
+    ensures { OnOk result (Keeps stored.old stored.new d value.now) }
 {
-    let _ = kept.insert(d, Bytes::copy_of(alloc, value)?)?;
+    let _ = stored.insert(d, Bytes::copy_of(alloc, value)?)?;
     Ok(())
 }
 
@@ -49,30 +49,30 @@ fn is_digest(attr: &Attr) -> bool
 // Keeps what an attribute of a directory has, if it is a digest.
 fn keep_attr(
     alloc: Global,
-    kept: &mut BTreeMap<u32, Bytes>,
+    stored: &mut BTreeMap<u32, Bytes>,
     d: u32,
     attr: &Attr,
 ) -> Result<(), OutOfMemory>
-    ensures { OnOk result (KeepsAmong kept.old kept.new d (attr.now ∷ [])) }
+    ensures { OnOk result (KeepsAmong stored.old stored.new d (attr.now ∷ [])) }
 {
     if !is_digest(attr) {
         return Ok(());
     }
-    keep(alloc, kept, d, attr.value.as_slice())
+    keep(alloc, stored, d, attr.value.as_slice())
 }
 
 // Keeps the last digest among the attributes of a directory.
 #[tactic(auto, using(crate::proofs::StoredLemmas::none_among))]
 fn keep_attrs(
     alloc: Global,
-    kept: &mut BTreeMap<u32, Bytes>,
+    stored: &mut BTreeMap<u32, Bytes>,
     d: u32,
     attrs: &[Attr],
 ) -> Result<(), OutOfMemory>
-    ensures { OnOk result (KeepsAmong kept.old kept.new d attrs.now) }
+    ensures { OnOk result (KeepsAmong stored.old stored.new d attrs.now) }
 {
     'attrs: for attr in attrs {
-        keep_attr(alloc, kept, d, attr)?;
+        keep_attr(alloc, stored, d, attr)?;
     }
     Ok(())
 }
@@ -109,29 +109,29 @@ fn directory_at(tree: &Tree, path: &PathRef<'_>) -> Option<u32>
 #[tactic(auto, using(crate::proofs::StoredLemmas::section_of_directory, crate::proofs::StoredLemmas::section_of_none))]
 fn keep_section(
     alloc: Global,
-    kept: &mut BTreeMap<u32, Bytes>,
+    stored: &mut BTreeMap<u32, Bytes>,
     tree: &Tree,
     section: &Section,
 ) -> Result<(), OutOfMemory>
-    ensures { OnOk result (KeepsFrom kept.old kept.new tree.now (section.now ∷ [])) }
+    ensures { OnOk result (KeepsFrom stored.old stored.new tree.now (section.now ∷ [])) }
 {
     match directory_at(tree, &section.name.path()) {
         None => Ok(()),
-        Some(d) => keep_attrs(alloc, kept, d, section.attrs.as_slice()),
+        Some(d) => keep_attrs(alloc, stored, d, section.attrs.as_slice()),
     }
 }
 
 #[tactic(auto, using(crate::proofs::StoredLemmas::none_from))]
 fn keep_sections(
     alloc: Global,
-    kept: &mut BTreeMap<u32, Bytes>,
+    stored: &mut BTreeMap<u32, Bytes>,
     tree: &Tree,
     sections: &[Section],
 ) -> Result<(), OutOfMemory>
-    ensures { OnOk result (KeepsFrom kept.old kept.new tree.now sections.now) }
+    ensures { OnOk result (KeepsFrom stored.old stored.new tree.now sections.now) }
 {
     'sections: for section in sections {
-        keep_section(alloc, kept, tree, section)?;
+        keep_section(alloc, stored, tree, section)?;
     }
     Ok(())
 }
@@ -139,16 +139,16 @@ fn keep_sections(
 // Keeps the digest of a directory that has none yet, if there is one.
 fn keep_given(
     alloc: Global,
-    kept: &mut BTreeMap<u32, Bytes>,
+    stored: &mut BTreeMap<u32, Bytes>,
     d: u32,
     digest: &Option<Bytes>,
 ) -> Result<(), OutOfMemory>
-    requires { digests_in kept.old d ≡ None }
-    ensures { OnOk result (AddsDigest kept.old kept.new d digest.now) }
+    requires { digests_in stored.old d ≡ None }
+    ensures { OnOk result (AddsDigest stored.old stored.new d digest.now) }
 {
     match digest {
         None => Ok(()),
-        Some(value) => keep(alloc, kept, d, value.as_slice()),
+        Some(value) => keep(alloc, stored, d, value.as_slice()),
     }
 }
 
@@ -156,11 +156,13 @@ fn keep_listed(alloc: Global, digests: &[Option<Bytes>]) -> Result<Stored, OutOf
     requires { length digests.now < 2 ^ 32 }
     ensures { IfOk result (λ stored. digests_of stored ≡ digests_listed digests.now) }
 {
-    let mut kept = BTreeMap::new(alloc);
+    let mut stored = BTreeMap::new(alloc);
     'digests: for d in 0..digests.len() as u32 {
-        keep_given(alloc, &mut kept, d, &digests[d as usize])?;
+        keep_given(alloc, &mut stored, d, &digests[d as usize])?;
     }
-    Ok(Stored { kept })
+    Ok(Stored {
+        by_directory: stored,
+    })
 }
 
 impl Stored {
@@ -169,7 +171,7 @@ impl Stored {
         ensures { digests_of result ≡ no_digests }
     {
         Stored {
-            kept: BTreeMap::new(alloc),
+            by_directory: BTreeMap::new(alloc),
         }
     }
 
@@ -179,9 +181,11 @@ impl Stored {
         ensures { IfOk result (λ stored.
             digests_of stored ≡ digests_by dump.now.sections tree.now) }
     {
-        let mut kept = BTreeMap::new(alloc);
-        keep_sections(alloc, &mut kept, tree, dump.sections.as_slice())?;
-        Ok(Stored { kept })
+        let mut stored = BTreeMap::new(alloc);
+        keep_sections(alloc, &mut stored, tree, dump.sections.as_slice())?;
+        Ok(Stored {
+            by_directory: stored,
+        })
     }
 
     /// These digests, one item for each entry of a tree, which is none where the entry is no
@@ -204,7 +208,7 @@ impl Stored {
     pub fn get(&self, e: u32) -> Option<&[u8]>
         ensures { option_copied result ≡ digests_of self.now e }
     {
-        match self.kept.get(&e) {
+        match self.by_directory.get(&e) {
             None => None,
             Some(value) => Some(value.as_slice()),
         }
@@ -214,6 +218,6 @@ impl Stored {
     pub(crate) fn is_empty(&self) -> bool
         ensures { IsTrue result ↔ (digests_of self.now ≡ no_digests) }
     {
-        self.kept.is_empty()
+        self.by_directory.is_empty()
     }
 }

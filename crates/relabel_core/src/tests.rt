@@ -22,7 +22,8 @@ const STRICT: Options = Options {
 // Two names of one inode, in two directories.
 const LINKED: Given<'static> = Given {
     specs: b"/[ab] -d u:r:dir_t:s0\n/a/x u:r:a_t:s0\n/b/x u:r:b_t:s0\n",
-    records: b"d 1 2 u:r:dir_t:s0 /a\0f 1 10 u:r:old_t:s0 /a/x\0d 1 3 u:r:dir_t:s0 /b\0f 1 10 u:r:old_t:s0 /b/x\0",
+    records: b"d 1 2 u:r:dir_t:s0 /a\0f 1 10 u:r:old_t:s0 /a/x\0d 1 3 u:r:dir_t:s0 /b\0\
+        f 1 10 u:r:old_t:s0 /b/x\0",
     operands: (b"/a", b"/b"),
     options: FORCED,
     ..NOTHING
@@ -97,7 +98,9 @@ fn the_first_name_wins(rt: HostRuntime) -> Result<(), Fail> {
     let text = text(rt.alloc(), &LINKED)?;
     assert_eq!(rt;
         text.as_slice(),
-        b"Would relabel /a/x from u:r:old_t:s0 to u:r:a_t:s0\nconflicting specifications for /a/x and /b/x, using u:r:a_t:s0.\n".as_slice()
+        b"Would relabel /a/x from u:r:old_t:s0 to u:r:a_t:s0\n\
+            conflicting specifications for /a/x and /b/x, using u:r:a_t:s0.\n"
+            .as_slice()
     );
     Ok(())
 }
@@ -150,7 +153,9 @@ fn an_inode_has_the_label_of_its_first_record(rt: HostRuntime) -> Result<(), Fai
     )?;
     assert_eq!(rt;
         text.as_slice(),
-        b"Would relabel /b/x from u:r:p_t:s0 to u:r:q_t:s0\nWarning! No matches for (/opt, -d, u:r:o_t:s0)\n".as_slice()
+        b"Would relabel /b/x from u:r:p_t:s0 to u:r:q_t:s0\n\
+            Warning! No matches for (/opt, -d, u:r:o_t:s0)\n"
+            .as_slice()
     );
     Ok(())
 }

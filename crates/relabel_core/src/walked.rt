@@ -69,7 +69,8 @@ impl<'a> Walked<'a> {
     pub fn of_noted(input: &WalkInput<'a>, swept: Swept, noted: Noted) -> Walked<'a>
         requires fit { IsFit input.now }
         requires swept { AreSwept (walk_of input.now) swept.skips.items swept.made }
-        requires found { AreWalkAnswers (walk_of input.now) noted.decided.items noted.winners.items }
+        requires found { AreWalkAnswers (walk_of input.now) noted.decided.items
+            noted.winners.items }
         ensures { walk_in result ≡ walk_of input.now }
     {
         Walked {

@@ -77,9 +77,9 @@ given_settles false types (Is current) new wanted e =
 
 -- ---- sets with the same names
 
-names_tell : (types others : NameSet) → names_in_order types ≡ names_in_order others
+names_show : (types others : NameSet) → names_in_order types ≡ names_in_order others
     → (name : List ℕ) → set_has_name types name ≡ set_has_name others name
-names_tell types others e name =
+names_show types others e name =
     contains_key-keys types name ∙ ap (λ names. list_any (eq_by_cmp (slice_cmp nat_cmp) name) names)
     e ∙ sym (contains_key-keys others name)
 
@@ -97,6 +97,6 @@ given_alike false false types others f e (Is current) wanted =
     ap (λ b. given
     (cond (same_bytes current.kind wanted.kind) Keep
     (cond b Customized (Change (with_kind_of current wanted)))))
-    (names_tell types others (e refl) current.kind)
+    (names_show types others (e refl) current.kind)
 given_alike true false types others f e label wanted = cc
 given_alike false true types others f e label wanted = cc

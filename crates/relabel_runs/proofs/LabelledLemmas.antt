@@ -7,7 +7,7 @@ use Rattle.std.proofs.lemmas.Bool.{cases_lt, false≢true}
 use Rattle.std.proofs.lemmas.List.{ext_get_or, get_or-map, length-map}
 use Rattle.std.proofs.Math.ListN.{get_or-eq_default}
 use Rattle.label_base.specs.Bounded.{all_numbers, least_below}
-use Rattle.label_base.proofs.BoundedLemmas.{IsLeast, count_numbers, least_told}
+use Rattle.label_base.proofs.BoundedLemmas.{IsLeast, count_numbers, least_shown}
 use Rattle.context_syntax.specs.declared.label.Label.{Label}
 use Rattle.context_syntax.specs.declared.label.Label.TheVariants.{Absent}
 use Rattle.find_records.specs.Labelled.{with_label}
@@ -132,7 +132,7 @@ label_set entries labels e l =
     first_label entries labels e l
     (least_below (length (tree_labelled entries labels))
     (in_group entries labels (group_of entries e)))
-    (least_told (length (tree_labelled entries labels))
+    (least_shown (length (tree_labelled entries labels))
     (in_group entries labels (group_of entries e)))
 
 pub label_there : (format : Format) (entries : List Record) (labels : ℕ → Label) (e : ℕ)

@@ -3,5 +3,5 @@ pub mod OutlineLemmas
 pub mod LabelledLemmas
 pub mod ClosedLemmas
 pub mod WalkLemmas
-pub mod ToldLemmas
+pub mod ShownLemmas
 pub mod RunLemmas

@@ -39,7 +39,7 @@ use Rattle.relabel_runs.proofs.OutlineLemmas.{SameOutline, count_same, group_sam
 use Rattle.relabel_runs.proofs.OutlineLemmas.{kinds_same, path_in, paths_same, selected_same}
 use Rattle.relabel_runs.proofs.ClosedLemmas.{closed_holds, closed_seen}
 use Rattle.relabel_runs.proofs.LabelledLemmas.{alike_read, alike_seen, label_there}
-use Rattle.relabel_runs.proofs.ToldLemmas.{context_told}
+use Rattle.relabel_runs.proofs.ShownLemmas.{context_shown}
 use Rattle.relabel_runs.proofs.WalkLemmas.{as_decision, context_for, digest_after_same, kinds}
 use Rattle.relabel_runs.proofs.WalkLemmas.{label_same, run_by, run_of, state_of, tree_of}
 
@@ -199,9 +199,9 @@ decided_alike entries a b d e alike inside =
     let names = drop (length top) path in
     let front : path ≡ top ++ names = below_front path top inside in
     ap (λ p. as_decision (context_for a.rules p kind)) front
-    ∙ ap as_decision (context_told a.rules a.options (top ++ names) kind
+    ∙ ap as_decision (context_shown a.rules a.options (top ++ names) kind
     ∙ ap (option_and_then context_in) (alike.decisions (Of kind) names)
-    ∙ sym (context_told b.rules b.options (top ++ names) kind))
+    ∙ sym (context_shown b.rules b.options (top ++ names) kind))
     ∙ ap (λ p. as_decision (context_for b.rules p kind)) (sym front)
 
 runs_agree : (entries : List Record) (a b : TreeRun) (d : ℕ) → are_names (path_in entries d) ≡ true

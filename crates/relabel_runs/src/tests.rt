@@ -11,7 +11,7 @@ use input_output::MemSource;
 use label_base::{Bytes, OutOfMemory, Row, Steps};
 use label_rules::Rules;
 use path_subs::{SubList, Subs};
-use relabel_core::{Options, Stored, Walked};
+use relabel_core::{Options, Stored, Walked, walk_input};
 use spec_match::RuleSet;
 use spec_reader::read_specs;
 use std::alloc::Global;
@@ -111,10 +111,8 @@ fn decided<L: Ledger>(
     let chosen = tree.select(alloc, choice)?;
     let stored = Stored::none(alloc);
     let mut steps = Steps::<L>::open(blank);
-    let options = DIGESTING;
-    let walked = next_walk(
-        alloc, tree, choice, &chosen, rules, options, &stored, &mut steps,
-    )?;
+    let input = walk_input(tree, choice, &chosen, rules, DIGESTING, &stored);
+    let walked = next_walk(alloc, choice, &input, &mut steps)?;
     Ok(first_decided(&walked))
 }
 

@@ -7,7 +7,7 @@ use Rattle.file_paths.specs.declared.path_fault.PathWhy.TheVariants.{Empty, Path
 use Rattle.file_paths.specs.declared.path_fault.PathWhy.TheVariants.{NotAbsolute, DotPart}
 use Rattle.find_records.specs.declared.fault.RecordWhy.{RecordWhy}
 use Rattle.find_records.specs.declared.fault.RecordWhy.TheVariants as records
-use Rattle.file_roles.specs.declared.role.Part.TheVariants.{Customizable, Kept, Template, Users}
+use Rattle.file_roles.specs.declared.role.Part.TheVariants.{Customizable, Stored, Template, Users}
 use Rattle.pattern_syntax.specs.declared.pattern_fault.PatternWhy.{PatternWhy}
 use Rattle.pattern_syntax.specs.declared.pattern_fault.PatternWhy.TheVariants as pattern
 use Rattle.spec_reader.specs.declared.spec_fault.SpecWhy.{SpecWhy}
@@ -108,7 +108,7 @@ reason_text files (SubRefused of line) =
 reason_text files (CustomRefused line) =
     place_text (role_name files (role Customizable 0)) line ++ texts.NOT_A_TYPE.now
 reason_text files (DumpRefused line why) =
-    place_text (role_name files (role Kept 0)) line ++ texts.COLON.now ++ dump_reason why
+    place_text (role_name files (role Stored 0)) line ++ texts.COLON.now ++ dump_reason why
 reason_text files (TemplateRefused line why) =
     place_text (role_name files (role Template 0)) line ++ texts.COLON.now ++ spec_reason why
 reason_text files (UsersRefused line) =

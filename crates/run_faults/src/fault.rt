@@ -371,7 +371,7 @@ fn add_reason(
         Cause::DumpRefused { line, why } => {
             add_dump_why(
                 alloc,
-                files.name_of(FileRole::alone(Part::Kept)),
+                files.name_of(FileRole::alone(Part::Stored)),
                 *line,
                 *why,
                 text,

@@ -1,7 +1,7 @@
 -- What the files say that setfiles and restorecon read.
 use Rattle.std.specs.Prelude.{ℕ, List, [], Option, Some, None, Result, Ok, Err}
 use Rattle.input_output.specs.Store.{Files}
-use Rattle.file_roles.specs.declared.role.Part.TheVariants.{Kept}
+use Rattle.file_roles.specs.declared.role.Part.TheVariants.{Stored}
 use Rattle.label_base.specs.declared.lines.RefusedLine.{RefusedLine}
 use Rattle.file_roles.specs.Roles.{role}
 use Rattle.file_roles.specs.declared.list.NamedFile.{NamedFile}
@@ -24,7 +24,7 @@ dump_from (Err refused) = Err (DumpRefused refused.number refused.why)
 -- the dump that has the stored digests
 unfoldable pub stored_dump : List NamedFile → Files → FilesSay Dump
 stored_dump list files =
-    read_on (part_says list (role Kept 0) files) (λ bytes. just (dump_from (dump_read bytes)))
+    read_on (part_says list (role Stored 0) files) (λ bytes. just (dump_from (dump_read bytes)))
 
 abbrev pub stored_in : Option (List ℕ) → List NamedFile → Files → FilesSay Dump
 stored_in None list files = just (Ok (record { sections = [] }))
@@ -32,7 +32,7 @@ stored_in (Some name) list files = stored_dump list files
 
 -- no digests are stored where none are asked for
 abbrev pub stored_for : RelabelWords → List NamedFile → Files → FilesSay Dump
-stored_for words = stored_in words.kept
+stored_for words = stored_in words.stored
 
 -- the rules and the stored digests that the files give, or the first refusal
 unfoldable pub found_for : RelabelWords → List NamedFile → Files → FilesSay RelabelFiles

@@ -64,7 +64,7 @@ relabel_words_by always items = record {
   options = relabel_options items;
   workers = workers_of items;
   soft_errors = has_flag SOFT_ERRORS items;
-  kept = value_of STORED items;
+  stored = value_of STORED items;
   output = value_of OUTPUT items;
 }
 

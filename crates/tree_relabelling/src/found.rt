@@ -54,7 +54,7 @@ fn read_dump<S: Store>(alloc: Global, list: &FileList, store: &mut S) -> Result<
         store.old store.new result }
 {
     let role = FileRole {
-        part: Part::Kept,
+        part: Part::Stored,
         version: 0,
     };
     let bytes = read_part(alloc, list, role, store)?;
@@ -71,7 +71,7 @@ fn read_stored<S: Store>(
     ensures { Reads S.files S.calls S.read_faults S.write_faults (stored_for words.now list.now)
         store.old store.new result }
 {
-    match &words.kept {
+    match &words.stored {
         Some(_) => read_dump(alloc, list, store),
         None => Ok(Dump {
             sections: Row::new(alloc),

@@ -24,7 +24,7 @@ fn add_stored(alloc: Global, stored: &Option<Name>, list: &mut FileList) -> Resu
         None => Ok(()),
         Some(name) => {
             let name = Name::copy_of(alloc, name.as_str())?;
-            list.add(FileRole::alone(Part::Kept), name)
+            list.add(FileRole::alone(Part::Stored), name)
         }
     }
 }
@@ -55,7 +55,7 @@ impl Tool for RelabelWords {
         let mut list = FileList::new(alloc);
         add_policy(alloc, 0, self.base.as_str(), &mut list)?;
         add_types(alloc, &mut list)?;
-        add_stored(alloc, &self.kept, &mut list)?;
+        add_stored(alloc, &self.stored, &mut list)?;
         Ok(list)
     }
 

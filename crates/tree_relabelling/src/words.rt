@@ -40,7 +40,7 @@ pub struct RelabelWords {
     /// Errors of the walk end the run with status 1.
     pub soft_errors: bool,
     /// The name of the file of stored digests.
-    pub kept: Option<Name>,
+    pub stored: Option<Name>,
     /// The name of the file that gets the dump.
     pub output: Option<Name>,
 }
@@ -54,7 +54,7 @@ impl Drop for RelabelWords {
             options: _,
             workers: _,
             soft_errors: _,
-            kept: _,
+            stored: _,
             output: _,
         } = self;
     }
@@ -130,7 +130,7 @@ fn asked_by(alloc: Global, always: bool, items: &[Item<'_>]) -> Result<RelabelWo
         options: options_of(items),
         workers: workers_of(items),
         soft_errors: has_flag(SOFT_ERRORS, items),
-        kept: name_of(alloc, STORED, items)?,
+        stored: name_of(alloc, STORED, items)?,
         output: name_of(alloc, OUTPUT, items)?,
     })
 }

@@ -3,7 +3,7 @@ use Rattle.dir_digest.specs.Digest.{void_digest}
 use Rattle.relabel_core.specs.Changes.{is_void}
 use Rattle.relabel_core.specs.DigestAfter.{after_by, digest_seen, void_if}
 use Rattle.relabel_core.specs.Walked.{walk_of}
-use Rattle.relabel_core.proofs.ChangeLemmas.{after_other, after_renewed, told_void}
+use Rattle.relabel_core.proofs.ChangeLemmas.{after_other, after_renewed, shown_void}
 use Rattle.relabel_core.proofs.after.digest_after.Goals as goal
 
 pub returns-in-Some-clause-seen : goal.returns-in-Some-clause-seen
@@ -20,7 +20,7 @@ pub returns-in-None-clause-seen : goal.returns-in-None-clause-seen
 returns-in-None-clause-seen c =
     let w = walk_of c.args.input.now in
     ap (λ after. digest_seen after (w.stored c.args.d)) c.void_if.ensures
-    ∙ told_void c.is_void.result (w.stored c.args.d)
+    ∙ shown_void c.is_void.result (w.stored c.args.d)
     ∙ ap (λ b. if b then Some void_digest else w.stored c.args.d) c.is_void.ensures
     ∙ sym (after_other w c.args.d (sym c.requires.renewed ∙ c.in-None.is))
 

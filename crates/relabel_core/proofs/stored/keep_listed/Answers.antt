@@ -9,7 +9,7 @@ use Rattle.relabel_core.proofs.stored.keep_listed.Goals as goal
 
 pub digests-init : goal.digests-init
 digests-init c = λ e.
-    ap (λ digests. digests e) (empty_keeps_none c.new-kept.result c.new-kept.ensures.empty)
+    ap (λ digests. digests e) (empty_keeps_none c.new-stored.result c.new-stored.ensures.empty)
     ∙ sym (before_none (digests_listed c.args.digests.now) 0 e (omega arith))
 
 pub keep_given-requires : goal.keep_given-requires
@@ -19,7 +19,8 @@ keep_given-requires c =
 
 pub digests-preserved : goal.digests-preserved
 digests-preserved c =
-    kept_more (digests_listed c.args.digests.now) c.digests.d c.digests.kept c.keep_given.new.kept
+    kept_more
+    (digests_listed c.args.digests.now) c.digests.d c.digests.stored c.keep_given.new.stored
     c.index-digests-d.result c.digests.invariant
     c.in_ok-keep_given.ensures
     (c.index-digests-d.is ∙ get_or_default c.args.digests.now c.digests.d c.index-digests-d.result

@@ -5,7 +5,7 @@ use Rattle.relabel_core.proofs.stored.keep_sections.Goals as goal
 
 pub sections-preserved : goal.sections-preserved
 sections-preserved c =
-    more_from c.args.kept.now c.sections.kept c.keep_section.new.kept c.args.tree.now
+    more_from c.args.stored.now c.sections.stored c.keep_section.new.stored c.args.tree.now
     (take c.sections.section-index c.args.sections.now) _ c.section-item.result
     c.sections.invariant c.in_ok-keep_section.ensures
     (take_more c.args.sections.now c.sections.section-index c.section-item.result
@@ -13,5 +13,5 @@ sections-preserved c =
     (sym c.section-item.is))
 
 pub returns : goal.returns
-returns c = those_from c.args.kept.now c.sections.kept c.args.tree.now _ _ c.sections.invariant
+returns c = those_from c.args.stored.now c.sections.stored c.args.tree.now _ _ c.sections.invariant
     (take_all c.sections.section-index c.args.sections.now c.sections-test.false)

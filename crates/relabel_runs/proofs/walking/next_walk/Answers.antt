@@ -5,7 +5,10 @@ use Rattle.relabel_runs.proofs.walking.next_walk.Goals as goal
 
 pub returns-clause-labels : goal.returns-clause-labels
 returns-clause-labels g c =
-    kept_if_ok c.args.tree.now (digests_of c.args.stored.now)
-    (record { rules = c.args.rules.now; choice = c.args.choice.now; options = c.args.options })
-    (walk_of c.walk_input-input.result) c.walk_input-input.ensures.walk c.walk.result
-    c.walk.ensures.walk
+    kept_if_ok c.args.input.now.tree.now (digests_of c.args.input.now.stored.now)
+    (record {
+      rules = c.args.input.now.rules.now;
+      choice = c.args.choice.now;
+      options = c.args.input.now.options;
+    })
+    (walk_of c.args.input.now) c.requires.chosen c.walk.result c.walk.ensures.walk

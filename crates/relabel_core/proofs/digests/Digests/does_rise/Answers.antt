@@ -15,4 +15,4 @@ returns c = λ wet has.
     (c.count_at-2.ensures ∙ at c.extent.result)
     ∙ rise_is (walk_before digests) c.args.d c.extent.result counts
     (omega (arith, c.extent.ensures.behind)) c.extent.ensures.within
-    (digests.told.counted c.args.d wet has) c.extent.ensures.run
+    (digests.needed.counted c.args.d wet has) c.extent.ensures.run

@@ -65,11 +65,11 @@ given_of : (o : Option SpecValue) → option_and_then given_by o ≡ option_and_
 given_of None = refl
 given_of (Some s) = refl
 
-pub context_told : (rules : Rules) (options : Options) (path : Path) (kind : EntryKind)
+pub context_shown : (rules : Rules) (options : Options) (path : Path) (kind : EntryKind)
     → context_for rules path kind ≡ option_and_then context_in
     (decided_at (basis_by rules options) (Of kind) path)
 unfolding index_asked decided_at
-context_told rules options path kind =
+context_shown rules options path kind =
     let text = path_text (substituted rules.subs.first rules.subs.second path) in
     ap (option_and_then given_by) (member_is (Of kind) text rules.rules)
     ∙ given_of (last_match (Of kind) text rules.rules)
