@@ -1,7 +1,8 @@
 /* Makes one call of the system fail, to see what a program answers then. Built and loaded by `run`.
    SHIM_CALL names the call, SHIM_AT its number from 1 on, SHIM_ERRNO the error; SHIM_FROM, where it
    is set, the only descriptor whose calls are counted. How many there were is written to SHIM_COUNT
-   at the end. SHIM_LOSE=1 cuts the file that is closed to nothing, as a server does that lost it. */
+   at the end. SHIM_LOSE=1 cuts the file that is closed to nothing, as a server does that lost
+   it. */
 #define _GNU_SOURCE
 #include <dlfcn.h>
 #include <errno.h>

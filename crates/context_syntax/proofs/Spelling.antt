@@ -104,7 +104,8 @@ pub complete : (bytes : List ℕ) (c : ContextValue) → SpellsContext bytes c
 complete bytes c h = ap context_of h.text ∙ read_back c h.parts
 
 -- what stands before the first element that passes, and the element
-pub joined : (p : ℕ → Bool) (bytes : List ℕ) (b : ℕ) → ((x : ℕ) → p x ≡ true → x ≡ b) → (rest : List ℕ)
+pub joined : (p : ℕ → Bool) (bytes : List ℕ) (b : ℕ) → ((x : ℕ) → p x ≡ true → x ≡ b)
+    → (rest : List ℕ)
     → behind p bytes ≡ Some rest → bytes ≡ front p bytes ++ b ∷ rest
 joined p [] b is rest h = cc
 joined p (x ∷ xs) b is rest h =
@@ -118,7 +119,8 @@ joined p (x ∷ xs) b is rest h =
 whole : (p : ℕ → Bool) (bytes : List ℕ) → behind p bytes ≡ None → bytes ≡ front p bytes
 whole p [] h = refl
 whole p (x ∷ xs) h =
-    elim (p x) as (λ v. cond v (Some xs) (behind p xs) ≡ None → x ∷ xs ≡ cond v [] (x ∷ front p xs)) [
+    elim (p x) as (λ v. cond v (Some xs) (behind p xs) ≡ None
+    → x ∷ xs ≡ cond v [] (x ∷ front p xs)) [
       | true ↦ λ e. cc
       | false ↦ λ e. ap (λ ys. x ∷ ys) (whole p xs e)
     ] h

@@ -13,8 +13,8 @@ use Rattle.pattern_syntax.specs.Language.{In, holds}
 use Rattle.pattern_syntax.specs.Reading.{pattern_of}
 use Rattle.pattern_syntax.specs.declared.pattern_fault.PatternWhy.{PatternWhy}
 use Rattle.pattern_match.specs.States.{Below}
-use Rattle.pattern_match.proofs.Holding.{holds_tells}
-use Rattle.pattern_match.proofs.Quotients.{below_tells}
+use Rattle.pattern_match.proofs.Holding.{holds_shows}
+use Rattle.pattern_match.proofs.Quotients.{below_shows}
 use Rattle.spec_reader.specs.SpecValue.{SpecValue}
 use Rattle.spec_reader.specs.declared.spec.Decision.{Decision}
 use Rattle.spec_match.specs.LastMatch.{fits, last_match}
@@ -116,42 +116,42 @@ last_lines asked text (s ∷ specs) o all =
     (line_fits_is asked text s all.0) (λ o. last_lines asked text specs o all.1)
 
 -- what is decided below a directory, by the lines of its listing
-told_by : (t : Basis) (asked : Asked) (d names : Path) (b : Bool) → b ≡ plain t.first t.second d
+shown_by : (t : Basis) (asked : Asked) (d names : Path) (b : Bool) → b ≡ plain t.first t.second d
     → AllByRecursion IsReadSpec t.specs
     → by_specs asked (path_text (substituted t.first t.second (d ++ names))) None t.specs
     ≡ by_lines asked (path_text (substituted t.first t.second (d ++ names))) None
     (map listing_line (cond b (filter (can_decide (substituted t.first t.second d)) t.specs)
     t.specs))
 unfolding by_specs
-told_by t asked d names true e all =
+shown_by t asked d names true e all =
     let keeps : KeepsBelow t.first t.second d = plain_keeps t.first t.second d true e in
     let top = substituted t.first t.second d in
     let text = path_text (substituted t.first t.second (d ++ names)) in
     ap (λ specs. option_map decision_of (last_or None specs))
     (sym (filter_within (fits asked text) (can_decide top) t.specs
-    (λ s h. (below_tells s.pattern top).1 (in_below s.pattern top names
+    (λ s h. (below_shows s.pattern top).1 (in_below s.pattern top names
     (subst (λ path. In s.pattern (path_text path)) (keeps names)
-    ((holds_tells s.pattern text).0
+    ((holds_shows s.pattern text).0
     (and_parts (applies s.kind asked) (holds s.pattern text) h).1))))))
     ∙ last_lines asked text (filter (can_decide top) t.specs) None
     (each_filtered IsReadSpec (can_decide top) t.specs all)
-told_by t asked d names false e all =
+shown_by t asked d names false e all =
     last_lines asked (path_text (substituted t.first t.second (d ++ names))) t.specs None all
 
 -- what is decided, by the listing
-told : (t : Basis) (asked : Asked) (d names : Path) → AllByRecursion IsReadSpec t.specs
+shown : (t : Basis) (asked : Asked) (d names : Path) → AllByRecursion IsReadSpec t.specs
     → decided_at t asked (d ++ names)
     ≡ by_lines asked
     (path_text (substituted (listing_on t d).first (listing_on t d).second (d ++ names))) None
     (listing_on t d).lines
 unfolding decided_at last_match relevant by_specs
-told t asked d names all = told_by t asked d names (plain t.first t.second d) refl all
+shown t asked d names all = shown_by t asked d names (plain t.first t.second d) refl all
 
-types_told : (force other : Bool) (types others : List (List ℕ)) → force ≡ other
+types_shown : (force other : Bool) (types others : List (List ℕ)) → force ≡ other
     → cond force [] types ≡ cond other [] others → force ≡ false → types ≡ others
-types_told true other types others f e n = cc
-types_told false true types others f e n = cc
-types_told false false types others f e n = e
+types_shown true other types others f e n = cc
+types_shown false true types others f e n = cc
+types_shown false false types others f e n = e
 
 -- equal listings of a directory decide alike at and below it
 pub listings_alike : (t u : Basis) → AreRead t → AreRead u → (d : Path)
@@ -160,12 +160,12 @@ listings_alike t u ht hu d e =
     let force : t.force ≡ u.force = ap (λ (l : Listing). l.force) e in
     record {
       force = force;
-      types = types_told t.force u.force t.types u.types force (ap (λ (l : Listing). l.types) e);
+      types = types_shown t.force u.force t.types u.types force (ap (λ (l : Listing). l.types) e);
       decisions = λ asked names.
-          told t asked d names ht.specs.1
+          shown t asked d names ht.specs.1
           ∙ ap (λ (l : Listing). by_lines asked
           (path_text (substituted l.first l.second (d ++ names))) None l.lines) e
-          ∙ sym (told u asked d names hu.specs.1);
+          ∙ sym (shown u asked d names hu.specs.1);
     }
 
 pub bytes_alike : (t u : Basis) → AreRead t → AreRead u → (d : Path) → are_names d ≡ true

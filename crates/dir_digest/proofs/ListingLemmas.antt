@@ -235,27 +235,27 @@ fields_same (f ∷ fs) (g ∷ gs) m n e =
 -- ---- what fields tell
 
 -- fields in front of others tell what they are the fields of, and what follows
-abbrev Tells : {X : Type 0} → (X → Type 0) → (X → ListingFields) → Type 0
-Tells {X} Is f = (x y : X) (r s : ListingFields) → Is x → Is y → f x ++ r ≡ f y ++ s → (x ≡ y)
+abbrev Shows : {X : Type 0} → (X → Type 0) → (X → ListingFields) → Type 0
+Shows {X} Is f = (x y : X) (r s : ListingFields) → Is x → Is y → f x ++ r ≡ f y ++ s → (x ≡ y)
     × (r ≡ s)
 
-each_tells : {X : Type 0} (Is : X → Type 0) (f : X → ListingFields) → Tells Is f
+each_shows : {X : Type 0} (Is : X → Type 0) (f : X → ListingFields) → Shows Is f
     → (xs ys : List X) (r s : ListingFields) → AllByRecursion Is xs → AllByRecursion Is ys
     → length xs ≡ length ys
     → flat_map f xs ++ r ≡ flat_map f ys ++ s → (xs ≡ ys) × (r ≡ s)
-each_tells Is f tells [] [] r s m n l e = (refl, e)
-each_tells Is f tells [] (y ∷ ys) r s m n l e = absurd (omega (arith, l))
-each_tells Is f tells (x ∷ xs) [] r s m n l e = absurd (omega (arith, l))
-each_tells Is f tells (x ∷ xs) (y ∷ ys) r s m n l e =
-    let first = tells x y (flat_map f xs ++ r) (flat_map f ys ++ s) m.0 n.0
+each_shows Is f shows [] [] r s m n l e = (refl, e)
+each_shows Is f shows [] (y ∷ ys) r s m n l e = absurd (omega (arith, l))
+each_shows Is f shows (x ∷ xs) [] r s m n l e = absurd (omega (arith, l))
+each_shows Is f shows (x ∷ xs) (y ∷ ys) r s m n l e =
+    let first = shows x y (flat_map f xs ++ r) (flat_map f ys ++ s) m.0 n.0
     (sym (append_assoc (f x) (flat_map f xs) r) ∙ e ∙ append_assoc (f y) (flat_map f ys) s) in
-    let rest = each_tells Is f tells xs ys r s m.1 n.1 (omega (arith, l)) first.1 in
+    let rest = each_shows Is f shows xs ys r s m.1 n.1 (omega (arith, l)) first.1 in
     (ap₂ (λ h t. h ∷ t) first.0 rest.0, rest.1)
 
-counted_tells : {X : Type 0} (Is : X → Type 0) (f : X → ListingFields) → Tells Is f
-    → Tells (AreCountable Is) (counted f)
-counted_tells Is f tells xs ys r s m n e =
-    each_tells Is f tells xs ys r s m.1 n.1
+counted_shows : {X : Type 0} (Is : X → Type 0) (f : X → ListingFields) → Shows Is f
+    → Shows (AreCountable Is) (counted f)
+counted_shows Is f shows xs ys r s m n e =
+    each_shows Is f shows xs ys r s m.1 n.1
     (decimal_injective (length xs) (length ys) m.0 n.0
     (head_is (decimal (length xs)) (decimal (length ys)) (flat_map f xs ++ r)
     (flat_map f ys ++ s) e))
@@ -270,8 +270,8 @@ path_same : (p q : Path) → are_names p ≡ true → are_names q ≡ true → p
     → p ≡ q
 path_same p q a b e = sym (path_back p a) ∙ ap path_names e ∙ path_back q b
 
-sub_tells : Tells IsNamesSub sub_fields
-sub_tells x y r s m n e =
+sub_shows : Shows IsNamesSub sub_fields
+sub_shows x y r s m n e =
     let source =
     path_same x.source y.source m.0 n.0
     (head_is (path_text x.source) (path_text y.source) (path_text x.target ∷ r)
@@ -286,8 +286,8 @@ sub_tells x y r s m n e =
           (path_text y.target) r s rest,
     )
 
-name_tells : Tells IsWord name_field
-name_tells x y r s m n e = (head_is x y r s e, tail_is x y r s e)
+name_shows : Shows IsWord name_field
+name_shows x y r s m n e = (head_is x y r s e, tail_is x y r s e)
 
 kind_back : (kind : Option EntryKind) → is_spec_kind kind ≡ true → field_kind (kind_field kind)
     ≡ kind
@@ -320,8 +320,8 @@ decision_same : (a b : Decision) → IsContextDecision a → IsContextDecision b
 decision_same a b ha hb e = sym (decision_back a ha) ∙ ap (λ text. said_by (context_of text)) e
     ∙ decision_back b hb
 
-line_tells : Tells IsLine line_fields
-line_tells x y r s m n e =
+line_shows : Shows IsLine line_fields
+line_shows x y r s m n e =
     let text = head_is x.text y.text (kind_field x.kind ∷ decision_field x.decision ∷ r)
     (kind_field y.kind ∷ decision_field y.decision ∷ s) e in
     let e1 = tail_is x.text y.text (kind_field x.kind ∷ decision_field x.decision ∷ r)
@@ -347,17 +347,17 @@ record SameMode (a b : Bool) (types others : ListingFields) (r s : ListingFields
 letters_differ : ◌≡◌ {A = List ℕ} (70 ∷ []) (84 ∷ []) → ⊥
 letters_differ e = absurd (omega (arith, head_is 70 84 [] [] e))
 
-mode_tells : (a b : Bool) (types others : ListingFields) (r s : ListingFields) → AreTypes a types
+mode_shows : (a b : Bool) (types others : ListingFields) (r s : ListingFields) → AreTypes a types
     → AreTypes b others → mode_fields a types ++ r ≡ mode_fields b others ++ s
     → SameMode a b types others r s
-mode_tells true true types others r s m n e =
+mode_shows true true types others r s m n e =
     record { force = refl; types_are = m ∙ sym n; rest = tail_is (70 ∷ []) (70 ∷ []) r s e }
-mode_tells true false types others r s m n e =
+mode_shows true false types others r s m n e =
     absurd (letters_differ (head_is (70 ∷ []) (84 ∷ []) r (counted name_field others ++ s) e))
-mode_tells false true types others r s m n e =
+mode_shows false true types others r s m n e =
     absurd (letters_differ (sym (head_is (84 ∷ []) (70 ∷ []) (counted name_field types ++ r) s e)))
-mode_tells false false types others r s m n e =
-    let both = counted_tells IsWord name_field name_tells types others r s
+mode_shows false false types others r s m n e =
+    let both = counted_shows IsWord name_field name_shows types others r s
     (m.0, words_each types m.1) (n.0, words_each others n.1)
     (tail_is (84 ∷ []) (84 ∷ []) (counted name_field types ++ r) (counted name_field others ++ s) e)
     in
@@ -412,14 +412,14 @@ listing_same a b m n e =
     let subs_b =
     counted sub_fields b.first ++ (counted sub_fields b.second ++ counted line_fields b.lines)
     in
-    let mode = mode_tells a.force b.force a.types b.types subs_a subs_b m.types n.types
+    let mode = mode_shows a.force b.force a.types b.types subs_a subs_b m.types n.types
     (tail_is (path_text a.path) (path_text b.path) (in_turn a) (in_turn b) e1) in
-    let first = counted_tells IsNamesSub sub_fields sub_tells a.first b.first
+    let first = counted_shows IsNamesSub sub_fields sub_shows a.first b.first
     (counted sub_fields a.second ++ counted line_fields a.lines)
     (counted sub_fields b.second ++ counted line_fields b.lines) m.first n.first mode.rest in
-    let second = counted_tells IsNamesSub sub_fields sub_tells a.second b.second
+    let second = counted_shows IsNamesSub sub_fields sub_shows a.second b.second
     (counted line_fields a.lines) (counted line_fields b.lines) m.second n.second first.1 in
-    let lines = counted_tells IsLine line_fields line_tells a.lines b.lines [] [] m.lines n.lines
+    let lines = counted_shows IsLine line_fields line_shows a.lines b.lines [] [] m.lines n.lines
     (ap (λ fields. fields ++ []) second.1) in
     (λ i. record {
       format = format i;

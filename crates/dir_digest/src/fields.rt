@@ -108,7 +108,8 @@ pub(crate) fn add_shared(
     ensures first { OnOk result (AreCountable IsNamesSub subs.now.first) }
     ensures second { OnOk result (AreCountable IsNamesSub subs.now.second) }
     ensures added { OnOk result (to.new ≡ to.old ++ field_bytes
-        (shared_fields (is_whole_mode mode) (names_in_order types.now) subs.now.first subs.now.second)) }
+        (shared_fields (is_whole_mode mode) (names_in_order types.now) subs.now.first
+        subs.now.second)) }
 {
     add_mode(alloc, mode, types, to)?;
     add_subs(alloc, subs.first.lines().as_slice(), to)?;

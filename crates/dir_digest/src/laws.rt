@@ -10,7 +10,7 @@ ghost use Rattle.dir_digest.specs.Basis.{AreRead, Basis, listing_on};
 
 /// A law: listings with the same bytes are the same in every field.
 #[tactic(auto, using(crate::proofs::ListingLemmas::listing_same))]
-pub fn listings_tell()
+pub fn listings_read_back()
     ensures { (a b : Listing) → IsListing a → IsListing b
         → listing_bytes a ≡ listing_bytes b → a ≡ b }
 {}

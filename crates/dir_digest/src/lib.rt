@@ -9,7 +9,8 @@ mod mode;
 mod twenty_bytes;
 
 pub use laws::{
-    accepted_files_give_listings, constants_are_stated, equal_listings_decide_alike, listings_tell,
+    accepted_files_give_listings, constants_are_stated, equal_listings_decide_alike,
+    listings_read_back,
 };
 pub use listings::{Listings, digest, listing};
 pub use mode::Mode;

@@ -65,7 +65,8 @@ fn shared_of(
     ensures first { IfOk result (λ _. AreCountable IsNamesSub subs.now.first) }
     ensures second { IfOk result (λ _. AreCountable IsNamesSub subs.now.second) }
     ensures value { IfOk result (λ shared. shared ≡ field_bytes
-        (shared_fields (is_whole_mode mode) (names_in_order types.now) subs.now.first subs.now.second)) }
+        (shared_fields (is_whole_mode mode) (names_in_order types.now) subs.now.first
+        subs.now.second)) }
 {
     let mut shared = Bytes::new(alloc);
     add_shared(alloc, mode, types, subs, &mut shared)?;
@@ -280,7 +281,8 @@ pub fn listing(
     rules: &RuleSet,
 ) -> Result<Bytes, OutOfMemory>
     ensures { IfOk result (λ bytes. bytes ≡ listing_bytes
-        (listing_of format (is_whole_mode mode) (names_in_order types.now) subs.now.first subs.now.second rules.now
+        (listing_of format (is_whole_mode mode) (names_in_order types.now) subs.now.first
+        subs.now.second rules.now
         (path_of dir.now))) }
 {
     let mut scratch = Scratch::new(alloc, rules)?;

@@ -2,7 +2,7 @@ ghost use Rattle.std.specs.Prelude.{◌<◌, ◌^◌, length};
 
 use crate::{
     Digest, Mode, accepted_files_give_listings, constants_are_stated, digest,
-    equal_listings_decide_alike, listing, listings_tell,
+    equal_listings_decide_alike, listing, listings_read_back,
 };
 use context_syntax::{TypeNames, read_customizable};
 use file_paths::NormPath;
@@ -137,7 +137,9 @@ fn a_directory_is_listed(rt: HostRuntime) -> Result<(), Fail> {
     let bytes = plain_listing(rt.alloc(), &dir, Format::One, &rules_of(rt.alloc(), SRV)?)?;
     assert_eq!(rt;
         bytes.as_slice(),
-        b"relabel-listing-1\0/srv\0T\x000\x000\x000\x001\0/srv(/.*)?\0\0system_u:object_r:var_t:s0\0".as_slice()
+        b"relabel-listing-1\0/srv\0T\x000\x000\x000\x001\0/srv(/.*)?\0\0\
+            system_u:object_r:var_t:s0\0"
+            .as_slice()
     );
     Ok(())
 }
@@ -148,7 +150,9 @@ fn a_listing_tells_the_records_format(rt: HostRuntime) -> Result<(), Fail> {
     let bytes = plain_listing(rt.alloc(), &dir, Format::Two, &rules_of(rt.alloc(), SRV)?)?;
     assert_eq!(rt;
         bytes.as_slice(),
-        b"relabel-listing-2\0/srv\0T\x000\x000\x000\x001\0/srv(/.*)?\0\0system_u:object_r:var_t:s0\0".as_slice()
+        b"relabel-listing-2\0/srv\0T\x000\x000\x000\x001\0/srv(/.*)?\0\0\
+            system_u:object_r:var_t:s0\0"
+            .as_slice()
     );
     Ok(())
 }
@@ -160,7 +164,9 @@ fn its_digest_is_their_sha_1(rt: HostRuntime) -> Result<(), Fail> {
     let digest = plain_digest(rt.alloc(), &dir, &rules_of(rt.alloc(), SRV)?)?;
     assert_eq!(rt;
         digest.as_bytes(),
-        b"\x8c\x82\xde\x11\x18\xbd\x47\x89\xfa\x61\x32\x69\xb6\xde\x86\x5a\xd8\xd0\x63\xd8".as_slice()
+        b"\x8c\x82\xde\x11\x18\xbd\x47\x89\xfa\x61\
+            \x32\x69\xb6\xde\x86\x5a\xd8\xd0\x63\xd8"
+            .as_slice()
     );
     Ok(())
 }
@@ -170,11 +176,15 @@ fn its_digest_is_their_sha_1(rt: HostRuntime) -> Result<(), Fail> {
 fn digests_of_known_texts(rt: HostRuntime) {
     assert_eq!(rt;
         Sha1::digest(b"abc").as_slice(),
-        b"\xa9\x99\x3e\x36\x47\x06\x81\x6a\xba\x3e\x25\x71\x78\x50\xc2\x6c\x9c\xd0\xd8\x9d".as_slice()
+        b"\xa9\x99\x3e\x36\x47\x06\x81\x6a\xba\x3e\
+            \x25\x71\x78\x50\xc2\x6c\x9c\xd0\xd8\x9d"
+            .as_slice()
     );
     assert_eq!(rt;
         Sha1::digest(b"").as_slice(),
-        b"\xda\x39\xa3\xee\x5e\x6b\x4b\x0d\x32\x55\xbf\xef\x95\x60\x18\x90\xaf\xd8\x07\x09".as_slice()
+        b"\xda\x39\xa3\xee\x5e\x6b\x4b\x0d\x32\x55\
+            \xbf\xef\x95\x60\x18\x90\xaf\xd8\x07\x09"
+            .as_slice()
     );
 }
 
@@ -191,7 +201,9 @@ fn types_and_specifications_are_listed(rt: HostRuntime) -> Result<(), Fail> {
     )?;
     assert_eq!(rt;
         bytes.as_slice(),
-        b"relabel-listing-1\0/a\0T\x002\0mnt_t\0public_content_t\x000\x000\x002\0/a\0-d\0u:r:a_t\0/a/c\0--\0<<none>>\0".as_slice()
+        b"relabel-listing-1\0/a\0T\x002\0mnt_t\0public_content_t\x000\x000\x002\0/a\0-d\0u:r:a_t\0\
+            /a/c\0--\0<<none>>\0"
+            .as_slice()
     );
     Ok(())
 }
@@ -209,14 +221,16 @@ fn substitutions_are_listed(rt: HostRuntime) -> Result<(), Fail> {
     )?;
     assert_eq!(rt;
         bytes.as_slice(),
-        b"relabel-listing-1\0/u\0F\x002\0/w\0/v\0/w/x\0/y\x001\0/v\0/u\x002\0/u\0\0u:r:a_t\0/b\0\0u:r:b_t\0".as_slice()
+        b"relabel-listing-1\0/u\0F\x002\0/w\0/v\0/w/x\0/y\x001\0/v\0/u\x002\0/u\0\0u:r:a_t\0/b\0\0\
+            u:r:b_t\0"
+            .as_slice()
     );
     Ok(())
 }
 
 #[test]
 fn laws_hold_of_all(_rt: HostRuntime) {
-    listings_tell();
+    listings_read_back();
     accepted_files_give_listings();
     equal_listings_decide_alike();
     constants_are_stated();

@@ -37,14 +37,14 @@ kept ((b ∷ bs) ∷ ps) =
 pub short_text : (bytes : List ℕ) → length (normal_text bytes) ≤ suc (length bytes)
 short_text bytes = omega (arith, kept (slice_split is_slash bytes), weighed bytes)
 
-untold : (a b c d e : Bool) (n p : Path)
+unshown : (a b c d e : Bool) (n p : Path)
     → (if a then Err Empty else if b then Err PathTooLong else if c then Err
     HasNul else if d then Err NotAbsolute else if e then Err DotPart else Ok n) ≡ Ok p → (b ≡ false)
     × (c ≡ false)
-untold true b c d e n p h = cc
-untold false true c d e n p h = cc
-untold false false true d e n p h = cc
-untold false false false d e n p h = (refl, refl)
+unshown true b c d e n p h = cc
+unshown false true c d e n p h = cc
+unshown false false true d e n p h = cc
+unshown false false false d e n p h = (refl, refl)
 
 few : (n : ℕ) → nat_lt 4095 n ≡ false → n ≤ 4095
 few n h = grind (arith, nat_tests)
@@ -53,14 +53,14 @@ few n h = grind (arith, nat_tests)
 pub text_of : (bytes : List ℕ) (names : Path) → path_read bytes ≡ Ok names
     → IsTextOf bytes (normal_text bytes)
 text_of bytes names h =
-    let told = untold (length bytes == 0) (nat_lt 4095 (length bytes))
+    let shown = unshown (length bytes == 0) (nat_lt 4095 (length bytes))
     (list_any (λ b. b == 0) bytes) (not (slice_index bytes 0 == 47))
     (list_any is_dot_part (path_names bytes)) (path_names bytes) names h in
-    let ok : are_names (path_names bytes) ≡ true = names_ok bytes told.1 in
+    let ok : are_names (path_names bytes) ≡ true = names_ok bytes shown.1 in
     record {
       normal = normal_of_names (path_names bytes) ok;
       names_are = names_back (path_names bytes) ok;
-      short = omega (arith, few (length bytes) told.0, short_text bytes);
+      short = omega (arith, few (length bytes) shown.0, short_text bytes);
     }
 
 pub whatever : {A E : Type 0} (r : Result A E) (P : Type 0) → P → IfOk r (λ _. P)

@@ -11,15 +11,15 @@ use Rattle.home_contexts.specs.declared.made.Made.{Made}
 use Rattle.home_contexts.proofs.Going.{IsGoing, going_stops}
 
 pub gives_stop : {U : Type 0} (result : Result U (Fault HomesWhy)) (e : Fault HomesWhy) (old new :
-    Made) (next : List Given) → IsErrAnd result (λ told. told ≡ e)
+    Made) (next : List Given) → IsErrAnd result (λ shown. shown ≡ e)
     → StopsAtRefused (fault_cause e) next →
     GivesHomes result old new next
 gives_stop (Ok u) e old new next is stops = absurd is
-gives_stop (Err told) e old new next is stops = subst (λ t. StopsAtRefused (fault_cause t) next)
+gives_stop (Err shown) e old new next is stops = subst (λ t. StopsAtRefused (fault_cause t) next)
     (sym is) stops
 
 pub going_refused : {U : Type 0} (result : Result U (Fault HomesWhy)) (e : Fault HomesWhy) (start
-    now new : Made) (all rest next later : List Given) → IsErrAnd result (λ told. told ≡ e)
+    now new : Made) (all rest next later : List Given) → IsErrAnd result (λ shown. shown ≡ e)
     → IsGoing start now all rest → rest ≡ next ++ later → StopsAtRefused (fault_cause e) next
     → GivesHomes result
     start new all

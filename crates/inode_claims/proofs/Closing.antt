@@ -209,12 +209,12 @@ closed_wins plan w words xs seat v f same sized fit = record {
       let a = position_fits v.calls fit g p h in omega (arith, l, a);
 }
 
-pub closed_tells : (plan : Plan) (w : Winners) (words xs : List ℕ) (seat : ℕ) (v : ClaimView)
+pub closed_shows : (plan : Plan) (w : Winners) (words xs : List ℕ) (seat : ℕ) (v : ClaimView)
     → Final (Seen (λ (s : State ℕ ClaimView). LeastIsKept plan s.words s.views) seat v) words xs
     → ((k : ℕ) → k < plan.groups → get_or w.words.items k 0 ≡ get_or words (suc k) 0)
     → length w.words.items ≡ plan.groups → All (λ c. c.position < NONE_WORD) v.calls
     → v.stands_for ≡ plan.passes → AnswersAll plan.groups v.calls w
-closed_tells plan w words xs seat v f same sized fit whole = let e =
+closed_shows plan w words xs seat v f same sized fit whole = let e =
     winners_exact plan w.words.items words xs seat v f same whole in record {
       least = λ g lt. is_least g (get_or w.words.items g 0) v.calls
           (⊎_elim (λ (z : get_or w.words.items g 0 ≡ NONE_WORD). omega (arith, z))

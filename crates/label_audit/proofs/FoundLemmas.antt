@@ -14,10 +14,10 @@ no_more old most = (0, omega arith, no_calls old)
 module _ {S : Type 0} (files : S → Option Files) (calls : S → Option ℕ)
     (read_faults write_faults : S → ℕ) where
   pub unopened : {V : Type 0} (meant : Files → FilesSay V) (store : S) (result : Result V Cause)
-      → IsErrAnd result (λ told. told ≡ OutOfMemory) → Reads files calls read_faults write_faults
+      → IsErrAnd result (λ shown. shown ≡ OutOfMemory) → Reads files calls read_faults write_faults
       meant store store result
   unopened meant store (Ok value) is = absurd is
-  unopened meant store (Err told) is =
+  unopened meant store (Err shown) is =
       let forgotten : Reads files calls read_faults write_faults meant store store
       (Err OutOfMemory) = record {
         same = refl;

@@ -210,15 +210,15 @@ pub name_wins : (w : Walk) (g : ℕ) (names : List ℕ) (i : ℕ) (found : Winne
     → names ≡ names_in w.entries g → i < length names
     → find (is_wanted w) (drop i names) ≡ find (is_wanted w) names
     → found ≡ winner_if w (get_or names i 0) → is_some found.name ≡ true → IsWinner w g found
-name_wins w g names i found is l so_far told some =
+name_wins w g names i found is l so_far shown some =
     let k = get_or names i 0 in
-    let wanted_here : is_wanted w k ≡ true = sym (wins_where w k found told) ∙ some in
+    let wanted_here : is_wanted w k ≡ true = sym (wins_where w k found shown) ∙ some in
     let wins : winner w g ≡ Some k =
     winner_found w g ∙ ap (find (is_wanted w)) (sym is) ∙ sym so_far
     ∙ at_drop_more (find (is_wanted w)) names i 0 l
     ∙ first_passes (is_wanted w) k (drop (i + 1) names) wanted_here in
     let here : found ≡ record { name = Some k; decided = deciding w k } =
-    told ∙ ap (λ b. if b then record { name = Some k; decided = deciding w k } else no_winner)
+    shown ∙ ap (λ b. if b then record { name = Some k; decided = deciding w k } else no_winner)
     wanted_here in
     record {
       name_is = ap (λ (f : Winner). f.name) here ∙ sym wins;
@@ -231,10 +231,10 @@ pub name_fails : (w : Walk) (names : List ℕ) (i : ℕ) (found : Winner) → i 
     → find (is_wanted w) (drop i names) ≡ find (is_wanted w) names
     → found ≡ winner_if w (get_or names i 0) → is_some found.name ≡ false
     → find (is_wanted w) (drop (i + 1) names) ≡ find (is_wanted w) names
-name_fails w names i found l so_far told none =
+name_fails w names i found l so_far shown none =
     sym (at_drop_more (find (is_wanted w)) names i 0 l
     ∙ first_fails (is_wanted w) (get_or names i 0) (drop (i + 1) names)
-    (sym (wins_where w (get_or names i 0) found told) ∙ none)) ∙ so_far
+    (sym (wins_where w (get_or names i 0) found shown) ∙ none)) ∙ so_far
 
 -- no name is
 pub no_name_wins : (w : Walk) (g : ℕ) (names : List ℕ) (i : ℕ) → names ≡ names_in w.entries g

@@ -113,9 +113,9 @@ one_more_least n p None false e r =
     λ j l. elim (below_or_last n j l)
     [ inl lt ↦ r j lt | inr same ↦ subst (λ i. p i ≡ false) same e ]
 
-pub least_told : (n : ℕ) (p : ℕ → Bool) → IsLeast n p (least_below n p)
-least_told zero p = λ j l. absurd (omega arith)
-least_told (suc n) p = one_more_least n p (least_below n p) (p n) refl (least_told n p)
+pub least_shown : (n : ℕ) (p : ℕ → Bool) → IsLeast n p (least_below n p)
+least_shown zero p = λ j l. absurd (omega arith)
+least_shown (suc n) p = one_more_least n p (least_below n p) (p n) refl (least_shown n p)
 
 -- a number that passes, before which none does, is the least
 pub least_is : (n : ℕ) (p : ℕ → Bool) (k : ℕ) → k < n → p k ≡ true → ((j : ℕ) → j < k → p j ≡ false)
@@ -170,9 +170,10 @@ one_more_greatest n p None false e r =
     λ j l. elim (below_or_last n j l)
     [ inl lt ↦ r j lt | inr same ↦ subst (λ i. p i ≡ false) same e ]
 
-pub greatest_told : (n : ℕ) (p : ℕ → Bool) → IsGreatest n p (greatest_below n p)
-greatest_told zero p = λ j l. absurd (omega arith)
-greatest_told (suc n) p = one_more_greatest n p (greatest_below n p) (p n) refl (greatest_told n p)
+pub greatest_shown : (n : ℕ) (p : ℕ → Bool) → IsGreatest n p (greatest_below n p)
+greatest_shown zero p = λ j l. absurd (omega arith)
+greatest_shown (suc n) p = one_more_greatest n p (greatest_below n p) (p n) refl
+    (greatest_shown n p)
 
 bound_of : (n : ℕ) (p : ℕ → Bool) (found : Option ℕ) → IsGreatest n p found
     → IfSome found (λ k. k < n)
@@ -180,7 +181,7 @@ bound_of n p None r = tt
 bound_of n p (Some k) r = r.0
 
 pub greatest_bound : (n : ℕ) (p : ℕ → Bool) → IfSome (greatest_below n p) (λ k. k < n)
-greatest_bound n p = bound_of n p (greatest_below n p) (greatest_told n p)
+greatest_bound n p = bound_of n p (greatest_below n p) (greatest_shown n p)
 
 passes_of : (n : ℕ) (p : ℕ → Bool) (found : Option ℕ) → IsGreatest n p found
     → IfSome found (λ k. p k ≡ true)
@@ -188,7 +189,7 @@ passes_of n p None r = tt
 passes_of n p (Some k) r = r.1
 
 pub greatest_passes : (n : ℕ) (p : ℕ → Bool) → IfSome (greatest_below n p) (λ k. p k ≡ true)
-greatest_passes n p = passes_of n p (greatest_below n p) (greatest_told n p)
+greatest_passes n p = passes_of n p (greatest_below n p) (greatest_shown n p)
 
 above_of : (n : ℕ) (p : ℕ → Bool) (found : Option ℕ) → IsGreatest n p found
     → IfSome found (λ k. (j : ℕ) → k < j → j < n → p j ≡ false)
@@ -197,7 +198,7 @@ above_of n p (Some k) r = r.2
 
 pub greatest_above : (n : ℕ) (p : ℕ → Bool)
     → IfSome (greatest_below n p) (λ k. (j : ℕ) → k < j → j < n → p j ≡ false)
-greatest_above n p = above_of n p (greatest_below n p) (greatest_told n p)
+greatest_above n p = above_of n p (greatest_below n p) (greatest_shown n p)
 
 pub greatest_agree : (n : ℕ) (p q : ℕ → Bool) → ((k : ℕ) → k < n → p k ≡ q k)
     → greatest_below n p ≡ greatest_below n q

@@ -72,11 +72,11 @@ module _ {B W : Type 0} (Means : ℕ → List (List ℕ) → Result B W → Type
   abbrev Blank : List ℕ → Type 0
   Blank line = (fields : List (List ℕ)) × AreFields line fields × SayNothing fields
 
-  abbrev Told : ℕ → List ℕ → Type 0
-  Told number line = Blank line ⊎ ((meant : Result B W) × Says Means number line meant)
+  abbrev Shown : ℕ → List ℕ → Type 0
+  Shown number line = Blank line ⊎ ((meant : Result B W) × Says Means number line meant)
 
   something : (number : ℕ) (line : List ℕ) (fields : List (List ℕ)) → AreFields line fields
-      → ¬ SayNothing fields → Told number line
+      → ¬ SayNothing fields → Shown number line
   something number line fields are h =
       inr (
         meaning number fields,
@@ -88,18 +88,18 @@ module _ {B W : Type 0} (Means : ℕ → List (List ℕ) → Result B W → Type
         },
       )
 
-  told_by : (number : ℕ) (line : List ℕ) (fields : List (List ℕ)) → AreFields line fields
-      → Told number line
-  told_by number line [] are = inl ([], are, tt)
-  told_by number line ([] ∷ fields) are = something number line ([] ∷ fields) are (λ h. h)
-  told_by number line ((b ∷ bs) ∷ fields) are =
-      elim (b == COMMENT_MARK) as (λ v. (b == COMMENT_MARK) ≡ v → Told number line) [
+  shown_by : (number : ℕ) (line : List ℕ) (fields : List (List ℕ)) → AreFields line fields
+      → Shown number line
+  shown_by number line [] are = inl ([], are, tt)
+  shown_by number line ([] ∷ fields) are = something number line ([] ∷ fields) are (λ h. h)
+  shown_by number line ((b ∷ bs) ∷ fields) are =
+      elim (b == COMMENT_MARK) as (λ v. (b == COMMENT_MARK) ≡ v → Shown number line) [
         | true ↦ λ t. inl ((b ∷ bs) ∷ fields, are, eqb-true b COMMENT_MARK t)
         | false ↦ λ f. something number line ((b ∷ bs) ∷ fields) are (eqb-false b COMMENT_MARK f)
       ] refl
 
-  told : (number : ℕ) (line : List ℕ) → Told number line
-  told number line = told_by number line (fields_of line) (fields_sound line)
+  shown : (number : ℕ) (line : List ℕ) → Shown number line
+  shown number line = shown_by number line (fields_of line) (fields_sound line)
 
   -- ---- lines one after another
 
@@ -288,7 +288,7 @@ module _ {B W : Type 0} (Means : ℕ → List (List ℕ) → Result B W → Type
       let moved : AreLines text ((before ++ line ∷ []) ++ after) =
       subst (AreLines text) (sym (append_assoc before (line ∷ []) after)) are in
       let place : number ≡ 1 + length before = omega arith in
-      elim (told number line) [
+      elim (shown number line) [
         | inl (fields, cut, empty) ↦
             let with_line = subst (AreSaid Means 1 (before ++ line ∷ [])) (append-nil values)
             (said_more 1 before (line ∷ []) values [] are_said

@@ -2,7 +2,7 @@ ghost use Rattle.std.specs.Prelude.{◌≡◌, ◌↔◌, ◌<◌, length, IfSom
 ghost use Rattle.label_base.specs.Kind.{class_kind, field_kind, has_letter, has_names};
 ghost use Rattle.label_base.specs.Kind.{is_kind_name, kind_number, letter_kind, kind_names};
 ghost use Rattle.label_base.specs.Kind.{names_of, numbered_kind, same_kind};
-ghost use Rattle.label_base.specs.KindNames.{names_told};
+ghost use Rattle.label_base.specs.KindNames.{names_seen};
 
 /// The kind of an entry of a tree, as find(1) tells it with `%y`.
 #[derive(Clone, Copy, Debug, PartialEq, Eq)]
@@ -42,7 +42,7 @@ struct Names {
 }
 
 fn named(letters: &'static [u8], type_field: &'static [u8], class_name: &'static str) -> Names
-    ensures { names_told result ≡ kind_names letters.entry.now type_field.entry.now
+    ensures { names_seen result ≡ kind_names letters.entry.now type_field.entry.now
         class_name.entry.now }
 {
     Names {
@@ -55,7 +55,7 @@ fn named(letters: &'static [u8], type_field: &'static [u8], class_name: &'static
 impl EntryKind {
     // The table.
     fn names(self) -> Names
-        ensures { names_told result ≡ names_of self }
+        ensures { names_seen result ≡ names_of self }
     {
         match self {
             EntryKind::Regular => named(b"f", b"--", "file"),

@@ -47,11 +47,11 @@ first_count message path paths = counted (is_unverified (message path)) (message
 
 -- one path more, of those that are left
 pub next_count : (message : Path → MessageValue) (paths : List Path) (k : ℕ) (path : Path)
-    (before more all : ℕ) (told : Bool) → k < length paths
+    (before more all : ℕ) (shown : Bool) → k < length paths
     → path ≡ get_or paths k path → before + count_unverified (map message (drop k paths)) ≡ all
-    → told ≡ is_unverified (message path) → more ≡ bool_byte told
+    → shown ≡ is_unverified (message path) → more ≡ bool_byte shown
     → before + more + count_unverified (map message (drop (k + 1) paths)) ≡ all
-next_count message paths k path before more all told l is b t m =
+next_count message paths k path before more all shown l is b t m =
     let here : count_unverified (map message (drop k paths))
     ≡ bool_byte (is_unverified (message path)) + count_unverified
     (map message (drop (k + 1) paths)) =

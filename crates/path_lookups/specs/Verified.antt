@@ -31,7 +31,7 @@ label_message path label (Some wanted) =
 -- the kind that is told, or else this one
 abbrev pub kind_or : Option EntryKind → EntryKind → Asked
 kind_or None kind = Of kind
-kind_or (Some told) kind = Of told
+kind_or (Some asked) kind = Of asked
 
 -- a path whose entry has this index
 abbrev pub entry_message : Rules → List Record → Option EntryKind → Path → Option ℕ → MessageValue

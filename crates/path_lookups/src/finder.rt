@@ -5,7 +5,7 @@ ghost use Rattle.spec_match.specs.Scratches.{IsScratchOf};
 ghost use Rattle.path_lookups.specs.Finders.{CanFind, IsFinderOf, rules_of};
 ghost use Rattle.path_lookups.specs.Found.{context_for};
 
-use crate::path_rules::{PathRules, Way};
+use crate::path_rules::{PathRules, Readiness};
 use context_syntax::Context;
 use file_paths::PathRef;
 use label_base::{Asked, OutOfMemory, Steps};
@@ -64,9 +64,9 @@ impl<'a> Finder<'a> {
     pub fn new(alloc: Global, rules: &'a PathRules) -> Result<Finder<'a>, OutOfMemory>
         ensures { IfOk result (IsFinderOf rules.now) }
     {
-        match &rules.way {
-            Way::Listed(listed) => Ok(Finder::Listed(listed)),
-            Way::Ready(ready) => Ok(Finder::Ready(ready, Scratch::new(alloc, &ready.rules)?)),
+        match &rules.readiness {
+            Readiness::Listed(listed) => Ok(Finder::Listed(listed)),
+            Readiness::Ready(ready) => Ok(Finder::Ready(ready, Scratch::new(alloc, &ready.rules)?)),
         }
     }
 

@@ -11,7 +11,7 @@ const FEW_PATHS: usize = 8;
 
 /// How contexts are found by rules.
 #[derive(Drop)]
-pub enum Way {
+pub enum Readiness {
     /// In the list of specifications, as it was read.
     Listed(ListedRules),
     /// In specifications that were made ready.
@@ -20,7 +20,7 @@ pub enum Way {
 
 /// The rules by which paths are looked up: made ready where they are many. Contracts see the rules.
 pub struct PathRules {
-    pub(crate) way: Way,
+    pub(crate) readiness: Readiness,
 }
 
 impl Model for PathRules {
@@ -34,13 +34,13 @@ impl Model for PathRules {
 
     ghost coded = { Prim.hlevel (codes, tree_code, name_set_code) };
 
-    ghost view = { λ r. rules_in r.way };
+    ghost view = { λ r. rules_in r.readiness };
 }
 
 // By hand: one call for an owner, where a derived drop is a step for each field.
 impl Drop for PathRules {
     fn drop(self) {
-        let PathRules { way: _ } = self;
+        let PathRules { readiness: _ } = self;
     }
 }
 
@@ -51,12 +51,12 @@ impl PathRules {
     {
         if paths <= FEW_PATHS {
             return Ok(PathRules {
-                way: Way::Listed(rules),
+                readiness: Readiness::Listed(rules),
             });
         }
         let ready = rules.into_rules(alloc)?;
         Ok(PathRules {
-            way: Way::Ready(ready),
+            readiness: Readiness::Ready(ready),
         })
     }
 }

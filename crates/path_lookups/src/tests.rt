@@ -170,7 +170,9 @@ fn the_last_specification_is_found(rt: HostRuntime) -> Result<(), Fail> {
     )?;
     assert_eq!(rt;
         report.as_slice(),
-        b"/usr/bin/ls\tu:r:ls_exec_t:s0\n/usr/bin/cat\tu:r:bin_t:s0\n/usr/lib\tu:r:usr_t:s0\n/usr\t<<none>>\n".as_slice()
+        b"/usr/bin/ls\tu:r:ls_exec_t:s0\n/usr/bin/cat\tu:r:bin_t:s0\n/usr/lib\tu:r:usr_t:s0\n\
+            /usr\t<<none>>\n"
+            .as_slice()
     );
     Ok(())
 }
@@ -312,7 +314,9 @@ fn paths_are_verified(rt: HostRuntime) -> Result<(), Fail> {
     assert_eq!(rt; unverified, 2);
     assert_eq!(rt;
         report.as_slice(),
-        b"/srv/a verified.\n/srv/b has context u:r:tmp_t:s0, should be u:r:var_t:s0\n/srv/c has no record\n/srv/n verified.\n".as_slice()
+        b"/srv/a verified.\n/srv/b has context u:r:tmp_t:s0, should be u:r:var_t:s0\n\
+            /srv/c has no record\n/srv/n verified.\n"
+            .as_slice()
     );
     Ok(())
 }

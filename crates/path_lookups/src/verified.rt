@@ -64,12 +64,12 @@ fn label_message<'a>(
     }
 }
 
-fn kind_or(told: Option<EntryKind>, kind: EntryKind) -> Asked
-    ensures { result ≡ kind_or told kind }
+fn kind_or(asked: Option<EntryKind>, kind: EntryKind) -> Asked
+    ensures { result ≡ kind_or asked kind }
 {
-    match told {
+    match asked {
         None => Asked::Of(kind),
-        Some(told) => Asked::Of(told),
+        Some(asked) => Asked::Of(asked),
     }
 }
 

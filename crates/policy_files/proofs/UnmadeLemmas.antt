@@ -17,17 +17,17 @@ module _ {S : Type 0} (files : S → Option Files) (calls : S → Option ℕ)
     (read_faults write_faults : S → ℕ) where
   -- what was read is refused
   pub refused_alike : {A : Type 0} (meant : Files → FilesSay A) (store now : S) (cause : Cause)
-      (result : Result A Cause) → IsErrAnd result (λ told. told ≡ cause)
+      (result : Result A Cause) → IsErrAnd result (λ shown. shown ≡ cause)
       → Reads files calls read_faults write_faults meant store now (Err cause)
       → Reads files calls read_faults write_faults meant store now result
   refused_alike meant store now cause (Ok value) is read = absurd is
-  refused_alike meant store now cause (Err told) is read =
+  refused_alike meant store now cause (Err shown) is read =
       subst (λ (k : Cause). Reads files calls read_faults write_faults meant store now
       (Err k)) (sym is) read
 
   -- no memory for what is made of it
   pub unmade : {A : Type 0} (meant : Files → FilesSay A) (store now : S) (a : A)
-      (result : Result A Cause) → IsErrAnd result (λ told. told ≡ OutOfMemory)
+      (result : Result A Cause) → IsErrAnd result (λ shown. shown ≡ OutOfMemory)
       → Reads files calls read_faults write_faults meant store now (Ok a)
       → Reads files calls read_faults write_faults meant store now result
   unmade meant store now a result is read =

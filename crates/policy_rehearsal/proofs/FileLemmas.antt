@@ -57,13 +57,13 @@ later files calls read_faults write_faults list (suc n) k store now cause l read
 refused_all : {S : Type 0} (files : S → Option Files) (calls : S → Option ℕ)
     (read_faults write_faults : S → ℕ) (list : List NamedFile) (n k : ℕ) (store now : S)
     (cause : Cause) (result : Result (List Policy) Cause) → k ≤ n
-    → IsErrAnd result (λ told. told ≡ cause)
+    → IsErrAnd result (λ shown. shown ≡ cause)
     → Reads files calls read_faults write_faults (policies_below list k) store now result
     → Reads files calls read_faults write_faults (policies_below list n) store now result
 refused_all files calls read_faults write_faults list n k store now cause (Ok policies) l is read =
     absurd is
-refused_all files calls read_faults write_faults list n k store now cause (Err told) l is read =
-    later files calls read_faults write_faults list n k store now told l read
+refused_all files calls read_faults write_faults list n k store now cause (Err shown) l is read =
+    later files calls read_faults write_faults list n k store now shown l read
 
 nothing_read : {S : Type 0} (files : S → Option Files) (calls : S → Option ℕ)
     (read_faults write_faults : S → ℕ) (list : List NamedFile) (store : S)
@@ -102,7 +102,7 @@ one_read files calls read_faults write_faults list k store mid now old new polic
 pub one_refused : {S : Type 0} (files : S → Option Files) (calls : S → Option ℕ)
     (read_faults write_faults : S → ℕ) (list : List NamedFile) (k n : ℕ) (store mid now : S)
     (old : List Policy) (cause : Cause) (result : Result (List Policy) Cause)
-    → k + 1 ≤ n → IsErrAnd result (λ told. told ≡ cause)
+    → k + 1 ≤ n → IsErrAnd result (λ shown. shown ≡ cause)
     → Reads files calls read_faults write_faults (policies_below list k) store mid (Ok old)
     → Reads files calls read_faults write_faults (policy_for list k) mid now (Err cause)
     → Reads files calls read_faults write_faults (policies_below list n) store now result
@@ -116,7 +116,7 @@ one_refused files calls read_faults write_faults list k n store mid now old caus
 pub one_forgotten : {S : Type 0} (files : S → Option Files) (calls : S → Option ℕ)
     (read_faults write_faults : S → ℕ) (list : List NamedFile) (k n : ℕ) (store mid now : S)
     (old : List Policy) (policy : Policy) (result : Result (List Policy) Cause)
-    → k + 1 ≤ n → IsErrAnd result (λ told. told ≡ OutOfMemory)
+    → k + 1 ≤ n → IsErrAnd result (λ shown. shown ≡ OutOfMemory)
     → Reads files calls read_faults write_faults (policies_below list k) store mid (Ok old)
     → Reads files calls read_faults write_faults (policy_for list k) mid now (Ok policy)
     → Reads files calls read_faults write_faults (policies_below list n) store now result
@@ -131,10 +131,10 @@ one_forgotten files calls read_faults write_faults list k n store mid now old po
 -- ---- types
 
 pub counted_by : {B : Type 0} (cause : Cause) (result : Result B Cause)
-    → IsErrAnd result (λ told. told ≡ cause)
+    → IsErrAnd result (λ shown. shown ≡ cause)
     → ((count : ℕ) → CauseCounts count count cause) → (count : ℕ) → Counts count count result
 counted_by cause (Ok value) is counts = absurd is
-counted_by cause (Err told) is counts = λ count. subst (λ (k : Cause). CauseCounts count count k)
+counted_by cause (Err shown) is counts = λ count. subst (λ (k : Cause). CauseCounts count count k)
     (sym is) (counts count)
 
 -- one policy more with its types

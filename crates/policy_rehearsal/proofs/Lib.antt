@@ -5,4 +5,4 @@ pub mod FileLemmas
 pub mod TextLemmas
 pub mod StandingLemmas
 pub mod WordLemmas
-pub mod ToldLemmas
+pub mod ShownLemmas

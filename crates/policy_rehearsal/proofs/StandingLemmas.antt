@@ -110,17 +110,17 @@ turns_more entries s (first ∷ runs) run =
 
 -- ---- labels by the numbers of their groups
 
-told_at : (labels : List LabelAfter) (g : ℕ) → labels_listed labels g
+shown_at : (labels : List LabelAfter) (g : ℕ) → labels_listed labels g
     ≡ get_or (map label_seen labels) g Absent
-told_at [] zero = refl
-told_at [] (suc g) = refl
-told_at (label ∷ labels) zero = refl
-told_at (label ∷ labels) (suc g) = told_at labels g
+shown_at [] zero = refl
+shown_at [] (suc g) = refl
+shown_at (label ∷ labels) zero = refl
+shown_at (label ∷ labels) (suc g) = shown_at labels g
 
 pub listed_at : (labels : List LabelAfter) (f : ℕ → Label) (n g : ℕ) → map label_seen labels
     ≡ map f (all_numbers n) → g < n → labels_listed labels g ≡ f g
 listed_at labels f n g is l =
-    told_at labels g ∙ ap (λ ls. get_or ls g Absent) is ∙ mapped_at f n g Absent l
+    shown_at labels g ∙ ap (λ ls. get_or ls g Absent) is ∙ mapped_at f n g Absent l
 
 pub count_listed : (labels : List LabelAfter) (f : ℕ → Label) (n : ℕ) → map label_seen labels
     ≡ map f (all_numbers n) → length labels ≡ n
@@ -137,7 +137,7 @@ all_listed labels f n counted each =
     (sized ∙ counted ∙ sym (count_numbers n) ∙ sym (length-map (all_numbers n) f))
     (λ g l.
     let within : g < n = omega (arith, l, sized, counted) in
-    sym (told_at labels g) ∙ each g within ∙ sym (mapped_at f n g Absent within))
+    sym (shown_at labels g) ∙ each g within ∙ sym (mapped_at f n g Absent within))
 
 -- ---- skipping changes no label
 
@@ -228,24 +228,24 @@ at_more tree runs more run at is now =
     subst (λ s. IsAt tree s at)
     (sym (ap (end tree (bare_state tree)) is ∙ end_more tree (bare_state tree) runs run)) now
 
-pub told_more : (tree : List Record) (runs more : List TreeRun) (run : TreeRun)
+pub shown_more : (tree : List Record) (runs more : List TreeRun) (run : TreeRun)
     (turns now : List Turn) (turn : Turn) → more ≡ runs ++ run ∷ []
     → now ≡ turns ++ turn ∷ [] → map turn_lent turns ≡ turns_from tree (bare_state tree) runs
     → turn_lent turn ≡ turn_in (walk_at tree (end tree (bare_state tree) runs) run)
     → map turn_lent now ≡ turns_from tree (bare_state tree) more
-told_more tree runs more run turns now turn is added so_far this =
+shown_more tree runs more run turns now turn is added so_far this =
     ap (map turn_lent) added ∙ map-append turn_lent turns (turn ∷ [])
     ∙ ap₂ (λ front last. front ++ last ∷ []) so_far this
     ∙ sym (turns_more tree (bare_state tree) runs run)
     ∙ ap (turns_from tree (bare_state tree)) (sym is)
 
-pub all_told : (tree : List Record) (runs : List TreeRun) (told : Rehearsed) (at : Standing)
-    → told.labels ≡ at.labels
-    → map turn_lent told.turns ≡ turns_from tree (bare_state tree) runs → IsStandingKept tree at
+pub all_shown : (tree : List Record) (runs : List TreeRun) (shown : Rehearsed) (at : Standing)
+    → shown.labels ≡ at.labels
+    → map turn_lent shown.turns ≡ turns_from tree (bare_state tree) runs → IsStandingKept tree at
     → IsAt tree (end tree (bare_state tree) runs) at
-    → rehearsed_lent told ≡ rehearsed_by tree runs
-all_told tree runs told at same turns kept now =
-    let labels_are : map label_seen told.labels ≡ map (end tree (bare_state tree) runs).labels
+    → rehearsed_lent shown ≡ rehearsed_by tree runs
+all_shown tree runs shown at same turns kept now =
+    let labels_are : map label_seen shown.labels ≡ map (end tree (bare_state tree) runs).labels
     (all_numbers (groups_in tree)) =
     ap (map label_seen) same
     ∙ all_listed at.labels (end tree (bare_state tree) runs).labels (groups_in tree) kept.each_group
@@ -268,10 +268,10 @@ first_kept tree at labels_are none = record {
   directories = λ e other. ap (λ d. d e) none;
 }
 
-pub kept_told : {E : Type 0} (tree : List Record) (runs : List TreeRun)
+pub kept_shown : {E : Type 0} (tree : List Record) (runs : List TreeRun)
     (result : Result Rehearsed E)
-    → IfOk result (λ told. rehearsed_lent told ≡ rehearsed_by tree runs)
-    → IfOk result (λ told. RunsKeepLabels tree runs (rehearsed_lent told).labels)
-kept_told tree runs (Err fault) is = tt
-kept_told tree runs (Ok told) is = λ are. ap (λ (v : RehearsedValue). v.labels) is
+    → IfOk result (λ shown. rehearsed_lent shown ≡ rehearsed_by tree runs)
+    → IfOk result (λ shown. RunsKeepLabels tree runs (rehearsed_lent shown).labels)
+kept_shown tree runs (Err fault) is = tt
+kept_shown tree runs (Ok shown) is = λ are. ap (λ (v : RehearsedValue). v.labels) is
     ∙ keeps_labels tree runs are

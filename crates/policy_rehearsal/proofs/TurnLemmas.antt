@@ -217,7 +217,7 @@ abbrev change_from : ℕ → Label → ContextValue → ChangeValue
 change_from e from to = record { entry = e; from = from; to = to }
 
 -- the change of an entry, as it is told
-pub change_told : (w : Walk) (tree : List Record) (labels : ℕ → Label) (e : ℕ)
+pub change_shown : (w : Walk) (tree : List Record) (labels : ℕ → Label) (e : ℕ)
     (found : Option ContextRef) (to : ContextRef) (from : LabelAfter) → w.entries ≡ tree
     → e < length tree
     → option_map context_lent found ≡ change_at (walk_over w labels) e → found ≡ Some to
@@ -225,7 +225,7 @@ pub change_told : (w : Walk) (tree : List Record) (labels : ℕ → Label) (e : 
     → ◌≡◌ {A = Option ChangeValue}
     (Some (record { entry = e; from = label_seen from; to = context_lent to }))
     (change_to (walk_over w labels) e (change_at (walk_over w labels) e))
-change_told w tree labels e found to from own l given is now =
+change_shown w tree labels e found to from own l given is now =
     let v = walk_over w labels in
     let at : Some (context_lent to) ≡ change_at v e = ap (option_map context_lent) (sym is)
     ∙ given in
@@ -240,9 +240,9 @@ pub anew_copied : {E : Type 0} (w : Walk) (labels : ℕ → Label) (d : ℕ) (fo
     → found ≡ Some digest → bytes ≡ digest
     → IfOk result (λ copied. copied ≡ Some bytes)
     → IfOk result (λ copied. copied ≡ digest_after (walk_over w labels) d)
-anew_copied w labels d found digest bytes (Err fault) told is same copied = tt
-anew_copied w labels d found digest bytes (Ok copy) told is same copied =
-    copied ∙ ap Some same ∙ sym (digest_anew w labels d digest (sym told ∙ is))
+anew_copied w labels d found digest bytes (Err fault) shown is same copied = tt
+anew_copied w labels d found digest bytes (Ok copy) shown is same copied =
+    copied ∙ ap Some same ∙ sym (digest_anew w labels d digest (sym shown ∙ is))
 
 -- one that isn't
 pub kept_copied : {E : Type 0} (w : Walk) (labels : ℕ → Label) (d : ℕ)
@@ -253,8 +253,8 @@ pub kept_copied : {E : Type 0} (w : Walk) (labels : ℕ → Label) (d : ℕ)
     → IfOk result
     (λ digest. digest ≡ (if is_some given && changed then Some void_digest else given))
     → IfOk result (λ digest. digest ≡ digest_after (walk_over w labels) d)
-kept_copied w labels d found given changed (Err fault) wet told is stored risen kept = tt
-kept_copied w labels d found given changed (Ok digest) wet told is stored risen kept =
+kept_copied w labels d found given changed (Err fault) wet shown is stored risen kept = tt
+kept_copied w labels d found given changed (Ok digest) wet shown is stored risen kept =
     kept
     ∙ (λ i. if is_some (stored i) && risen i then Some void_digest else stored i)
-    ∙ sym (digest_kept w labels d wet (sym told ∙ is))
+    ∙ sym (digest_kept w labels d wet (sym shown ∙ is))

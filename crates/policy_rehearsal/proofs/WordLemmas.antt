@@ -70,16 +70,16 @@ absent_few words entries absent chosen is chosen_is few =
           (length words.choice.operands) most,
     )
 
-pub answer_told : {E : Type 0} (words : RehearseWords) (policies : List Rules)
-    (entries : List Record) (absent : List ℕ) (chosen : SelectedValue) (told : RehearsedValue)
+pub answer_shown : {E : Type 0} (words : RehearseWords) (policies : List Rules)
+    (entries : List Record) (absent : List ℕ) (chosen : SelectedValue) (shown : RehearsedValue)
     (result : Result Ending E)
     → absent ≡ absent_by words chosen.absent → chosen ≡ selected_by words.choice entries
-    → told ≡ rehearsed entries words.choice words.options policies
-    → IfOk result (λ ending. ending ≡ rehearse_ending words entries absent told.turns)
+    → shown ≡ rehearsed entries words.choice words.options policies
+    → IfOk result (λ ending. ending ≡ rehearse_ending words entries absent shown.turns)
     → IfOk result (λ ending. ending ≡ rehearsal_of words policies entries)
 unfolding rehearsal_of
-answer_told words policies entries absent chosen told (Err fault) is chosen_is told_is made = tt
-answer_told words policies entries absent chosen told (Ok ending) is chosen_is told_is made =
+answer_shown words policies entries absent chosen shown (Err fault) is chosen_is shown_is made = tt
+answer_shown words policies entries absent chosen shown (Ok ending) is chosen_is shown_is made =
     made
     ∙ (λ i. rehearse_ending words entries
-    ((is ∙ ap (λ (c : SelectedValue). absent_by words c.absent) chosen_is) i) (told_is i).turns)
+    ((is ∙ ap (λ (c : SelectedValue). absent_by words c.absent) chosen_is) i) (shown_is i).turns)

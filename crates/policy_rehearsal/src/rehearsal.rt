@@ -143,7 +143,7 @@ fn take_turns<'a>(
     policies: &'a Row<Rules>,
 ) -> Result<Rehearsed<'a>, OutOfMemory>
     requires { IsAsked asked.now }
-    ensures { IfOk result (λ told. rehearsed_lent told ≡ rehearsed_by asked.now.tree.now
+    ensures { IfOk result (λ done. rehearsed_lent done ≡ rehearsed_by asked.now.tree.now
         (runs_of asked.now.choice.now asked.now.options policies.now)) }
 {
     let mut at = first_standing(alloc, asked.tree)?;
@@ -171,11 +171,11 @@ pub fn rehearse<'a>(
     policies: &'a Row<Rules>,
 ) -> Result<Rehearsed<'a>, OutOfMemory>
     requires { IsAsked asked.now }
-    ensures told { IfOk result (λ told. rehearsed_lent told
+    ensures answer { IfOk result (λ done. rehearsed_lent done
         ≡ rehearsed asked.now.tree.now asked.now.choice.now asked.now.options policies.now) }
-    ensures keeps { IfOk result (λ told. RunsKeepLabels asked.now.tree.now
+    ensures keeps { IfOk result (λ done. RunsKeepLabels asked.now.tree.now
         (runs_of asked.now.choice.now asked.now.options policies.now)
-        (rehearsed_lent told).labels) }
+        (rehearsed_lent done).labels) }
 {
     take_turns(alloc, asked, policies)
 }

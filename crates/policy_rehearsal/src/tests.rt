@@ -76,8 +76,9 @@ const FC: &[u8] = b"/a(/s)? -d u:r:dir_t\n/a/s/f u:r:f_t\n";
 
 const FD: &[u8] = b"/a(/s)? -d u:r:dir_t\n/a/s/f u:r:g_t\n";
 
-const TEXT: &[u8] =
-    b"version 1: fc: 0 changed, 0 skipped\nversion 2: fd: 1 changed, 0 skipped\nRelabeled /a/s/f from u:r:f_t to u:r:g_t\nversion 3: fc: 1 changed, 0 skipped\nRelabeled /a/s/f from u:r:g_t to u:r:f_t\nversion 4: fc: 0 changed, 1 skipped\n";
+const TEXT: &[u8] = b"version 1: fc: 0 changed, 0 skipped\nversion 2: fd: 1 changed, 0 skipped\n\
+        Relabeled /a/s/f from u:r:f_t to u:r:g_t\nversion 3: fc: 1 changed, 0 skipped\n\
+        Relabeled /a/s/f from u:r:g_t to u:r:f_t\nversion 4: fc: 0 changed, 1 skipped\n";
 
 // `-D`.
 const DIGESTING: Options = Options {

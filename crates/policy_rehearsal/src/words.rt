@@ -106,7 +106,8 @@ fn end_wrong(items: &[Item<'_>], count: u32) -> Option<Usage>
 
 // What words ask for that say this.
 fn asked_in(alloc: Global, items: &[Item<'_>], count: u32) -> Result<RehearseWords, Fault<Usage>>
-    ensures meant { Answers (λ words. words) fault_cause result (rehearse_words_in items.now count) }
+    ensures meant { Answers (λ words. words) fault_cause result
+        (rehearse_words_in items.now count) }
     ensures policies { IfOk result (λ words. words.bases ≡ values_of BASE items.now) }
     ensures operands { IfOk result (λ words.
         words.choice.operands ≡ operand_paths items.now) }

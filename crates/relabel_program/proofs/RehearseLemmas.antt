@@ -15,7 +15,7 @@ use Rattle.policy_rehearsal.specs.Plan.{rehearse_plan}
 use Rattle.policy_rehearsal.specs.Reported.{ReportKeeps, ReportKeepsLabels}
 use Rattle.policy_rehearsal.specs.Words.{rehearse_words}
 use Rattle.policy_rehearsal.specs.declared.words.RehearseWords.{RehearseWords}
-use Rattle.policy_rehearsal.proofs.ToldLemmas.{answer_keeps}
+use Rattle.policy_rehearsal.proofs.ShownLemmas.{answer_keeps}
 use Rattle.relabel_program.specs.Tools.{asked_for, plan_of, rehearse_asked, rehearse_for}
 use Rattle.relabel_program.specs.Tools.{tool_named, words_unless_wrong}
 use Rattle.relabel_program.specs.declared.runs.TheConstants.{FIRST}

@@ -13,8 +13,8 @@ const AUDIT_WORDS: &[&str] = &[
     "/srv/b",
 ];
 
-const TURNED_REPORT: &[u8] =
-    b"Relabeled /srv/b from unconfined_u:object_r:usr_t:s0-s0:c0.c1023 to unconfined_u:object_r:var_t:s0-s0:c0.c1023\n";
+const TURNED_REPORT: &[u8] = b"Relabeled /srv/b from unconfined_u:object_r:usr_t:s0-s0:c0.c1023 to \
+        unconfined_u:object_r:var_t:s0-s0:c0.c1023\n";
 
 const LONGER_DUMP: &[u8] =
     b"# file: /srv/b\nsecurity.selinux=\"unconfined_u:object_r:var_t:s0-s0:c0.c1023\"\n\n\n";

@@ -95,7 +95,8 @@ const FRONTS: &[(u64, &[u8])] = &[
     ),
     (
         10,
-        b"Would relabel /etc/passwd from system_u:object_r:etc_t:s0 to system_u:object_r:passwd_file",
+        b"Would relabel /etc/passwd from system_u:object_r:etc_t:s0 to \
+            system_u:object_r:passwd_file",
     ),
 ];
 
@@ -139,7 +140,8 @@ fn a_failing_write_of_a_fault_line_changes_nothing_else(rt: HostRuntime) -> Resu
 
 /// Base files that are accepted, at the limits of groups and of positions.
 const ACCEPTED: &[&[u8]] = &[
-    b"/((((((((((((((((((((((((((((((((((((((((((((((((((a)))))))))))))))))))))))))))))))))))))))))))))))))) <<none>>",
+    b"/((((((((((((((((((((((((((((((((((((((((((((((((((a))))))))))))))))))))))))))))))))))))))))\
+        )))))))))) <<none>>",
     b"(.{50}){40} <<none>>",
 ];
 

@@ -235,7 +235,8 @@ fn refuse_tool<S: Store, I: Source, O: Sink>(
     input: &mut I,
     out: &mut O,
 ) -> Outcome
-    ensures status { result.status ≡ status_of (is_soft_in (Err (usage 0 UnknownTool))) result.cause }
+    ensures status { result.status
+        ≡ status_of (is_soft_in (Err (usage 0 UnknownTool))) result.cause }
     ensures run { Run (Err (usage 0 UnknownTool))
         (outside S.Store I.Source O.Sink store.old input.old out.old)
         (outside S.Store I.Source O.Sink store.new input.new out.new) result.cause }

@@ -19,8 +19,8 @@ pub(crate) const SPECS: &[u8] =
 pub(crate) const RECORDS: &[u8] =
     b"d 2049 2 system_u:object_r:root_t:s0 /\0f 2049 131 system_u:object_r:etc_t:s0 /etc/passwd\0";
 
-const REPORT: &[u8] =
-    b"Would relabel /etc/passwd from system_u:object_r:etc_t:s0 to system_u:object_r:passwd_file_t:s0\n";
+const REPORT: &[u8] = b"Would relabel /etc/passwd from system_u:object_r:etc_t:s0 to \
+        system_u:object_r:passwd_file_t:s0\n";
 
 /// The calls that fail: 0 for none.
 #[derive(Clone, Copy, Debug)]
@@ -323,7 +323,8 @@ const ROW_WORDS: &[&str] = &["restorecon", "-v", "-S", "fc", "-o", "out", "/srv/
 pub(crate) const ROW_RECORDS: &[u8] = b"f 1 21 unconfined_u:object_r:tmp_t:s0-s0:c0.c1023 /srv/b\0";
 
 pub(crate) const ROW_REPORT: &[u8] =
-    b"Relabeled /srv/b from unconfined_u:object_r:tmp_t:s0-s0:c0.c1023 to unconfined_u:object_r:var_t:s0-s0:c0.c1023\n";
+    b"Relabeled /srv/b from unconfined_u:object_r:tmp_t:s0-s0:c0.c1023 to \
+        unconfined_u:object_r:var_t:s0-s0:c0.c1023\n";
 
 pub(crate) const ROW_DUMP: &[u8] =
     b"# file: /srv/b\nsecurity.selinux=\"unconfined_u:object_r:var_t:s0-s0:c0.c1023\"\n\n";
@@ -464,11 +465,14 @@ fn a_sample_is_walked_twice(rt: HostRuntime) -> Result<(), Fail> {
     for (count, lines) in [
         (
             "0",
-            b"entries 1\nrelabelled 0\nconflicts 0\nerrors 0\nskipped again 1\nrelabelled again 0\n".as_slice(),
+            b"entries 1\nrelabelled 0\nconflicts 0\nerrors 0\nskipped again 1\n\
+                relabelled again 0\n"
+                .as_slice(),
         ),
         (
             "7",
-            b"entries 15\nrelabelled 2\nconflicts 3\nerrors 0\nskipped again 1\nrelabelled again 0\n",
+            b"entries 15\nrelabelled 2\nconflicts 3\nerrors 0\nskipped again 1\n\
+                relabelled again 0\n",
         ),
         (
             "1000",
@@ -497,8 +501,10 @@ fn a_lookup_compares_with_the_records(rt: HostRuntime) -> Result<(), Fail> {
     let records =
         b"f 1 60 unconfined_u:object_r:var_t:s0 /srv/a\0f 1 61 system_u:object_r:tmp_t:s0 /srv/b\0";
     let ran = run(rt.alloc(), words, files, records, &NONE_FAILS)?;
-    let lines =
-        b"/srv/a verified.\n/srv/b has context system_u:object_r:tmp_t:s0, should be system_u:object_r:var_t:s0\n/srv/c has no record\n".as_slice();
+    let lines = b"/srv/a verified.\n\
+            /srv/b has context system_u:object_r:tmp_t:s0, should be system_u:object_r:var_t:s0\n\
+            /srv/c has no record\n"
+        .as_slice();
     assert!(rt; ran.ended(1, lines));
     assert!(rt; matches!(&ran.outcome.cause, Cause::Differs { count: 2 }));
     Ok(())

@@ -369,8 +369,9 @@ fn of_many_names(alloc: Global, workers: &str) -> Result<Ran, OutOfMemory> {
 
 #[test]
 fn the_first_of_many_names_is_told(rt: HostRuntime) -> Result<(), Fail> {
-    let line =
-        b"Would relabel /n/0000 from system_u:object_r:old_t:s0 to system_u:object_r:n_t:s0\n".as_slice();
+    let line = b"Would relabel /n/0000 from system_u:object_r:old_t:s0 to \
+            system_u:object_r:n_t:s0\n"
+        .as_slice();
     for workers in ["1", "4"] {
         assert!(rt;
             of_many_names(rt.alloc(), workers)?.ended(0, line),

@@ -182,7 +182,9 @@ fn is_report(alloc: Global, path: &PathRef<'_>, wanted: &[u8]) -> Result<bool, O
 fn lines_of_paths_alone(rt: HostRuntime) -> Result<(), Fail> {
     let path = NormPath::root(rt.alloc());
     let wanted =
-        b"Warning no default label for /\nSkipping restorecon on directory(/)\nno record for /\n/ verified.\n/ has no record\n".as_slice();
+        b"Warning no default label for /\nSkipping restorecon on directory(/)\nno record for /\n\
+            / verified.\n/ has no record\n"
+            .as_slice();
     assert!(rt; is_report(rt.alloc(), &path.path(), wanted)?);
     Ok(())
 }

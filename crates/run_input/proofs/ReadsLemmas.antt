@@ -18,9 +18,9 @@ all_some (Some x) each = each x
 -- an explained cause goes through what follows
 pub explained_next : {A B : Type 0} (meant : Result A Cause) (next : A → Result B Cause)
     (cause : Cause) → Explained meant cause → Explained (and_then meant next) cause
-explained_next meant next ReadFault told = tt
-explained_next meant next OutOfMemory told = tt
-explained_next meant next cause told = ap (λ r. and_then r next) told
+explained_next meant next ReadFault shown = tt
+explained_next meant next OutOfMemory shown = tt
+explained_next meant next cause shown = ap (λ r. and_then r next) shown
 
 -- ---- calls, one after the other
 
@@ -155,12 +155,12 @@ module _ {S : Type 0} (files : S → Option Files) (calls : S → Option ℕ)
   -- a part that is refused
   pub refused : {A B : Type 0} (meant : Files → FilesSay A) (next : Files → A → FilesSay B)
       (store now : S) (cause : Cause) (result : Result B Cause)
-      → IsErrAnd result (λ told. told ≡ cause)
+      → IsErrAnd result (λ shown. shown ≡ cause)
       → Reads files calls read_faults write_faults meant store now (Err cause)
       → Reads files calls read_faults write_faults (λ fs. read_on (meant fs) (next fs)) store
       now result
   refused meant next store now cause (Ok value) is read = absurd is
-  refused meant next store now cause (Err told) is read =
+  refused meant next store now cause (Err shown) is read =
       let meant_too : Reads files calls read_faults write_faults
       (λ fs. read_on (meant fs) (next fs)) store now (Err cause) = record {
         same = read.same;
@@ -186,14 +186,15 @@ module _ {S : Type 0} (files : S → Option Files) (calls : S → Option ℕ)
     same = second.same ∙ first.same;
     unwritten = second.unwritten ∙ first.unwritten;
     gives = both_some (files store) (λ fs. gives_followed (meant fs) (next fs) a result) first.gives
-        (subst (λ told. IfSome told (λ fs. Gives (next fs a).says result)) first.same second.gives);
+        (subst (λ shown. IfSome shown (λ fs. Gives (next fs a).says result)) first.same
+        second.gives);
     opens = three_some (files store)
         (λ fs is one two. subst (λ (n : ℕ). OpensFile (calls store) (calls now) n result)
         (opened_followed (meant fs) (next fs) a is)
         (opens_on (calls store) (calls mid) (calls now) (meant fs).opened (next fs a).opened result
         one two))
         first.gives first.opens
-        (subst (λ told. IfSome told
+        (subst (λ shown. IfSome shown
         (λ fs. OpensFile (calls mid) (calls now) (next fs a).opened result)) first.same
         second.opens);
     counts = subst (λ n. Counts n (read_faults now) result) first.counts second.counts;
@@ -229,12 +230,12 @@ module _ {S : Type 0} (files : S → Option Files) (calls : S → Option ℕ)
   -- no memory for what is made of a part
   pub forgotten : {A B : Type 0} (meant : Files → FilesSay A) (next : Files → A → Result B Cause)
       (store now : S) (a : A) (result : Result B Cause)
-      → IsErrAnd result (λ told. told ≡ OutOfMemory)
+      → IsErrAnd result (λ shown. shown ≡ OutOfMemory)
       → Reads files calls read_faults write_faults meant store now (Ok a)
       → Reads files calls read_faults write_faults
       (λ fs. read_on (meant fs) (λ value. just (next fs value))) store now result
   forgotten meant next store now a (Ok value) is first = absurd is
-  forgotten meant next store now a (Err told) is first =
+  forgotten meant next store now a (Err shown) is first =
       subst (λ (k : Cause). Reads files calls read_faults write_faults
       (λ fs. read_on (meant fs) (λ value. just (next fs value))) store now (Err k)) (sym is)
       (ended meant next store now a (Err OutOfMemory) first (λ fs. tt) (λ count. refl) tt)

@@ -83,7 +83,7 @@ digit_ended : (b : ℕ) → is_digit b ≡ true → is_ended b ≡ true
 digit_ended b h = grind (arith, nat_tests)
 
 module _ (letter : ℕ) (kind : EntryKind) (inode : ℕ) (ds front rest : List ℕ) (path : Path)
-    (told : kind_of (letter ∷ []) ≡ Some kind) (other : letter ≡ 32 → ⊥) (number : Writes inode ds)
+    (shown : kind_of (letter ∷ []) ≡ Some kind) (other : letter ≡ 32 → ⊥) (number : Writes inode ds)
     (f : IsFront front) (read : path_read (47 ∷ 100 ∷ rest) ≡ Ok path) where
   spelled : SpellsRecord One (letter ∷ 32 ∷ 49 ∷ 32 ∷ (ds ++ (front ++ rest)))
       (record_of kind inode (label_in front) path)
@@ -104,8 +104,8 @@ module _ (letter : ℕ) (kind : EntryKind) (inode : ℕ) (ds front rest : List �
       links = tt;
       label = lacks_by is_plain 32 (label_in front) refl f.plain;
     };
-    told = record {
-      kind = told;
+    record_is = record {
+      kind = shown;
       device = refl;
       inode = number.number;
       links = refl;
@@ -224,7 +224,7 @@ root_line = record {
       links = tt;
       label = lacks_by is_plain 32 (take 27 (drop 6 ROOT.now)) refl refl;
     };
-    told = record {
+    record_is = record {
       kind = refl;
       device = refl;
       inode = refl;

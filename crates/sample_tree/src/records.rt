@@ -7,8 +7,9 @@ use label_base::{Bytes, OutOfMemory};
 use std::alloc::Global;
 
 /// The file of specifications of a sample, as file_contexts(5) has it.
-pub const SPECS: &str =
-    "/ -d system_u:object_r:root_t:s0\n/d[0-9]+ -d system_u:object_r:dir_t:s0\n/d[0-9]+/f[0-9]+ -- system_u:object_r:a_t:s0\n/d[0-9]*[13579]/.* -- system_u:object_r:b_t:s0\n";
+pub const SPECS: &str = "/ -d system_u:object_r:root_t:s0\n/d[0-9]+ -d system_u:object_r:dir_t:s0\n\
+        /d[0-9]+/f[0-9]+ -- system_u:object_r:a_t:s0\n\
+        /d[0-9]*[13579]/.* -- system_u:object_r:b_t:s0\n";
 
 // The greatest number of directories below the root.
 const MOST_DIRECTORIES: u32 = 100;

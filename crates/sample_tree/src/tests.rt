@@ -18,8 +18,12 @@ fn a_root_alone(rt: HostRuntime) -> Result<(), Fail> {
 
 #[test]
 fn five_files(rt: HostRuntime) -> Result<(), Fail> {
-    let wanted =
-        "d 1 1 system_u:object_r:root_t:s0 /\0d 1 2 system_u:object_r:dir_t:s0 /d0\0d 1 3 system_u:object_r:dir_t:s0 /d1\0d 1 4 system_u:object_r:dir_t:s0 /d2\0d 1 5 system_u:object_r:dir_t:s0 /d3\0d 1 6 system_u:object_r:dir_t:s0 /d4\0f 1 1000 system_u:object_r:a_t:s0 /d0/f0\0f 1 1000 system_u:object_r:a_t:s0 /d1/f1\0f 1 1001 system_u:object_r:b_t:s0 /d2/f2\0f 1 1001 system_u:object_r:b_t:s0 /d3/f3\0f 1 1002 ? /d4/f4\0";
+    let wanted = "d 1 1 system_u:object_r:root_t:s0 /\0d 1 2 system_u:object_r:dir_t:s0 /d0\0\
+            d 1 3 system_u:object_r:dir_t:s0 /d1\0d 1 4 system_u:object_r:dir_t:s0 /d2\0\
+            d 1 5 system_u:object_r:dir_t:s0 /d3\0d 1 6 system_u:object_r:dir_t:s0 /d4\0\
+            f 1 1000 system_u:object_r:a_t:s0 /d0/f0\0f 1 1000 system_u:object_r:a_t:s0 /d1/f1\0\
+            f 1 1001 system_u:object_r:b_t:s0 /d2/f2\0f 1 1001 system_u:object_r:b_t:s0 /d3/f3\0\
+            f 1 1002 ? /d4/f4\0";
     assert!(rt; has(rt.alloc(), 5, wanted)?);
     Ok(())
 }

@@ -111,11 +111,11 @@ ended number old new all meant h e s = sym h ∙ ap (left_read number old) e
 -- the first refused line, or want of memory
 pub refused_or_none : (number : ℕ) (old : SoFar) (line : List ℕ) (all lines : List (List ℕ))
     (meant : Result (List Section) (RefusedLine DumpWhy)) (cause : Option DumpWhy)
-    (told : Option (RefusedLine DumpWhy))
-    → told ≡ option_map (λ why. record { number = number; why = why }) cause
+    (shown : Option (RefusedLine DumpWhy))
+    → shown ≡ option_map (λ why. record { number = number; why = why }) cause
     → left_read number old all ≡ meant → all ≡ line ∷ lines
-    → Explains cause (line_read (is_some old.name) line) → Explains told meant
-refused_or_none number old line all lines meant None told t h e bad =
+    → Explains cause (line_read (is_some old.name) line) → Explains shown meant
+refused_or_none number old line all lines meant None shown t h e bad =
     subst (λ o. Explains o meant) (sym t) tt
-refused_or_none number old line all lines meant (Some why) told t h e bad =
+refused_or_none number old line all lines meant (Some why) shown t h e bad =
     subst (λ o. Explains o meant) (sym t) (refused number old line all lines meant why h e bad)

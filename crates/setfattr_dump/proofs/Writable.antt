@@ -34,20 +34,20 @@ record IsRead (bytes : List ℕ) (name : Path) : Type 0 where
   pub no_dots : list_any is_dot_part (path_names bytes) ≡ false
   pub names : path_names bytes ≡ name
 
-told : (a b c d e : Bool) (n p : Path)
+shown : (a b c d e : Bool) (n p : Path)
     → (if a then Err Empty else if b then Err PathTooLong else if c then Err HasNul else if not
     d then Err NotAbsolute else if e then Err DotPart else Ok n) ≡ Ok p → (a ≡ false) × (b ≡ false)
     × (d ≡ true) × (e ≡ false) × (n ≡ p)
-told true b c d e n p h = cc
-told false true c d e n p h = cc
-told false false true d e n p h = cc
-told false false false false e n p h = cc
-told false false false true true n p h = cc
-told false false false true false n p h = (refl, refl, refl, refl, cc)
+shown true b c d e n p h = cc
+shown false true c d e n p h = cc
+shown false false true d e n p h = cc
+shown false false false false e n p h = cc
+shown false false false true true n p h = cc
+shown false false false true false n p h = (refl, refl, refl, refl, cc)
 
 read_so : (bytes : List ℕ) (name : Path) → path_read bytes ≡ Ok name → IsRead bytes name
 read_so bytes name h =
-    let t = told (length bytes == 0) (nat_lt 4095 (length bytes)) (list_any (λ b. b == 0) bytes)
+    let t = shown (length bytes == 0) (nat_lt 4095 (length bytes)) (list_any (λ b. b == 0) bytes)
     (slice_index bytes 0 == 47) (list_any is_dot_part (path_names bytes)) (path_names bytes)
     name h in
     record { some = t.0; short = t.1; absolute = t.2; no_dots = t.3; names = t.4 }

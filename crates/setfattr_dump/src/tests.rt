@@ -31,7 +31,9 @@ fn a_label_is_a_text(rt: HostRuntime) -> Result<(), Fail> {
     let text = section(rt.alloc(), &name, LABEL_KEY, label)?;
     assert_eq!(rt;
         text.as_slice(),
-        b"# file: /srv/b\nsecurity.selinux=\"unconfined_u:object_r:var_t:s0-s0:c0.c1023\"\n\n".as_slice()
+        b"# file: /srv/b\n\
+            security.selinux=\"unconfined_u:object_r:var_t:s0-s0:c0.c1023\"\n\n"
+            .as_slice()
     );
     Ok(())
 }
@@ -53,7 +55,9 @@ fn a_name_makes_no_line(rt: HostRuntime) -> Result<(), Fail> {
     let text = section(rt.alloc(), &name, LABEL_KEY, b"a\"b\\c\n\x7f\xff")?;
     assert_eq!(rt;
         text.as_slice(),
-        b"# file: /srv/c\\012d\\134e\nsecurity.selinux=\"a\\042b\\134c\\012\\177\xff\"\n\n".as_slice()
+        b"# file: /srv/c\\012d\\134e\n\
+            security.selinux=\"a\\042b\\134c\\012\\177\xff\"\n\n"
+            .as_slice()
     );
     Ok(())
 }

@@ -36,10 +36,10 @@ record Current (K : Kinds) (stored : Option K.Digest) (listing : K.Listing) : Ty
   nonzero : K.same_digest digest K.zero_digest ≡ false
   same : digest ≡ K.digest_of listing
 
-current_tells : (K : Kinds) → AreExact K → (stored : Option K.Digest) (listing : K.Listing)
+current_shows : (K : Kinds) → AreExact K → (stored : Option K.Digest) (listing : K.Listing)
     → is_current_in K stored listing ≡ true → Current K stored listing
-current_tells K exact None listing h = cc
-current_tells K exact (Some digest) listing h =
+current_shows K exact None listing h = cc
+current_shows K exact (Some digest) listing h =
     let both = and_parts (not (K.same_digest digest K.zero_digest))
     (K.same_digest digest (K.digest_of listing)) h in
     record {
@@ -57,9 +57,9 @@ record Skippable {K : Kinds} (t : WalkedTree) (r : Relabelling K) (s : State K) 
     whole_in : whole t r d ≡ true
     current : is_current_in K (s.digests d) (r.listing d) ≡ true
 
-skippable_tells : {K : Kinds} (t : WalkedTree) (r : Relabelling K) (s : State K) (d : ℕ)
+skippable_shows : {K : Kinds} (t : WalkedTree) (r : Relabelling K) (s : State K) (d : ℕ)
     → skippable_in t r s d ≡ true → Skippable t r s d
-skippable_tells {K} t r s d h =
+skippable_shows {K} t r s d h =
     let a = and_parts (t.is_directory d && (r.skips && not r.renews) && whole t r d)
     (is_current_in K (s.digests d) (r.listing d)) h in
     let b = and_parts (t.is_directory d && (r.skips && not r.renews)) (whole t r d) a.0 in
@@ -106,7 +106,7 @@ settled_from : {K : Kinds} (t : WalkedTree) (Among Past : Relabelling K → Type
     (r : Relabelling K) (s : State K) (d : ℕ) → Ready t Among Past r s → d < t.count
     → Skippable t r s d → Settled t r s.labels d
 settled_from {K} t Among Past r s d ready l k =
-    let now = current_tells K ready.exact (s.digests d) (r.listing d) k.current in
+    let now = current_shows K ready.exact (s.digests d) (r.listing d) k.current in
     let then = ready.kept_is d now.digest l now.stored_is now.nonzero in
     let among = ready.past_among then.run then.past in
     let one = ready.runs.no_clash then.run r among ready.among d d
@@ -142,7 +142,7 @@ passed_from : {K : Kinds} (t : WalkedTree) (Among Past : Relabelling K → Type 
     → e < t.count → d < t.count → skippable_in t r s d ≡ true → t.in_extent d e ≡ true
     → Passed t r s (t.group_of e)
 passed_from t Among Past r s e d ready le ld sk i =
-    let k = skippable_tells t r s d sk in
+    let k = skippable_shows t r s d sk in
     let holds = holds_in t Among Past r s d ready ld k.directory k.whole_in in
     let settled = settled_from t Among Past r s d ready ld k in
     let inside : (x : ℕ) → x < t.count → t.group_of x ≡ t.group_of e → t.in_extent d x ≡ true =

@@ -50,8 +50,8 @@ ClosedHold {K} t Among =
     → r.closed d ≡ true → HoldsGroups t d
 
 -- runs with equal listings of a directory agree on it
-abbrev pub ListingsTell : {K : Kinds} → WalkedTree → (Relabelling K → Type 0) → Type 0
-ListingsTell {K} t Among =
+abbrev pub ListingsDecide : {K : Kinds} → WalkedTree → (Relabelling K → Type 0) → Type 0
+ListingsDecide {K} t Among =
     (a b : Relabelling K) → Among a → Among b → (d : ℕ) → d < t.count → t.is_directory d ≡ true
     → a.listing d ≡ b.listing d → Agree t a b d
 
@@ -66,7 +66,7 @@ pub record AreRelabellings {K : Kinds} (t : WalkedTree) (Among : Relabelling K �
   where
     pub settle : EachSettles Among
     pub closed : ClosedHold t Among
-    pub agree : ListingsTell t Among
+    pub agree : ListingsDecide t Among
     pub no_clash : NoClash t Among
 
 -- no directory has a digest

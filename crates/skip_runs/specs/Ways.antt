@@ -6,19 +6,19 @@ use Rattle.label_base.specs.Bounded.{all_below, implies}
 use Rattle.skip_runs.specs.Relabel.{Kinds, WalkedTree, Relabelling, State, whole, digests_used}
 use Rattle.skip_runs.specs.Relabel.{is_current_in, zeroed, walked_in, new_label_in, above_change}
 use Rattle.skip_runs.specs.Relabel.{after_all, after_all_off, skippable_in, after}
-use Rattle.skip_runs.specs.Skipping.{AreRelabellings, ClosedHold, EachSettles, ListingsTell}
+use Rattle.skip_runs.specs.Skipping.{AreRelabellings, ClosedHold, EachSettles, ListingsDecide}
 use Rattle.skip_runs.specs.Skipping.{NoClash, HasRelabelling, IsBare}
 
 -- A way of skipping: which directories count as whole, which stored digests as current, what
 -- becomes of a stored digest that isn't renewed, and whether a run renews.
-pub record Way (K : Kinds) : Type 0 where
+pub record SkippingWay (K : Kinds) : Type 0 where
   pub counts_as_whole : WalkedTree → Relabelling K → ℕ → Bool
   pub counts_as_current : Option K.Digest → K.Listing → Bool
   pub left_over : Option K.Digest → Bool → Option K.Digest
   pub renews_in : Relabelling K → Bool
 
 -- the way of this crate
-abbrev pub right_way : (K : Kinds) → Way K
+abbrev pub right_way : (K : Kinds) → SkippingWay K
 right_way K =
     record {
       counts_as_whole = whole;
@@ -27,12 +27,13 @@ right_way K =
       renews_in = λ r. not r.dry && digests_used r;
     }
 
-abbrev pub skip_by : {K : Kinds} → Way K → WalkedTree → Relabelling K → State K → ℕ → Bool
+abbrev pub skip_by : {K : Kinds} → SkippingWay K → WalkedTree → Relabelling K → State K → ℕ → Bool
 skip_by way t r s d =
     t.is_directory d && (r.skips && not r.renews) && way.counts_as_whole t r d
     && way.counts_as_current (s.digests d) (r.listing d)
 
-abbrev pub new_digest_by : {K : Kinds} → Way K → WalkedTree → Relabelling K → (ℕ → Bool) → State K
+abbrev pub new_digest_by : {K : Kinds} → SkippingWay K → WalkedTree → Relabelling K → (ℕ → Bool)
+    → State K
     → ℕ
     → Option K.Digest
 new_digest_by {K} way t r walk s d =
@@ -41,7 +42,8 @@ new_digest_by {K} way t r walk s d =
     else way.left_over (s.digests d) (not r.dry && above_change t r walk s.labels d)
 
 -- what is left after a run, and after all of the runs, in this way
-abbrev pub leaves_by : {K : Kinds} → Way K → WalkedTree → Relabelling K → (ℕ → Bool) → State K
+abbrev pub leaves_by : {K : Kinds} → SkippingWay K → WalkedTree → Relabelling K → (ℕ → Bool)
+    → State K
     → State K
 leaves_by way t r walk s =
     record {
@@ -49,7 +51,7 @@ leaves_by way t r walk s =
       digests = new_digest_by way t r walk s;
     }
 
-abbrev pub after_all_by : {K : Kinds} → Way K → WalkedTree → State K → List (Relabelling K)
+abbrev pub after_all_by : {K : Kinds} → SkippingWay K → WalkedTree → State K → List (Relabelling K)
     → State K
 after_all_by way t s [] = s
 after_all_by way t s (r ∷ runs) =
@@ -78,7 +80,7 @@ numbers = numbers_by itself
 
 -- There are runs from a state without digests that meet all that is asked of runs, and some group
 -- has another label after them, in this way, than after the same runs with skipping off.
-pub record Breaks (way : Way numbers) : Type 0 where
+pub record Breaks (way : SkippingWay numbers) : Type 0 where
   pub t : WalkedTree
   pub runs : List (Relabelling numbers)
   pub s : State numbers
@@ -88,18 +90,18 @@ pub record Breaks (way : Way numbers) : Type 0 where
   pub other : (after_all_by way t s runs).labels group ≢ (after_all_off t s runs).labels group
 
 -- as the right way, but a group may have a name outside
-abbrev pub names_outside : Way numbers
+abbrev pub names_outside : SkippingWay numbers
 names_outside =
     record (right_way numbers) {
       counts_as_whole = λ t r d. all_below t.count (λ e. implies (t.in_extent d e) (r.live e));
     }
 
 -- as the right way, but the extent may have entries that aren't live
-abbrev pub with_exclusions : Way numbers
+abbrev pub with_exclusions : SkippingWay numbers
 with_exclusions = record (right_way numbers) { counts_as_whole = λ t r d. r.closed d }
 
 -- as the right way, but digests stay above a changed label
-abbrev pub left_standing : Way numbers
+abbrev pub left_standing : SkippingWay numbers
 left_standing = record (right_way numbers) { left_over = λ stored void. stored }
 
 abbrev pub equal_digest : Option ℕ → ℕ → Bool
@@ -107,11 +109,11 @@ equal_digest None listing = false
 equal_digest (Some stored) listing = stored == listing
 
 -- as the right way, but the zero digest counts
-abbrev pub zero_counts : Way numbers
+abbrev pub zero_counts : SkippingWay numbers
 zero_counts = record (right_way numbers) { counts_as_current = equal_digest }
 
 -- as the right way, but a dry run stores digests
-abbrev pub dry_renews : Way numbers
+abbrev pub dry_renews : SkippingWay numbers
 dry_renews = record (right_way numbers) { renews_in = digests_used }
 
 -- runs that meet all that is asked, of which the second skips a directory
@@ -144,13 +146,13 @@ one_digest listing = 1
 abbrev pub DifferByClash : Type 0
 DifferByClash =
     Differ (numbers_by one_digest)
-    (λ t Among s. EachSettles Among × ClosedHold t Among × ListingsTell t Among × IsBare s)
+    (λ t Among s. EachSettles Among × ClosedHold t Among × ListingsDecide t Among × IsBare s)
 
 -- all but that a directory which is taken as closed holds its groups
 abbrev pub DifferByClosed : Type 0
 DifferByClosed =
     Differ numbers
-    (λ t Among s. EachSettles Among × ListingsTell t Among × NoClash t Among × IsBare s)
+    (λ t Among s. EachSettles Among × ListingsDecide t Among × NoClash t Among × IsBare s)
 
 -- all but that equal listings tell the same
 abbrev pub DifferByListings : Type 0
@@ -162,10 +164,10 @@ DifferByListings =
 abbrev pub DifferByUnsettled : Type 0
 DifferByUnsettled =
     Differ numbers
-    (λ t Among s. ClosedHold t Among × ListingsTell t Among × NoClash t Among × IsBare s)
+    (λ t Among s. ClosedHold t Among × ListingsDecide t Among × NoClash t Among × IsBare s)
 
 -- all but that there are no digests to begin with
 abbrev pub DifferByOldDigests : Type 0
 DifferByOldDigests =
     Differ numbers
-    (λ t Among s. EachSettles Among × ClosedHold t Among × ListingsTell t Among × NoClash t Among)
+    (λ t Among s. EachSettles Among × ClosedHold t Among × ListingsDecide t Among × NoClash t Among)

@@ -18,18 +18,18 @@ from_case n i true rest c =
     elim (at_case n i rest c.0 c.1 c.2) [ inl e ↦ inl (refl, e) | inr t ↦ inr t ]
 from_case n i false rest c = inr c
 
-told : (stems : List (List ℕ)) (name : List ℕ) (n i : ℕ) → Contains (candidates_below stems n name)
+shown : (stems : List (List ℕ)) (name : List ℕ) (n i : ℕ) → Contains (candidates_below stems n name)
     i
     → (i < n) × (stem_fits name (stem_at stems i) ≡ true)
-told stems name zero i c = absurd (let l = c.1 in omega (arith, l))
-told stems name (suc n) i c =
+shown stems name zero i c = absurd (let l = c.1 in omega (arith, l))
+shown stems name (suc n) i c =
     elim (from_case n i (stem_fits name (stem_at stems n)) (candidates_below stems n name) c) [
       | inl e ↦ (
         let s = e.1 in
             omega (arith, s),
         subst (λ k. stem_fits name (stem_at stems k) ≡ true) (sym e.1) e.0,
       )
-      | inr t ↦ let r = told stems name n i t in (let l = r.0 in omega (arith, l), r.1)
+      | inr t ↦ let r = shown stems name n i t in (let l = r.0 in omega (arith, l), r.1)
     ]
 
 here : (n : ℕ) (b : Bool) (rest : List ℕ) → b ≡ true → Contains (cond b (n ∷ rest) rest) n
@@ -75,12 +75,12 @@ falls stems name zero i j d l m = absurd (omega arith)
 falls stems name (suc n) i j d l m =
     falls_case n (stem_fits name (stem_at stems n)) (candidates_below stems n name)
     (falls stems name n)
-    (λ k e below. (told stems name n (get_or (candidates_below stems n name) k e)
+    (λ k e below. (shown stems name n (get_or (candidates_below stems n name) k e)
     (Contains-get_or (candidates_below stems n name) k e below)).0) i j d l m
 
 pub candidates_are : (stems : List (List ℕ)) (name : List ℕ)
     → AreCandidates stems name (candidates_below stems (length stems) name)
 candidates_are stems name = record {
-  each = λ i. (told stems name (length stems) i, λ h. listed stems name (length stems) i h.0 h.1);
+  each = λ i. (shown stems name (length stems) i, λ h. listed stems name (length stems) i h.0 h.1);
   falling = falls stems name (length stems);
 }

@@ -53,7 +53,8 @@ fn heads_below(
 ) -> (Option<u32>, Option<u32>)
     requires { greatest < length index.now }
     ensures { (name : List ℕ) (bound : ℕ) → AreStemHeads index.now name bound free own
-        → greater free own ≡ Some greatest → AreStemHeads index.now name greatest result.0 result.1 }
+        → greater free own ≡ Some greatest
+        → AreStemHeads index.now name greatest result.0 result.1 }
 {
     let earlier = index.before(greatest);
     if index.has_none(greatest) {

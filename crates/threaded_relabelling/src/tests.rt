@@ -21,13 +21,16 @@ const SPECS: &[u8] = b"/srv(/.*)? u:r:var_t:s0\n";
 const SUBS: &[u8] = b"/data /srv\n";
 
 const RECORDS: &[u8] =
-    b"d 1 30 u:r:var_t:s0 /srv\0d 1 33 u:r:var_t:s0 /srv/other\0d 1 31 u:r:var_t:s0 /srv/sub\0f 1 32 u:r:old_t:s0 /srv/sub/f\0";
+    b"d 1 30 u:r:var_t:s0 /srv\0d 1 33 u:r:var_t:s0 /srv/other\0d 1 31 u:r:var_t:s0 /srv/sub\0\
+        f 1 32 u:r:old_t:s0 /srv/sub/f\0";
 
 const REPORT: &[u8] = b"Relabeled /srv/sub/f from u:r:old_t:s0 to u:r:var_t:s0\n";
 
 // The digests were made by another program, from the format of listings.
-const DUMP: &[u8] =
-    b"# file: /srv\nsecurity.sehash=0x2f409ad7b5704325f609fc499a6af2db7062c720\n\n# file: /srv/other\nsecurity.sehash=0xa0084f1d891eb1355975ea05799e8507dcde9544\n\n# file: /srv/sub\nsecurity.sehash=0x8c9c9fd4b3aa017aaa3acb63fc8b547cd50f05c1\n\n# file: /srv/sub/f\nsecurity.selinux=\"u:r:var_t:s0\"\n\n";
+const DUMP: &[u8] = b"# file: /srv\nsecurity.sehash=0x2f409ad7b5704325f609fc499a6af2db7062c720\n\n\
+        # file: /srv/other\nsecurity.sehash=0xa0084f1d891eb1355975ea05799e8507dcde9544\n\n\
+        # file: /srv/sub\nsecurity.sehash=0x8c9c9fd4b3aa017aaa3acb63fc8b547cd50f05c1\n\n\
+        # file: /srv/sub/f\nsecurity.selinux=\"u:r:var_t:s0\"\n\n";
 
 fn words_of(alloc: Global) -> Result<Vec<String>, OutOfMemory>
     ensures { IfOk result (λ made. length made.items < 2 ^ 30) }

@@ -45,12 +45,12 @@ FilesRead {S} read store store_now result =
     (λ (s : StoreSeen S). s.read_faults) (λ (s : StoreSeen S). s.write_faults) read store store_now
     result
 
-pub reads_seen : {S V : Type 0} (tells : stores.Ghosts S) (read : Files → FilesSay V)
+pub reads_seen : {S V : Type 0} (shows : stores.Ghosts S) (read : Files → FilesSay V)
     (store store_now : S)
     (result : Result V Cause)
-    → Reads tells.files tells.calls tells.read_faults tells.write_faults read store store_now result
-    → FilesRead read (store_seen tells store) (store_seen tells store_now) result
-reads_seen tells read store store_now result ran = record {
+    → Reads shows.files shows.calls shows.read_faults shows.write_faults read store store_now result
+    → FilesRead read (store_seen shows store) (store_seen shows store_now) result
+reads_seen shows read store store_now result ran = record {
   same = ran.same;
   unwritten = ran.unwritten;
   gives = ran.gives;

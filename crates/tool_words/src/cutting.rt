@@ -96,7 +96,8 @@ fn add_letters<'a>(
     letters: &'a str,
     items: &mut Row<Item<'a>>,
 ) -> Result<Expects, OutOfMemory>
-    ensures expects { IfOk result (λ expects. expects ≡ (letters_say tool.now index letters.now).1) }
+    ensures expects { IfOk result (λ expects.
+        expects ≡ (letters_say tool.now index letters.now).1) }
     ensures items { OnOk result
         (items.new ≡ items.old ++ (letters_say tool.now index letters.now).0) }
 {

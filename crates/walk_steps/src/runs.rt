@@ -40,7 +40,8 @@ pub fn run(
 ) -> Result<WalkState, StepsFault>
     requires valid { IsValid shape.now }
     requires count { length steps.now < 2 ^ 32 }
-    ensures end { Answers (λ state. state) index_of result (steps_from shape.now workers steps.now) }
+    ensures end { Answers (λ state. state) index_of result
+        (steps_from shape.now workers steps.now) }
     ensures sound { IfOk result (λ state. Sound shape.now state) }
     ensures least { IfOk result
         (λ state. WordsAreLeast shape.now (claimed_by steps.now) state.words) }

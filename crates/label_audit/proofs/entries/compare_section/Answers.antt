@@ -5,7 +5,7 @@ use Rattle.file_paths.specs.PathRef.{path_of}
 use Rattle.run_faults.specs.declared.finding.Piece.TheVariants.{Entry}
 use Rattle.relabel_core.specs.Changes.{change_at, optional_section}
 use Rattle.relabel_core.specs.Walked.{walk_of}
-use Rattle.relabel_core.proofs.ChangeLemmas.{section_told}
+use Rattle.relabel_core.proofs.ChangeLemmas.{section_shown}
 use Rattle.label_audit.specs.Compared.{behind_of}
 use Rattle.label_audit.specs.Pieces.{piece_placed}
 use Rattle.label_audit.proofs.entries.compare_section.Goals as goal
@@ -20,6 +20,6 @@ returns-clause-dump c =
     c.compare_dump.ensures rest
     ∙ ap (λ t. behind_of c.args.audit.now.dump (piece_placed (Entry e) t ∷ rest))
     (c.as_slice.ensures ∙ c.in_ok-make_section.ensures ∙ ap optional_section
-    (section_told (walk_of c.args.input.now) e path change digest c.entry_path-path.ensures
+    (section_shown (walk_of c.args.input.now) e path change digest c.entry_path-path.ensures
     (c.change-change.ensures ∙ ap₂ (λ w k. change_at w k) c.requires.walk c.requires.index)
     c.in_ok-digest.ensures.found))

@@ -11,7 +11,7 @@ paths-preserved g c =
     let message = verified_message by.rules.now by.tree.now by.kind in
     let one : message_of c.in_ok-message.message ≡ message c.path-item.result =
     c.in_ok-message.ensures.message ∙ ap message c.path.ensures in
-    let told : c.is_unverified.result ≡ is_unverified (message c.path-item.result) =
+    let shown : c.is_unverified.result ≡ is_unverified (message c.path-item.result) =
     c.is_unverified.ensures ∙ ap is_unverified one in
     record {
       own = c.in_ok-message.ensures.own;
@@ -23,7 +23,7 @@ paths-preserved g c =
       count = next_count message c.args.paths.now c.paths.path-index c.path-item.result
           c.paths.unverified c.from-unverified.result _ c.is_unverified.result
           c.paths-test.true c.path-item.is c.paths.invariant.count
-          told
+          shown
           c.from-unverified.ensures;
       few = omega (
         arith,

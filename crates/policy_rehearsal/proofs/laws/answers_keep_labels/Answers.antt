@@ -1,5 +1,5 @@
 use Rattle.std.proofs.Common.{◌≡◌, refl}
-use Rattle.policy_rehearsal.proofs.ToldLemmas.{answer_keeps}
+use Rattle.policy_rehearsal.proofs.ShownLemmas.{answer_keeps}
 use Rattle.policy_rehearsal.proofs.laws.answers_keep_labels.Goals as goal
 
 pub returns : goal.returns

@@ -1,7 +1,7 @@
 use Rattle.std.proofs.Common.{◌≡◌, ◌∙◌, ap, refl, take, arith}
 use Rattle.std.proofs.lemmas.List.{take_all}
 use Rattle.policy_rehearsal.specs.Rehearsal.{rehearsed_by, rehearsed_run, runs_of}
-use Rattle.policy_rehearsal.proofs.StandingLemmas.{all_told, at_more, runs_more, told_more}
+use Rattle.policy_rehearsal.proofs.StandingLemmas.{all_shown, at_more, runs_more, shown_more}
 use Rattle.policy_rehearsal.proofs.rehearsal.take_turns.Goals as goal
 
 pub policies-preserved : goal.policies-preserved
@@ -15,7 +15,7 @@ policies-preserved c =
     record {
       kept = c.in_ok-taken.ensures.kept;
       at = at_more tree runs _ _ _ more taken.left;
-      turns = told_more tree runs _ _ _ _ _ more c.in_ok-push.ensures.ok c.policies.invariant.turns
+      turns = shown_more tree runs _ _ _ _ _ more c.in_ok-push.ensures.ok c.policies.invariant.turns
           taken.turn;
     }
 
@@ -25,7 +25,7 @@ returns c =
     let all : take c.policies.k c.args.policies.now ≡ c.args.policies.now =
     take_all c.policies.k c.args.policies.now
     (omega (arith, c.policies-test.false, c.len-k-end.ensures)) in
-    all_told asked.tree.now
+    all_shown asked.tree.now
     (runs_of asked.choice.now asked.options (take c.policies.k c.args.policies.now)) _
     c.policies.at refl c.policies.invariant.turns c.policies.invariant.kept
     c.policies.invariant.at

@@ -1,6 +1,6 @@
 use Rattle.std.proofs.Common.{rules, arith, ◌≡◌, ℕ, suc, ◌+◌, ◌<◌, get_or, subst, sym, List}
 use Rattle.std.specs.Slots.{slots_items}
-use Rattle.inode_claims.proofs.Closing.{one_more, closed_wins, closed_tells}
+use Rattle.inode_claims.proofs.Closing.{one_more, closed_wins, closed_shows}
 use Rattle.inode_claims.proofs.claims.Claims.close.Goals as goal
 
 pub loop-group-preserved : goal.loop-group-preserved
@@ -22,5 +22,5 @@ returns-clause-wins c = closed_wins _ _ _ _ _ _ c.close_with-closed.ensures.valu
     (λ k lt. c.loop-group.invariant.2 k (search rules)) (search rules) c.args.pass.possible
 
 pub returns-clause-all : goal.returns-clause-all
-returns-clause-all c = λ whole. closed_tells _ _ _ _ _ _ c.close_with-closed.ensures.values.2
+returns-clause-all c = λ whole. closed_shows _ _ _ _ _ _ c.close_with-closed.ensures.values.2
     (λ k lt. c.loop-group.invariant.2 k (search rules)) (search rules) c.args.pass.possible whole

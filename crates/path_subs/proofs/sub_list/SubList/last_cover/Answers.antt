@@ -8,32 +8,33 @@ use Rattle.path_subs.proofs.sub_list.SubList.last_cover.Goals as goal
 
 pub get-requires : goal.get-requires
 get-requires c =
-    let told : Some c.in-Some.index ≡ last_covering c.self.inside.lines (path_of c.args.path.now) =
+    let shown : Some c.in-Some.index ≡ last_covering c.self.inside.lines (path_of c.args.path.now) =
     sym c.in-Some.is ∙ c.last_covering.ensures c.self.inside.lines
     (rw c.as_slice.ensures.value c.self.invariant) in
-    index_within c.self.inside.lines (path_of c.args.path.now) c.in-Some.index told
+    index_within c.self.inside.lines (path_of c.args.path.now) c.in-Some.index shown
 
 pub returns-in-Some-clause-value : goal.returns-in-Some-clause-value
 returns-in-Some-clause-value c =
-    let told : Some c.in-Some.index ≡ last_covering c.self.inside.lines (path_of c.args.path.now) =
+    let shown : Some c.in-Some.index ≡ last_covering c.self.inside.lines (path_of c.args.path.now) =
     sym c.in-Some.is ∙ c.last_covering.ensures c.self.inside.lines
     (rw c.as_slice.ensures.value c.self.invariant) in
     sym (covering_some c.self.inside.lines (path_of c.args.path.now) c.in-Some.index
-    c.get.result.now c.get.ensures told)
+    c.get.result.now c.get.ensures shown)
     ∙ ap (λ subs. covering subs (path_of c.args.path.now)) c.self.view_is
 
 pub returns-in-Some-clause-covers : goal.returns-in-Some-clause-covers
 returns-in-Some-clause-covers c =
-    let told : Some c.in-Some.index ≡ last_covering c.self.inside.lines (path_of c.args.path.now) =
+    let shown : Some c.in-Some.index ≡ last_covering c.self.inside.lines (path_of c.args.path.now) =
     sym c.in-Some.is ∙ c.last_covering.ensures c.self.inside.lines
     (rw c.as_slice.ensures.value c.self.invariant) in
     covered_by c.self.inside.lines (path_of c.args.path.now) c.in-Some.index c.get.result.now
-    c.get.ensures told
+    c.get.ensures shown
 
 pub returns-in-None-clause-value : goal.returns-in-None-clause-value
 returns-in-None-clause-value c =
-    let told : None ≡ last_covering c.self.inside.lines (path_of c.args.path.now) = sym c.in-None.is
+    let shown : None
+    ≡ last_covering c.self.inside.lines (path_of c.args.path.now) = sym c.in-None.is
     ∙ c.last_covering.ensures c.self.inside.lines (rw c.as_slice.ensures.value c.self.invariant)
     in
-    sym (covering_none c.self.inside.lines (path_of c.args.path.now) told)
+    sym (covering_none c.self.inside.lines (path_of c.args.path.now) shown)
     ∙ ap (λ subs. covering subs (path_of c.args.path.now)) c.self.view_is

@@ -12,7 +12,7 @@ use Rattle.std.proofs.lemmas.List.{map-append}
 use Rattle.std.proofs.lemmas.List.Elements.{filter_map-append}
 use Rattle.std.proofs.lemmas.Option.{same_Some}
 use Rattle.label_base.specs.Bounded.{all_numbers}
-use Rattle.label_base.proofs.BoundedLemmas.{IsLeast, least_told}
+use Rattle.label_base.proofs.BoundedLemmas.{IsLeast, least_shown}
 use Rattle.input_output.specs.Store.{Files}
 use Rattle.context_syntax.specs.Context.{ContextValue}
 use Rattle.context_syntax.specs.declared.label.Label.{Label}
@@ -150,7 +150,7 @@ other_step w g n (Some k) other least =
 
 winner_least : (w : Walk) (g : ℕ) → IsLeast (walk_count w) (can_win w g) (winner w g)
 unfolding winner
-winner_least w g = least_told (walk_count w) (can_win w g)
+winner_least w g = least_shown (walk_count w) (can_win w g)
 
 step_by : (w : Walk) (g n : ℕ) (own : Bool) → (group_of w.entries n == g) ≡ own
     → behind_one own (change_with w n (winner w (group_of w.entries n)))
@@ -267,11 +267,11 @@ changes_lead entries runs =
 
 -- ---- what is answered
 
-told_keeps : (entries : List Record) (runs : List TreeRun)
+shown_keeps : (entries : List Record) (runs : List TreeRun)
     → RunsKeepLabels entries runs (labels_at_end entries (rehearsed_by entries runs).turns)
-told_keeps entries runs = λ are. changes_lead entries runs ∙ keeps_labels entries runs are
+shown_keeps entries runs = λ are. changes_lead entries runs ∙ keeps_labels entries runs are
 
-told_by : (words : RehearseWords) (known : Files) (input : List ℕ) (IsReport : List ℕ → Type 0)
+shown_by : (words : RehearseWords) (known : Files) (input : List ℕ) (IsReport : List ℕ → Type 0)
     (ending : Ending)
     → (files : Result (List Rules) Cause) (records : Result (List Record) Cause)
     → (rules_read (files_named words.bases) (length words.bases) known).says ≡ files
@@ -281,19 +281,20 @@ told_by : (words : RehearseWords) (known : Files) (input : List ℕ) (IsReport :
     (λ policies. and_then records (λ entries. Ok (rehearsal_of words policies entries))))
     (Ok ending)
     → IsReport ending.report → ReportKeeps words known input IsReport
-told_by words known input IsReport ending (Ok policies) (Ok entries) files_say input_says is told =
+shown_by words known input IsReport ending (Ok policies)
+    (Ok entries) files_say input_says is shown =
     record {
       policies = policies;
       entries = entries;
       files_say = files_say;
       input_says = input_says;
       report = subst (λ (e : Ending). IsReport e.report) (sym (same_Some _ _ (ap result_ok is)))
-          told;
-      keeps = told_keeps entries (runs_of words.choice words.options policies);
+          shown;
+      keeps = shown_keeps entries (runs_of words.choice words.options policies);
     }
-told_by words known input IsReport ending (Ok policies) (Err cause) files_say input_says is told =
+shown_by words known input IsReport ending (Ok policies) (Err cause) files_say input_says is shown =
     absurd cc
-told_by words known input IsReport ending (Err cause) records files_say input_says is told =
+shown_by words known input IsReport ending (Err cause) records files_say input_says is shown =
     absurd cc
 
 pub answer_keeps : (words : RehearseWords) (known : Files) (input : List ℕ)
@@ -301,7 +302,7 @@ pub answer_keeps : (words : RehearseWords) (known : Files) (input : List ℕ)
     → (rehearse_plan words).answer known input ≡ Ok ending → IsReport ending.report
     → ReportKeeps words known input IsReport
 unfolding answer_by entries_for
-answer_keeps words known input IsReport ending is told =
-    told_by words known input IsReport ending
+answer_keeps words known input IsReport ending is shown =
+    shown_by words known input IsReport ending
     (rules_read (files_named words.bases) (length words.bases) known).says
-    (records_read words.options.format input) refl refl is told
+    (records_read words.options.format input) refl refl is shown
