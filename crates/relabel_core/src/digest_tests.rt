@@ -75,11 +75,11 @@ fn text(alloc: Global, given: &Given<'_>) -> Result<Bytes, Fail> {
 }
 
 // What a run with these options writes, where stored digests are these.
-fn text_with(alloc: Global, kept: &[u8], options: Options) -> Result<Bytes, Fail> {
+fn text_with(alloc: Global, stored: &[u8], options: Options) -> Result<Bytes, Fail> {
     text(
         alloc,
         &Given {
-            kept,
+            stored,
             options,
             ..SRV
         },
@@ -140,7 +140,7 @@ fn digests_without_link_counts_do_not_count(rt: HostRuntime) -> Result<(), Fail>
     let text = text(
         rt.alloc(),
         &Given {
-            kept: SRV_DIGESTS,
+            stored: SRV_DIGESTS,
             ..SRV_COUNTED
         },
     )?;
@@ -160,7 +160,7 @@ fn a_second_run_skips_all(rt: HostRuntime) -> Result<(), Fail> {
     let text = text(
         rt.alloc(),
         &Given {
-            kept: SRV_DIGESTS,
+            stored: SRV_DIGESTS,
             ..SRV
         },
     )?;
@@ -177,7 +177,7 @@ fn a_new_specification_is_looked_at_where_it_reaches(rt: HostRuntime) -> Result<
         rt.alloc(),
         &Given {
             specs: b"/srv(/.*)? u:r:var_t:s0\n/srv/sub/g.* u:r:tmp_t:s0\n",
-            kept: SRV_DIGESTS,
+            stored: SRV_DIGESTS,
             ..SRV
         },
     )?;
@@ -218,7 +218,7 @@ fn a_name_elsewhere_keeps_a_directory_from_being_skipped(rt: HostRuntime) -> Res
     let text = text(
         rt.alloc(),
         &Given {
-            kept: b"# file: /a\nsecurity.sehash=0xb95be37b22f870ba1b82fa3785b9a1a67cbd177d\n",
+            stored: b"# file: /a\nsecurity.sehash=0xb95be37b22f870ba1b82fa3785b9a1a67cbd177d\n",
             ..LINKED
         },
     )?;
@@ -247,7 +247,7 @@ fn an_excluded_entry_keeps_a_directory_from_being_skipped(rt: HostRuntime) -> Re
         rt.alloc(),
         &Given {
             excluded: Some(b"/a/p".as_slice()),
-            kept: b"# file: /a\nsecurity.sehash=0x97e02ea9dfddce6546971cdb1c2fd723242dd18e\n",
+            stored: b"# file: /a\nsecurity.sehash=0x97e02ea9dfddce6546971cdb1c2fd723242dd18e\n",
             ..NAMED_TWICE
         },
     )?;
@@ -268,7 +268,7 @@ fn another_policy_voids_digests(rt: HostRuntime) -> Result<(), Fail> {
         &Given {
             specs: b"/a(/s)? -d u:r:dir_t:s0\n/a/s/f u:r:g_t:s0\n",
             operands: (b"/a/s", b"/a/s"),
-            kept: b"# file: /a\nsecurity.sehash=0x230da7ded08590bc99efc3c99bff224f03468a36\n\n\
+            stored: b"# file: /a\nsecurity.sehash=0x230da7ded08590bc99efc3c99bff224f03468a36\n\n\
                 # file: /a/s\nsecurity.sehash=0xceade0fa86b41540a9d4810c13b375e90f2ffa75\n",
             options: Options {
                 digests: false,
@@ -295,7 +295,7 @@ fn void_digests_are_made_anew(rt: HostRuntime) -> Result<(), Fail> {
         &Given {
             records: b"d 1 50 u:r:dir_t:s0 /a\0d 1 51 u:r:dir_t:s0 /a/s\0\
                 f 1 52 u:r:g_t:s0 /a/s/f\0",
-            kept: b"# file: /a\nsecurity.sehash=0x0000000000000000000000000000000000000000\n\n\
+            stored: b"# file: /a\nsecurity.sehash=0x0000000000000000000000000000000000000000\n\n\
                 # file: /a/s\nsecurity.sehash=0x0000000000000000000000000000000000000000\n",
             ..NESTED
         },

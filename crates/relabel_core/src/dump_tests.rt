@@ -56,7 +56,7 @@ fn all_digests_above_a_changed_label_are_voided(rt: HostRuntime) -> Result<(), F
             records: b"d 1 50 u:r:dir_t:s0 /a\0d 1 51 u:r:dir_t:s0 /a/s\0f 1 52 u:r:f_t:s0 /a/s/f\0\
                 d 1 53 u:r:dir_t:s0 /b\0",
             operands: (b"/a/s", b"/a/s"),
-            kept: b"# file: /a\nsecurity.sehash=0x01\n\n# file: /b\nsecurity.sehash=0x02\n\n\
+            stored: b"# file: /a\nsecurity.sehash=0x01\n\n# file: /b\nsecurity.sehash=0x02\n\n\
                 # file: /a/s\nsecurity.sehash=0x03\n",
             ..NOTHING
         },
@@ -77,7 +77,7 @@ fn a_run_that_changes_nothing_voids_nothing(rt: HostRuntime) -> Result<(), Fail>
     let dump = dump(
         rt.alloc(),
         &Given {
-            kept: b"# file: srv\nsecurity.sehash=0xAB\n\n",
+            stored: b"# file: srv\nsecurity.sehash=0xAB\n\n",
             options: dry,
             ..SRV
         },
@@ -91,7 +91,7 @@ fn a_void_digest_is_not_told_again(rt: HostRuntime) -> Result<(), Fail> {
     let dump = dump(
         rt.alloc(),
         &Given {
-            kept: b"# file: /srv\nsecurity.sehash=0x0000000000000000000000000000000000000000\n",
+            stored: b"# file: /srv\nsecurity.sehash=0x0000000000000000000000000000000000000000\n",
             ..SRV
         },
     )?;

@@ -33,7 +33,7 @@ pub struct Given<'a> {
     pub operands: (&'a [u8], &'a [u8]),
     pub excluded: Option<&'a [u8]>,
     // A dump of what is stored before.
-    pub kept: &'a [u8],
+    pub stored: &'a [u8],
     pub options: Options,
     // The entry of which all is asked.
     pub entry: u32,
@@ -57,14 +57,14 @@ pub const NOTHING: Given<'static> = Given {
     records: b"",
     operands: (b"/", b"/"),
     excluded: None,
-    kept: b"",
+    stored: b"",
     options: PLAIN,
     entry: 0,
 };
 
-// What is told of an entry.
+// What is shown of an entry.
 #[derive(Clone, Copy, PartialEq, Eq)]
-pub struct Told {
+pub struct EntryShown {
     pub winner: Option<u32>,
     pub deciding: Option<u32>,
     pub wants: bool,
@@ -90,7 +90,7 @@ pub enum Digest {
 pub struct Answered {
     // The report, and the dump behind it.
     pub text: Bytes,
-    pub told: Option<Told>,
+    pub shown: Option<EntryShown>,
     pub digest: Option<(Digest, bool)>,
     // How many labels and digests the walk leaves.
     pub left: (usize, usize),
@@ -182,11 +182,11 @@ fn is_given(label: &LabelAfter<'_>) -> bool {
     }
 }
 
-fn told_of(walked: &Walked<'_>, e: u32) -> Option<Told> {
+fn shown_of(walked: &Walked<'_>, e: u32) -> Option<EntryShown> {
     if e >= walked.len() {
         return None;
     }
-    Some(Told {
+    Some(EntryShown {
         winner: walked.winner(e),
         deciding: walked.deciding(e),
         wants: walked.known(e).wanted().is_some(),
@@ -240,7 +240,7 @@ fn noted_of(
     Ok((noted.decided_at(0), noted.winner_at(0)))
 }
 
-fn all_told(
+fn all_shown(
     alloc: Global,
     walked: &Walked<'_>,
     e: u32,
@@ -251,7 +251,7 @@ fn all_told(
     let digests = count_digests(alloc, walked)?;
     Ok(Answered {
         text: text_of(alloc, walked)?,
-        told: told_of(walked, e),
+        shown: shown_of(walked, e),
         digest,
         left: (groups, digests),
         errors: walked.errors(),
@@ -285,7 +285,7 @@ fn answered_input(alloc: Global, input: &WalkInput<'_>, e: u32) -> Result<Answer
 {
     let noted = noted_of(alloc, input)?;
     let walked = counted_once(alloc, input)?;
-    all_told(alloc, &walked, e, noted)
+    all_shown(alloc, &walked, e, noted)
 }
 
 fn answered_choice(
@@ -335,7 +335,7 @@ fn answered_rules(
 ) -> Result<Answered, Fail>
     requires { AreOfFormat given.now.options.format tree.now }
 {
-    let stored = stored_of(alloc, tree, given.kept)?;
+    let stored = stored_of(alloc, tree, given.stored)?;
     answered_stored(alloc, given, tree, rules, &stored)
 }
 

@@ -1,4 +1,4 @@
-use crate::test_walks::{Digest, Given, NOTHING, PLAIN, Told, answer};
+use crate::test_walks::{Digest, EntryShown, Given, NOTHING, PLAIN, answer};
 use crate::{Options, Skip, Swept, does_skip, is_first, table_walk_is_walk};
 use label_base::{Bytes, OutOfMemory};
 use std::alloc::Global;
@@ -160,10 +160,13 @@ fn an_inode_has_the_label_of_its_first_record(rt: HostRuntime) -> Result<(), Fai
     Ok(())
 }
 
-// What is told of the entry, and what becomes of its digest.
-fn told(alloc: Global, given: &Given<'_>) -> Result<(Option<Told>, Option<(Digest, bool)>), Fail> {
+// What is shown of the entry, and what becomes of its digest.
+fn shown(
+    alloc: Global,
+    given: &Given<'_>,
+) -> Result<(Option<EntryShown>, Option<(Digest, bool)>), Fail> {
     let answered = answer(alloc, given)?;
-    Ok((answered.told, answered.digest))
+    Ok((answered.shown, answered.digest))
 }
 
 // How many labels and digests a walk leaves, and how many errors and entries decided to a context
@@ -176,7 +179,7 @@ fn counted(alloc: Global, given: &Given<'_>) -> Result<((usize, usize), u32, u32
 #[test]
 fn entries_are_told_one_by_one(rt: HostRuntime) -> Result<(), Fail> {
     table_walk_is_walk();
-    let of_entry = Told {
+    let of_entry = EntryShown {
         winner: Some(1),
         deciding: Some(2),
         wants: true,
@@ -188,7 +191,7 @@ fn entries_are_told_one_by_one(rt: HostRuntime) -> Result<(), Fail> {
         is_walked: true,
         is_skipped_first: false,
     };
-    let told = told(
+    let shown = shown(
         rt.alloc(),
         &Given {
             options: STRICT,
@@ -196,7 +199,7 @@ fn entries_are_told_one_by_one(rt: HostRuntime) -> Result<(), Fail> {
             ..LINKED
         },
     )?;
-    assert!(rt; told == (Some(of_entry), Some((Digest::Stays, false))));
+    assert!(rt; shown == (Some(of_entry), Some((Digest::Stays, false))));
     Ok(())
 }
 

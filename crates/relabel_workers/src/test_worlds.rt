@@ -33,7 +33,7 @@ pub struct Given<'a> {
     pub records: &'a [u8],
     pub operands: (&'a [u8], &'a [u8]),
     /// A dump of what is stored before.
-    pub kept: &'a [u8],
+    pub stored: &'a [u8],
     pub options: Options,
 }
 
@@ -239,7 +239,7 @@ fn answered_stored<R: Threads + Wait + Sync, G: Gate + Sync>(
     requires format { AreOfFormat given.now.options.format tree.now }
     requires workers { (0 < workers) × (workers ≤ 64) }
 {
-    let stored = stored_of(alloc, tree, given.kept)?;
+    let stored = stored_of(alloc, tree, given.stored)?;
     answered_tree(rt, alloc, given, tree, &stored, workers, gate)
 }
 

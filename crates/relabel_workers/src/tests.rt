@@ -12,7 +12,7 @@ const LINKED: Given<'static> = Given {
     records: b"d 1 2 u:r:dir_t:s0 /a\0f 1 10 u:r:old_t:s0 /a/x\0d 1 3 u:r:dir_t:s0 /b\0\
         f 1 10 u:r:old_t:s0 /b/x\0",
     operands: (b"/a", b"/b"),
-    kept: b"",
+    stored: b"",
     options: Options {
         force: true,
         dry: true,
@@ -82,7 +82,7 @@ const SKIPPED: Given<'static> = Given {
     records: b"d 1 30 u:r:var_t:s0 /srv\0d 1 33 u:r:var_t:s0 /srv/other\0\
         d 1 31 u:r:var_t:s0 /srv/sub\0f 1 32 u:r:var_t:s0 /srv/sub/f\0",
     operands: (b"/srv", b"/srv"),
-    kept: b"# file: /srv\nsecurity.sehash=0x2f409ad7b5704325f609fc499a6af2db7062c720\n\n",
+    stored: b"# file: /srv\nsecurity.sehash=0x2f409ad7b5704325f609fc499a6af2db7062c720\n\n",
     options: Options {
         digests: true,
         ..VERBOSE
@@ -101,7 +101,7 @@ fn nothing_is_taken_below_a_skipped_directory(rt: HostRuntime) -> Result<(), Fai
 #[test]
 fn digests_are_those_of_one_worker(rt: HostRuntime) -> Result<(), Fail> {
     let given = Given {
-        kept: b"",
+        stored: b"",
         ..SKIPPED
     };
     let answered = answer(&rt, rt.alloc(), &given, 2, &OpenGate)?;
@@ -149,7 +149,7 @@ fn two_workers_are_at_work_at_once(rt: HostRuntime) -> Result<(), Fail> {
         specs: b"/.* u:r:any_t:s0\n",
         records: b"d 1 1 u:r:any_t:s0 /\0d 1 2 u:r:any_t:s0 /a\0d 1 3 u:r:any_t:s0 /b\0",
         operands: (b"/", b"/"),
-        kept: b"",
+        stored: b"",
         options: VERBOSE,
     };
     let gate = Meeting {
@@ -167,7 +167,7 @@ fn an_empty_tree_has_no_winner(rt: HostRuntime) -> Result<(), Fail> {
         specs: b"",
         records: b"",
         operands: (b"/", b"/"),
-        kept: b"",
+        stored: b"",
         options: VERBOSE,
     };
     let answered = answer(&rt, rt.alloc(), &given, 4, &OpenGate)?;
