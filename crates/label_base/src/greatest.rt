@@ -5,11 +5,7 @@ ghost use Rattle.label_base.specs.Bounded.{greater};
 pub fn greater(a: Option<usize>, b: Option<usize>) -> Option<usize>
     ensures { result ≡ greater a b }
 {
-    match (a, b) {
-        (None, b) => b,
-        (Some(a), None) => Some(a),
-        (Some(a), Some(b)) => Some(a.max(b)),
-    }
+    a.max(b)
 }
 
 #[cfg(test)]

@@ -37,11 +37,7 @@ impl<'a> Model for Candidates<'a> {
 fn greater(a: Option<u32>, b: Option<u32>) -> Option<u32>
     ensures { result ≡ greater a b }
 {
-    match (a, b) {
-        (None, b) => b,
-        (Some(a), None) => Some(a),
-        (Some(a), Some(b)) => Some(a.max(b)),
-    }
+    a.max(b)
 }
 
 // The last ones below the greatest that is left.
