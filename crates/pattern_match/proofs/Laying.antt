@@ -246,7 +246,7 @@ many_repeated (suc least) None a = many_endless (suc least) a (omega arith)
     ∙ (let z : (suc least == 0) ≡ false = grind arith in rw z refl)
 many_repeated least (Some most) a = many_copies least most a
 
-some_of : (a : Automaton) → 0 < length a.places → is_some_list a.places ≡ true
+pub some_of : (a : Automaton) → 0 < length a.places → is_some_list a.places ≡ true
 some_of a l = at a.places l
   where
     at : {X : Type 0} (xs : List X) → 0 < length xs → is_some_list xs ≡ true

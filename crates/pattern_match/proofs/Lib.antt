@@ -3,6 +3,7 @@ pub mod Running
 pub mod Holding
 pub mod Quotients
 pub mod Classes
+pub mod EachByte
 pub mod FullSets
 pub mod Lists
 pub mod Stacks
@@ -12,6 +13,8 @@ pub mod SegmentWords
 pub mod SegmentPlaces
 pub mod Segments
 pub mod Repeats
+pub mod PassPlaces
+pub mod PassRows
 pub mod Linking
 pub mod Growing
 pub mod Laying
@@ -27,8 +30,19 @@ pub mod Keeping
 pub mod Rooms
 pub mod Rows
 pub mod RunTables
+pub mod WholePasses
+pub mod SettledOver
+pub mod RunOperations
 pub mod Ready
 pub mod Standing
 pub mod Reading
 pub mod OneText
+pub mod PassParts
+pub mod PassAgreement
 pub mod Sending
+pub mod NextMarks
+pub mod Idle
+pub mod Turning
+pub mod Barred
+pub mod OpenParts
+pub mod Spelled

@@ -133,7 +133,7 @@ any_none test = none_below (λ j. (bit_at 0 j == 1) && test j) 64
     (λ j. ap (λ v. v && test j) (not_one _ (bit_at-zero j)))
 
 -- some below a number, and some of those behind it
-any_split : (f : ℕ → Bool) (m n : ℕ)
+pub any_split : (f : ℕ → Bool) (m n : ℕ)
     → any_under f (m + n) ≡ (any_under f m || any_under (λ j. f (m + j)) n)
 any_split f m zero = simp unary_clauses (at (any_under f m))
   where

@@ -16,9 +16,11 @@ use Rattle.pattern_match.specs.States.{AreStatesOf, Progress, words_by, words_fo
 use Rattle.pattern_syntax.specs.Starts.{behind_start}
 use Rattle.pattern_match.specs.States.{AreMarksOf, IsBehind, IsRead}
 use Rattle.pattern_match.specs.Onwards.{AreTextBytes}
-use Rattle.pattern_match.specs.Compiled.{AreTablesReady, IsReadyFor, IsCompiled}
+use Rattle.pattern_match.specs.Compiled.{IsReadyFor, IsCompiled}
 use Rattle.pattern_match.specs.declared.machine.Machine.TheInside.{Inside}
-use Rattle.pattern_match.specs.declared.class.Class.{Class}
+use Rattle.pattern_match.specs.Operations.{AreOperationsOf}
+use Rattle.pattern_match.specs.declared.operation.Operation.{Operation}
+use Rattle.pattern_match.specs.declared.readying.PatternTables.{PatternTables}
 use Rattle.pattern_match.proofs.Language.{empty_in}
 use Rattle.pattern_match.proofs.Onwards.{onward_left}
 use Rattle.pattern_match.proofs.Running.{Runs, automaton_runs, no_first}
@@ -83,24 +85,40 @@ pub ready_by : (m : Inside) (t : Tree) → behind_start m.pattern.now.tree ≡ t
     → IsReadyFor t m.tables.now
 ready_by m t is kept = subst (λ u. IsReadyFor u m.tables.now) is kept.behind
 
-module _ (t : Tree) (bare : Bool) (rows width : ℕ) (follow accept : List ℕ) (classes : List Class)
-    (r : AreTablesReady t bare rows width follow accept classes) where
-  pub machine : bare ≡ false → IsMachine t rows width follow accept classes
-  machine e = record { rows_is = r.rows_are e; tables = r.tables e }
+module _ (t : Tree) (held : PatternTables) (r : IsReadyFor t held) where
+  -- it has rows where it has no operations
+  pub by_rows : held.is_bare ≡ false → (shown : List Operation) → shown ≡ held.operations.items
+      → (empty : Bool) → empty ≡ (length shown == 0) → empty ≡ true → IsMachine t held
+  by_rows e shown f empty g h = record {
+    rows_is = r.rows_are e;
+    tables = r.tables e
+        (let n : length shown ≡ length held.operations.items =
+        ap (λ (o : List Operation). length o) f in
+        let z : (length shown == 0) ≡ true = sym g ∙ h in
+        let w : length shown ≡ 0 = grind arith in omega arith);
+  }
 
-  not_bare : bare ≡ false → is_bare t ≡ false
+  pub by_operations : (shown : List Operation) → shown ≡ held.operations.items → (empty : Bool)
+      → empty ≡ (length shown == 0) → empty ≡ false → AreOperationsOf shown t
+  by_operations shown f empty g h = subst (λ o. AreOperationsOf o t) (sym f)
+      (r.over (let n : length shown ≡ length held.operations.items =
+      ap (λ (o : List Operation). length o) f in
+      let z : (length shown == 0) ≡ false = sym g ∙ h in
+      let w : 0 < length shown = grind arith in omega arith))
+
+  not_bare : held.is_bare ≡ false → is_bare t ≡ false
   not_bare e = sym r.bare_is ∙ e
 
-  made_at : (v : Bool) → bare ≡ v → (new : List ℕ) → length new ≡ width
-      → ((k : ℕ) → k < 64 * length new → bit new k ≡ (nat_lt 0 rows && (rows - 1 == k)))
+  made_at : (v : Bool) → held.is_bare ≡ v → (new : List ℕ) → length new ≡ held.width
+      → ((k : ℕ) → k < 64 * length new → bit new k ≡ (nat_lt 0 held.rows && (held.rows - 1 == k)))
       → AreMarksOf t new
   made_at true e new n h = subst (λ v. AreMarksBy v t new) (sym e ∙ r.bare_is) (n ∙ r.none e)
   made_at false e new n h =
       marks_of_some t new (not_bare e)
-      (start_made t rows width follow accept classes (machine e) new n h)
+      (start_made t held.rows held.width (r.rows_are e) (r.wide e) new n h)
 
-  starts_at : (v : Bool) → bare ≡ v → (new : List ℕ) → length new ≡ width
-      → ((k : ℕ) → k < 64 * length new → bit new k ≡ (nat_lt 0 rows && (rows - 1 == k)))
+  starts_at : (v : Bool) → held.is_bare ≡ v → (new : List ℕ) → length new ≡ held.width
+      → ((k : ℕ) → k < 64 * length new → bit new k ≡ (nat_lt 0 held.rows && (held.rows - 1 == k)))
       → (text : List ℕ) → (IsBehind t new text → In t text) × (In t text → IsBehind t new text)
   starts_at true e new n h text =
       let b = sym r.bare_is ∙ e in (
@@ -109,29 +127,29 @@ module _ (t : Tree) (bare : Bool) (rows width : ℕ) (follow accept : List ℕ) 
             (bare_behind t new text b).1 ((bare_text t b text).0 a),
       )
   starts_at false e new n h text =
-      let s = start_stands t rows width follow accept classes (machine e) new n h in (
+      let s = start_stands t held.rows held.width (r.rows_are e) (r.wide e) new n h in (
         λ a. s.from text (behind_some t new text (not_bare e) a),
         λ a. some_behind t new text
             (not_bare e) (s.onto text a),
       )
 
-  words_at : (v : Bool) → bare ≡ v → words_for t ≡ width
+  words_at : (v : Bool) → held.is_bare ≡ v → words_for t ≡ held.width
   words_at true e = ap (λ v. words_by v t) (sym r.bare_is ∙ e) ∙ sym (r.none e)
   words_at false e = ap (λ v. words_by v t) (not_bare e)
-      ∙ sym (width_is t rows width follow accept classes (machine e))
+      ∙ sym (width_is t held.rows held.width (r.rows_are e) (r.wide e))
 
-  pub words_are : words_for t ≡ width
-  words_are = words_at bare refl
+  pub words_are : words_for t ≡ held.width
+  words_are = words_at held.is_bare refl
 
-  pub restart_made : (new : List ℕ) → length new ≡ width
-      → ((k : ℕ) → k < 64 * length new → bit new k ≡ (nat_lt 0 rows && (rows - 1 == k)))
+  pub restart_made : (new : List ℕ) → length new ≡ held.width
+      → ((k : ℕ) → k < 64 * length new → bit new k ≡ (nat_lt 0 held.rows && (held.rows - 1 == k)))
       → AreMarksOf t new
-  restart_made = made_at bare refl
+  restart_made = made_at held.is_bare refl
 
-  pub restart_starts : (new : List ℕ) → length new ≡ width
-      → ((k : ℕ) → k < 64 * length new → bit new k ≡ (nat_lt 0 rows && (rows - 1 == k)))
+  pub restart_starts : (new : List ℕ) → length new ≡ held.width
+      → ((k : ℕ) → k < 64 * length new → bit new k ≡ (nat_lt 0 held.rows && (held.rows - 1 == k)))
       → (text : List ℕ) → (IsBehind t new text → In t text) × (In t text → IsBehind t new text)
-  restart_starts = starts_at bare refl
+  restart_starts = starts_at held.is_bare refl
 
 -- as many words as the pattern has
 pub marks_counted : (t : Tree) (states : Progress) → AreStatesOf t states

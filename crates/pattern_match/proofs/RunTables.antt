@@ -11,6 +11,7 @@ use Rattle.std.specs.List.{list_any}
 use Rattle.pattern_syntax.specs.Tree.{Tree}
 use Rattle.pattern_match.specs.Class.{class_bytes, takes_at}
 use Rattle.pattern_match.specs.declared.class.Class.{Class}
+use Rattle.pattern_match.specs.declared.readying.PatternTables.{PatternTables}
 use Rattle.pattern_match.proofs.Classes.{class_takes}
 use Rattle.pattern_match.specs.Residuals.{all_residuals, has_texts}
 use Rattle.pattern_match.specs.Automaton.{Place, automaton, all_places}
@@ -25,7 +26,8 @@ use Rattle.pattern_match.proofs.LowestBits.{any_past}
 use Rattle.pattern_match.proofs.Stepping.{IsStep, IsEnd, IsStart, Starts, as_many, next_within}
 use Rattle.pattern_match.proofs.Stepping.{starts}
 
-any_from : (test : ℕ → Bool) (n : ℕ) → any_under test n ≡ true → (p : ℕ) × (p < n) × (test p ≡ true)
+pub any_from : (test : ℕ → Bool) (n : ℕ) → any_under test n ≡ true
+    → (p : ℕ) × (p < n) × (test p ≡ true)
 any_from test zero h = cc
 any_from test (suc n) h = at (or_cases (any_under test n) _ h) (any_from test n)
   where
@@ -38,7 +40,7 @@ any_from test (suc n) h = at (or_cases (any_under test n) _ h) (any_from test n)
 last_or_before : (p n : ℕ) → p < suc n → (p < n) ⊎ (p ≡ n)
 last_or_before p n h = grind arith
 
-any_to : (test : ℕ → Bool) (n p : ℕ) → p < n → test p ≡ true → any_under test n ≡ true
+pub any_to : (test : ℕ → Bool) (n p : ℕ) → p < n → test p ≡ true → any_under test n ≡ true
 any_to test zero p l h = absurd (omega arith)
 any_to test (suc n) p l h = at (last_or_before p n l) (any_to test n p)
   where
@@ -47,7 +49,7 @@ any_to test (suc n) p l h = at (last_or_before p n l) (any_to test n p)
     at (inl g) ih = or_left _ _ (ih g h)
     at (inr g) ih = or_right (any_under test n) _ (subst (λ m. test m ≡ true) g h)
 
-leads_within : (ps : List Place) (p q : ℕ) → leads (slice_get ps p) q ≡ true → p < length ps
+pub leads_within : (ps : List Place) (p q : ℕ) → leads (slice_get ps p) q ≡ true → p < length ps
 leads_within ps p q h = at (cases_lt p (length ps))
   where
     at : (p < length ps) ⊎ (length ps ≤ p) → p < length ps
@@ -56,7 +58,7 @@ leads_within ps p q h = at (cases_lt p (length ps))
         (let n : slice_get ps p ≡ None = slice_get_past ps p l in rw n refl) in
         let d : true ≡ false = sym h ∙ e in cc
 
-has_within : (ps : List Place) (p b : ℕ) → has (slice_get ps p) b ≡ true → p < length ps
+pub has_within : (ps : List Place) (p b : ℕ) → has (slice_get ps p) b ≡ true → p < length ps
 has_within ps p b h = at (cases_lt p (length ps))
   where
     at : (p < length ps) ⊎ (length ps ≤ p) → p < length ps
@@ -65,7 +67,7 @@ has_within ps p b h = at (cases_lt p (length ps))
         (let n : slice_get ps p ≡ None = slice_get_past ps p l in rw n refl) in
         let d : true ≡ false = sym h ∙ e in cc
 
-ends_within : (ps : List Place) (p : ℕ) → ends (slice_get ps p) ≡ true → p < length ps
+pub ends_within : (ps : List Place) (p : ℕ) → ends (slice_get ps p) ≡ true → p < length ps
 ends_within ps p h = at (cases_lt p (length ps))
   where
     at : (p < length ps) ⊎ (length ps ≤ p) → p < length ps
@@ -93,10 +95,14 @@ same_bytes (c ∷ cs) (p ∷ ps) zero b m e = let f : class_bytes c ≡ p.bytes 
 same_bytes (c ∷ cs) (p ∷ ps) (suc q) b m e =
     same_bytes cs ps q b m (let f : map class_bytes cs ≡ map bytes_in ps = cc in f)
 
+places_fit : (ps : List Place) (width : ℕ) → width ≡ (length ps + 63) / 64
+    → length ps ≤ 64 * width
+places_fit ps width e = omega arith
+
 module _ (ps : List Place) (width : ℕ) (follow accept : List ℕ) (classes : List Class)
     (t : AreTables width follow accept classes ps) where
   rows_fit : length ps ≤ 64 * width
-  rows_fit = let w : width ≡ (length ps + 63) / 64 = t.wide in omega arith
+  rows_fit = places_fit ps width t.wide
 
   taken : (b q : ℕ) → b < 256 → takes_at classes q b ≡ has (slice_get ps q) b
   taken b q m = same_bytes classes ps q b m t.bytes
@@ -242,19 +248,20 @@ module _ (ps : List Place) (width : ℕ) (follow accept : List ℕ) (classes : L
     takes = λ b u v. taken b p v ∙ s.takes b u v;
   }
 
-  machine_starts : (states : List ℕ) → length states ≡ width
-      → ((k : ℕ) → k < 64 * length states
-      → bit states k ≡ (nat_lt 0 (length ps) && (length ps - 1 == k))) → IsStart ps states
-  machine_starts states n h = record {
-    onto = λ k e. let r = rows_fit in
-        h k (omega arith) ∙ and_from (nat_lt 0 (length ps)) (length ps - 1 == k)
-        (first_is (length ps) k e) (last_is (length ps) k e);
-    from = λ k u.
-        let l = bit_within states k u in
-        let e = sym (h k l) ∙ u in
-        is_last (length ps) k (first_so (nat_lt 0 (length ps)) (length ps - 1 == k) e)
-        (second_so (nat_lt 0 (length ps)) (length ps - 1 == k) e);
-  }
+machine_starts : (ps : List Place) (width : ℕ) → width ≡ (length ps + 63) / 64
+    → (states : List ℕ) → length states ≡ width
+    → ((k : ℕ) → k < 64 * length states
+    → bit states k ≡ (nat_lt 0 (length ps) && (length ps - 1 == k))) → IsStart ps states
+machine_starts ps width w states n h = record {
+  onto = λ k e. let r = places_fit ps width w in
+      h k (omega arith) ∙ and_from (nat_lt 0 (length ps)) (length ps - 1 == k)
+      (first_is (length ps) k e) (last_is (length ps) k e);
+  from = λ k u.
+      let l = bit_within states k u in
+      let e = sym (h k l) ∙ u in
+      is_last (length ps) k (first_so (nat_lt 0 (length ps)) (length ps - 1 == k) e)
+      (second_so (nat_lt 0 (length ps)) (length ps - 1 == k) e);
+}
 
 -- the states stay a matcher's
 pub stepped_states : (t : Tree) (old new : List ℕ) (b : ℕ) → AreMarks t old
@@ -291,25 +298,18 @@ marked_within t marks a p h = at (cases_lt p (length (all_places (automaton t)))
     at (inr l) = let n = as_many t in let e : bit marks p ≡ false = a.none_past p (omega arith) in
         let d : true ≡ false = sym h ∙ e in cc
 
--- the tables of a pattern
-pub record IsMachine (t : Tree) (rows width : ℕ) (follow accept : List ℕ)
-    (classes : List Class) : Type 0 where
-  pub rows_is : rows ≡ length (all_places (automaton t))
-  pub tables : AreTables width follow accept classes (all_places (automaton t))
-
-module _ (t : Tree) (rows width : ℕ) (follow accept : List ℕ) (classes : List Class)
-    (m : IsMachine t rows width follow accept classes) where
+-- so many rows as there are places, in words for them
+module _ (t : Tree) (rows width : ℕ) (rows_is : rows ≡ length (all_places (automaton t)))
+    (wide : width ≡ (length (all_places (automaton t)) + 63) / 64) where
   pub width_is : width ≡ width_of t
-  width_is = let w : width ≡ (length (all_places (automaton t)) + 63) / 64 = m.tables.wide in
-      let n = as_many t in omega arith
+  width_is = let w = wide in let n = as_many t in omega arith
 
   pub start_is : (new : List ℕ) → length new ≡ width
       → ((k : ℕ) → k < 64 * length new → bit new k ≡ (nat_lt 0 rows && (rows - 1 == k)))
       → IsStart (all_places (automaton t)) new
   start_is new n h = let F : ℕ → Type 0 = λ r. (k : ℕ) → k < 64 * length new
       → bit new k ≡ (nat_lt 0 r && (r - 1 == k)) in
-      machine_starts (all_places (automaton t)) width follow accept classes m.tables new n
-      (subst F m.rows_is h)
+      machine_starts (all_places (automaton t)) width wide new n (subst F rows_is h)
 
   pub start_made : (new : List ℕ) → length new ≡ width
       → ((k : ℕ) → k < 64 * length new → bit new k ≡ (nat_lt 0 rows && (rows - 1 == k)))
@@ -321,129 +321,144 @@ module _ (t : Tree) (rows width : ℕ) (follow accept : List ℕ) (classes : Lis
       → Starts t new
   start_stands new n h = starts t new (has_texts t) refl (start_is new n h)
 
-  pub wide : (old : List ℕ) → AreMarks t old → length old ≡ width
-  wide old a = a.words ∙ sym width_is
+-- the tables of a pattern
+pub record IsMachine (t : Tree) (held : PatternTables) : Type 0 where
+  pub rows_is : held.rows ≡ length (all_places (automaton t))
+  pub tables : AreTables held.width held.follow.items held.accept.items held.classes.items
+      (all_places (automaton t))
 
-  pub rows_in : (old : List ℕ) → AreMarks t old → rows ≤ 64 * length old
+module _ (t : Tree) (held : PatternTables) (m : IsMachine t held) where
+  pub wide : (old : List ℕ) → AreMarks t old → length old ≡ held.width
+  wide old a = a.words ∙ sym (width_is t held.rows held.width m.rows_is m.tables.wide)
+
+  pub rows_in : (old : List ℕ) → AreMarks t old → held.rows ≤ 64 * length old
   rows_in old a =
-      let w : width ≡ (length (all_places (automaton t)) + 63) / 64 = m.tables.wide in
+      let w : held.width ≡ (length (all_places (automaton t)) + 63) / 64 = m.tables.wide in
       let n = wide old a in
       let r = m.rows_is in
       omega arith
 
-  pub follow_in : (old : List ℕ) → AreMarks t old → rows * length old ≤ length follow
+  pub follow_in : (old : List ℕ) → AreMarks t old
+      → held.rows * length old ≤ length held.follow.items
   follow_in old a = let n = wide old a in let r = m.rows_is in let f = m.tables.rows in
       rw (n, r, f) (omega arith)
 
   pub marked_in : (old : List ℕ) → AreMarks t old → (p : ℕ) → bit old p ≡ true
-      → p * length old + length old ≤ length follow
+      → p * length old + length old ≤ length held.follow.items
   marked_in old a p h =
       let n = marked_within t old a p h in
       let r = m.rows_is in
       let f = follow_in old a in
-      let w = row_within p rows (length old) (omega arith) in
+      let w = row_within p held.rows (length old) (omega arith) in
       omega arith
 
   -- no state stands past the rows
   pub all_rows : (old : List ℕ) (test : ℕ → Bool) → AreMarks t old
       → any_under (λ p. bit old p && test p) (64 * length old)
-      ≡ any_under (λ p. bit old p && test p) rows
-  all_rows old test a = any_past (λ p. bit old p && test p) rows (64 * length old) (rows_in old a)
+      ≡ any_under (λ p. bit old p && test p) held.rows
+  all_rows old test a = any_past (λ p. bit old p && test p) held.rows (64 * length old)
+      (rows_in old a)
       (λ p l. let n = as_many t in let r = m.rows_is in
       let e : bit old p ≡ false = a.none_past p (omega arith) in ap (λ v. v && test p) e)
 
   pub step_is : (old new : List ℕ) (b : ℕ) → b < 256 → AreMarks t old → length new ≡ length old
       → ((k : ℕ) → k < 64 * length old
-      → bit new k ≡ (any_under (λ p. bit old p && bit follow (64 * (p * length old) + k)) rows
-      && takes_at classes k b)) → IsStep (all_places (automaton t)) old new b
+      → bit new k ≡ (any_under (λ p. bit old p && bit held.follow.items (64 * (p * length old) + k))
+      held.rows && takes_at held.classes.items k b)) → IsStep (all_places (automaton t)) old new b
   step_is old new b l a n h =
       let F : ℕ → Type 0 = λ r. (k : ℕ) → k < 64 * length old
-      → bit new k ≡ (any_under (λ p. bit old p && bit follow (64 * (p * length old) + k)) r
-      && takes_at classes k b) in
-      machine_steps (all_places (automaton t)) width follow accept classes m.tables old new b l
-      (wide old a) n (subst F m.rows_is h)
+      → bit new k ≡ (any_under (λ p. bit old p && bit held.follow.items (64 * (p * length old) + k))
+      r && takes_at held.classes.items k b) in
+      machine_steps (all_places (automaton t)) held.width held.follow.items held.accept.items
+      held.classes.items m.tables old new b l (wide old a) n (subst F m.rows_is h)
 
-  pub accept_in : (states : List ℕ) → AreMarks t states → length states ≡ length accept
+  pub accept_in : (states : List ℕ) → AreMarks t states → length states ≡ length held.accept.items
   accept_in states a = wide states a ∙ sym m.tables.accepts
 
   pub end_is : (states : List ℕ) (v : Bool) → AreMarks t states
-      → ((k : ℕ) → bit states k ≡ true → bit accept k ≡ true → v ≡ true)
-      → (v ≡ true → (k : ℕ) × (bit states k ≡ true) × (bit accept k ≡ true))
+      → ((k : ℕ) → bit states k ≡ true → bit held.accept.items k ≡ true → v ≡ true)
+      → (v ≡ true → (k : ℕ) × (bit states k ≡ true) × (bit held.accept.items k ≡ true))
       → IsEnd (all_places (automaton t)) states v
-  end_is states v a f g = machine_ends (all_places (automaton t)) width follow accept classes
-      m.tables states v (wide states a) f g
+  end_is states v a f g = machine_ends (all_places (automaton t)) held.width held.follow.items
+      held.accept.items held.classes.items m.tables states v (wide states a) f g
 
   -- the tables' loops are places that lead onward, and their steady states are steady places
-  loops_onward : (states : List ℕ) → HasLoop states accept follow classes ↔ MarksLeadOnward t states
+  loops_onward : (states : List ℕ) → HasLoop states held.accept.items held.follow.items
+      held.classes.items ↔ MarksLeadOnward t states
   loops_onward states = (
     λ h. record {
       place = h.0;
       marked = h.1.marked;
-      onward = leads_onward (all_places (automaton t)) width follow accept classes m.tables h.0
-          h.1.last h.1.leads;
+      onward = leads_onward (all_places (automaton t)) held.width held.follow.items
+          held.accept.items held.classes.items m.tables h.0 h.1.last h.1.leads;
     },
     λ s. (
       s.place,
       record {
         marked = s.marked;
-        last = (ends_within_row (all_places (automaton t)) width follow accept classes m.tables
-            s.place s.onward.last).1;
-        leads = onward_leads (all_places (automaton t)) width follow accept classes m.tables s.place
-            s.onward;
+        last = (ends_within_row (all_places (automaton t)) held.width held.follow.items
+            held.accept.items held.classes.items m.tables s.place s.onward.last).1;
+        leads = onward_leads (all_places (automaton t)) held.width held.follow.items
+            held.accept.items held.classes.items m.tables s.place s.onward;
       },
     ),
   )
 
   steady_stay : (states : List ℕ) → is_bare t ≡ false → AreMarks t states
-      → AreSteady states follow classes ↔ MarksStay t states
+      → AreSteady states held.follow.items held.classes.items ↔ MarksStay t states
   steady_stay states b a = (
     λ h. record {
       some = b;
-      each = λ p i. steady_place (all_places (automaton t)) width follow accept classes m.tables
-          states p (wide states a) (marked_within t states a p i) (next_within t p) (h p i);
+      each = λ p i. steady_place (all_places (automaton t)) held.width held.follow.items
+          held.accept.items held.classes.items m.tables states p (wide states a)
+          (marked_within t states a p i) (next_within t p) (h p i);
     },
-    λ s p i. place_steady (all_places (automaton t)) width follow accept classes m.tables states p
-        (wide states a) (marked_within t states a p i) (s.each p i),
+    λ s p i. place_steady (all_places (automaton t)) held.width held.follow.items held.accept.items
+        held.classes.items m.tables states p (wide states a)
+        (marked_within t states a p i) (s.each p i),
   )
 
   pub loops_at : (states shown kept table : List ℕ) (bytes : List Class) → shown ≡ states
-      → kept ≡ accept → table ≡ follow → bytes ≡ classes
+      → kept ≡ held.accept.items → table ≡ held.follow.items → bytes ≡ held.classes.items
       → HasLoop shown kept table bytes ↔ MarksLeadOnward t states
   loops_at states shown kept table bytes e f g i =
       subst (λ w. HasLoop w kept table bytes ↔ MarksLeadOnward t states) (sym e)
       (subst (λ w. HasLoop states w table bytes ↔ MarksLeadOnward t states) (sym f)
-      (subst (λ w. HasLoop states accept w bytes ↔ MarksLeadOnward t states) (sym g)
-      (subst (λ w. HasLoop states accept follow w ↔ MarksLeadOnward t states) (sym i)
-      (loops_onward states))))
+      (subst (λ w. HasLoop states held.accept.items w bytes ↔ MarksLeadOnward t states) (sym g)
+      (subst (λ w. HasLoop states held.accept.items held.follow.items w ↔ MarksLeadOnward t states)
+      (sym i) (loops_onward states))))
 
   pub steady_at : (states shown table : List ℕ) (bytes : List Class) → shown ≡ states
-      → table ≡ follow → bytes ≡ classes → is_bare t ≡ false → AreMarks t states
-      → AreSteady shown table bytes ↔ MarksStay t states
+      → table ≡ held.follow.items → bytes ≡ held.classes.items → is_bare t ≡ false
+      → AreMarks t states → AreSteady shown table bytes ↔ MarksStay t states
   steady_at states shown table bytes e f g b a =
       subst (λ w. AreSteady w table bytes ↔ MarksStay t states) (sym e)
       (subst (λ w. AreSteady states w bytes ↔ MarksStay t states) (sym f)
-      (subst (λ w. AreSteady states follow w ↔ MarksStay t states) (sym g)
+      (subst (λ w. AreSteady states held.follow.items w ↔ MarksStay t states) (sym g)
       (steady_stay states b a)))
 
-  pub rows_at : (states shown table : List ℕ) → shown ≡ states → table ≡ follow → AreMarks t states
-      → (p : ℕ) → bit shown p ≡ true → p * length shown + length shown ≤ length table
+  pub rows_at : (states shown table : List ℕ) → shown ≡ states → table ≡ held.follow.items
+      → AreMarks t states → (p : ℕ) → bit shown p ≡ true
+      → p * length shown + length shown ≤ length table
   rows_at states shown table e f a =
       let F : List ℕ → List ℕ → Type 0 = λ s w. (p : ℕ) → bit s p ≡ true → p * length s + length s
       ≤ length w in
       subst (λ s. F s table) (sym e) (subst (F states) (sym f) (marked_in states a))
 
-  pub ended_rows_at : (kept table : List ℕ) → kept ≡ accept → table ≡ follow → HaveRows kept table
+  pub ended_rows_at : (kept table : List ℕ) → kept ≡ held.accept.items → table ≡ held.follow.items
+      → HaveRows kept table
   ended_rows_at kept table e f =
       subst (λ w. HaveRows w table) (sym e)
-      (subst (HaveRows accept) (sym f)
-      (machine_rows (all_places (automaton t)) width follow accept classes m.tables))
+      (subst (HaveRows held.accept.items) (sym f)
+      (machine_rows (all_places (automaton t)) held.width held.follow.items held.accept.items
+      held.classes.items m.tables))
 
-  pub accept_at : (states shown kept : List ℕ) → shown ≡ states → kept ≡ accept → AreMarks t states
-      → length kept ≡ length shown
+  pub accept_at : (states shown kept : List ℕ) → shown ≡ states → kept ≡ held.accept.items
+      → AreMarks t states → length kept ≡ length shown
   accept_at states shown kept e f a = ap length f ∙ sym (accept_in states a) ∙ sym (ap length e)
 
-  pub step_at : (old new shown : List ℕ) (kept : List Class) (b : ℕ) → shown ≡ follow
-      → kept ≡ classes → b < 256 → AreMarks t old → length new ≡ length old
+  pub step_at : (old new shown : List ℕ) (kept : List Class) (b : ℕ) → shown ≡ held.follow.items
+      → kept ≡ held.classes.items → b < 256 → AreMarks t old → length new ≡ length old
       → ((k : ℕ) → k < 64 * length old
       → bit new k ≡ (any_under (λ p. bit old p && bit shown (64 * (p * length old) + k))
       (64 * length old) && takes_at kept k b)) → IsStep (all_places (automaton t)) old new b
@@ -452,13 +467,13 @@ module _ (t : Tree) (rows width : ℕ) (follow accept : List ℕ) (classes : Lis
       → bit new k ≡ (any_under (λ p. bit old p && bit s (64 * (p * length old) + k))
       (64 * length old) && takes_at kept k b) in
       let G : List Class → Type 0 = λ s. (k : ℕ) → k < 64 * length old
-      → bit new k ≡ (any_under (λ p. bit old p && bit follow (64 * (p * length old) + k))
+      → bit new k ≡ (any_under (λ p. bit old p && bit held.follow.items (64 * (p * length old) + k))
       (64 * length old) && takes_at s k b) in
       step_is old new b l a n (λ k u. subst G f (subst F e h) k u
-      ∙ ap (λ v. v && takes_at classes k b)
-      (all_rows old (λ p. bit follow (64 * (p * length old) + k)) a))
+      ∙ ap (λ v. v && takes_at held.classes.items k b)
+      (all_rows old (λ p. bit held.follow.items (64 * (p * length old) + k)) a))
 
-  pub end_at : (states shown kept : List ℕ) (v : Bool) → shown ≡ states → kept ≡ accept
+  pub end_at : (states shown kept : List ℕ) (v : Bool) → shown ≡ states → kept ≡ held.accept.items
       → AreMarks t states → ((k : ℕ) → bit shown k ≡ true → bit kept k ≡ true → v ≡ true)
       → (v ≡ true → (k : ℕ) × (bit shown k ≡ true) × (bit kept k ≡ true))
       → IsEnd (all_places (automaton t)) states v
@@ -474,11 +489,11 @@ module _ (t : Tree) (rows width : ℕ) (follow accept : List ℕ) (classes : Lis
       ))
 
   -- the words have no more bits than there are classes, but for those of one word
-  pub room : (old : List ℕ) → AreMarks t old → 64 * length old < length classes + 64
+  pub room : (old : List ℕ) → AreMarks t old → 64 * length old < length held.classes.items + 64
   room old a =
       let n = wide old a in
-      let w : width ≡ (length (all_places (automaton t)) + 63) / 64 = m.tables.wide in
-      let l : length classes ≡ length (all_places (automaton t)) =
-      sym (length-map classes class_bytes) ∙ ap length m.tables.bytes
+      let w : held.width ≡ (length (all_places (automaton t)) + 63) / 64 = m.tables.wide in
+      let l : length held.classes.items ≡ length (all_places (automaton t)) =
+      sym (length-map held.classes.items class_bytes) ∙ ap length m.tables.bytes
       ∙ length-map (all_places (automaton t)) bytes_in in
       omega arith

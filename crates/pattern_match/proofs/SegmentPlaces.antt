@@ -63,7 +63,7 @@ none_and : (v w : Bool) → w ≡ false → (v && w) ≡ false
 none_and true w e = e
 none_and false w e = refl
 
-followed_numbers : (v : Bool) (by k : ℕ) (next first : List ℕ)
+pub followed_numbers : (v : Bool) (by k : ℕ) (next first : List ℕ)
     → among (up by (if v then added next first else next)) k
     ≡ (among (up by next) k || (v && among (up by first) k))
 followed_numbers true by k next first = among_added by next first k

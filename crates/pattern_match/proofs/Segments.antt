@@ -145,7 +145,7 @@ before_segment rows new bytes start middle first last second later ends stops st
       live = refl;
     }
 
-first_turned : (v : Bool) (start middle n k : ℕ) (xs ys : List ℕ) → middle ≡ start + n
+pub first_turned : (v : Bool) (start middle n k : ℕ) (xs ys : List ℕ) → middle ≡ start + n
     → (among (up start xs) k || (v && among (up middle ys) k))
     ≡ among (up start (if v then xs ++ up n ys else xs)) k
 first_turned true start middle n k xs ys m =

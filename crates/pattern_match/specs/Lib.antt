@@ -12,4 +12,10 @@ pub mod Whole
 pub mod Compiled
 pub mod Onwards
 pub mod Loops
+pub mod LoopTests
 pub mod Settled
+pub mod Passes
+pub mod Operations
+pub mod Spelling
+pub mod Shapes
+pub mod Over

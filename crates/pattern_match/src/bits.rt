@@ -131,6 +131,36 @@ pub fn set_if(words: &mut [u64], k: usize, is_wanted: bool)
     }
 }
 
+/// Whether bit k is set. One past the words isn't.
+pub fn is_marked(words: &[u64], k: usize) -> bool
+    ensures { result ≡ bit words.now k }
+{
+    if k / 64 < words.len() {
+        return has_bit(words, 0, k);
+    }
+    false
+}
+
+/// The number of the first bit that is set from a number on, before an end; the end where there is
+/// none.
+pub fn next_marked(words: &[u64], from: usize, end: usize) -> usize
+    requires { from ≤ end }
+    ensures least { from ≤ result }
+    ensures most { result ≤ end }
+    ensures none { (k : ℕ) → from ≤ k → k < result → bit words.now k ≡ false }
+    ensures marked { result < end → bit words.now result ≡ true }
+{
+    let mut skipped = from % 64;
+    'words: for i in from / 64..words.len().min(end / 64 + 1) {
+        let left = words[i] >> skipped;
+        if left != 0 {
+            return end.min(64 * i + skipped + left.trailing_zeros() as usize);
+        }
+        skipped = 0;
+    }
+    end
+}
+
 /// Whether some bit is set in both.
 pub fn have_common(words: &[u64], others: &[u64]) -> bool
     requires { length words.now ≡ length others.now }

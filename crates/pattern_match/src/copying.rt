@@ -11,9 +11,9 @@ use crate::class::Class;
 use crate::segment::{Segment, grow};
 use label_base::OutOfMemory;
 
-// How many copies of a piece a repeat is written as. Where there is no upper number, the last one
-// is entered again.
-fn copies_of(least: u32, most: Option<u32>) -> u32
+/// How many copies of a piece a repeat is written as. Where there is no upper number, the last one
+/// is entered again.
+pub fn copies_of(least: u32, most: Option<u32>) -> u32
     ensures { result ≡ copies_of least most }
 {
     match most {

@@ -11,6 +11,7 @@ ghost use Rattle.pattern_match.specs.States.{AreMarksOf, IsBehind, IsRead, is_ba
 use crate::bits::{have_any, have_common};
 use crate::loops::has_loop;
 use crate::marks::Marks;
+use crate::over::ends_over;
 use crate::readying::PatternTables;
 use crate::steady::are_steady;
 use label_base::OutOfMemory;
@@ -93,6 +94,11 @@ impl<'a> Machine<'a> {
         ensures room { marks.new.room ≡ marks.old.room }
     {
         let tables = self.tables;
+        let operations = tables.operations.as_slice();
+        if !operations.is_empty() {
+            marks.step_over(operations, byte);
+            return;
+        }
         marks.step(tables.follow.as_slice(), tables.classes.as_slice(), byte);
     }
 
@@ -105,20 +111,29 @@ impl<'a> Machine<'a> {
         if tables.is_bare {
             return true;
         }
+        let operations = tables.operations.as_slice();
+        if !operations.is_empty() {
+            return ends_over(operations, marks.as_slice());
+        }
         have_common(marks.as_slice(), tables.accept.as_slice())
     }
 
     /// Whether a text may end in some marked state that leads to a loop, in which one may end too.
     /// Then every text of bytes other than 0 is left.
-    pub fn takes_all(&self, marks: &Marks) -> bool
-        requires { AreMarksOf self.now marks.now.marks }
-        ensures exact { IsTrue result ↔ MarksLeadOnward self.now marks.now.marks }
+    pub fn takes_all(&self, marks: &mut Marks) -> bool
+        requires { AreMarksOf self.now marks.old.marks }
+        ensures exact { IsTrue result ↔ MarksLeadOnward self.now marks.old.marks }
         ensures texts { result ≡ true → (text : List ℕ) → AreTextBytes text
-            → IsBehind self.now marks.now.marks text }
+            → IsBehind self.now marks.old.marks text }
+        ensures same { marks.new ≡ marks.old }
     {
         let tables = self.tables;
         if tables.is_bare {
             return false;
+        }
+        let operations = tables.operations.as_slice();
+        if !operations.is_empty() {
+            return marks.has_loop_over(operations);
         }
         has_loop(
             marks.as_slice(),
@@ -130,16 +145,21 @@ impl<'a> Machine<'a> {
 
     /// Whether it holds more than the empty text, and each byte other than 0 leads from each marked
     /// state to all of these and no other. Then every such byte leaves what was left before.
-    pub fn stays(&self, marks: &Marks) -> bool
-        requires { AreMarksOf self.now marks.now.marks }
-        ensures exact { IsTrue result ↔ MarksStay self.now marks.now.marks }
+    pub fn stays(&self, marks: &mut Marks) -> bool
+        requires { AreMarksOf self.now marks.old.marks }
+        ensures exact { IsTrue result ↔ MarksStay self.now marks.old.marks }
         ensures bytes { result ≡ true → (byte : ℕ) → 0 < byte → byte < 256
-            → (text : List ℕ) → IsBehind self.now marks.now.marks (byte ∷ text)
-            ↔ IsBehind self.now marks.now.marks text }
+            → (text : List ℕ) → IsBehind self.now marks.old.marks (byte ∷ text)
+            ↔ IsBehind self.now marks.old.marks text }
+        ensures same { marks.new ≡ marks.old }
     {
         let tables = self.tables;
         if tables.is_bare {
             return false;
+        }
+        let operations = tables.operations.as_slice();
+        if !operations.is_empty() {
+            return marks.are_steady_over(operations);
         }
         are_steady(
             marks.as_slice(),

@@ -1,15 +1,23 @@
-ghost use Rattle.std.specs.Prelude.{◌≡◌, ◌+◌, ◌-◌, ◌*◌, ◌<◌, ◌≤◌, ◌==◌, ◌&&◌, true, ℕ, IfOk};
-ghost use Rattle.std.specs.Prelude.{length, nat_lt, vec_capacity};
+ghost use Rattle.std.specs.Prelude.{◌≡◌, ◌+◌, ◌-◌, ◌*◌, ◌<◌, ◌≤◌, ◌==◌, ◌&&◌, ◌↔◌, true, ℕ};
+ghost use Rattle.std.specs.Prelude.{IfOk, IsTrue, length, nat_lt, vec_capacity};
 ghost use Rattle.pattern_match.specs.Class.{takes_at};
+ghost use Rattle.pattern_match.specs.Over.{HaveBits, enters, operation_places};
+ghost use Rattle.pattern_match.specs.Settled.{IsSteadyPlace, LeadsOnward};
 ghost use Rattle.pattern_match.specs.States.{bit};
 ghost use Rattle.pattern_match.specs.Tables.{any_under};
+ghost use Rattle.pattern_match.specs.declared.entry.Entry.TheVariants.{By};
 
 use crate::bits::{clear, gather, gathered, set_if};
 use crate::class::Class;
+use crate::entry::Entry;
+use crate::operation::Operation;
+use crate::over::go_over;
+use crate::settling::{are_steady_over, has_loop_over};
 use crate::taking::{keep_taking, taking};
 use label_base::OutOfMemory;
 use std::alloc::Global;
 use std::marker::Model;
+use std::mem;
 
 /// The marked states of an automaton as bits of words, and for how many words there is room, which
 /// may be more than this automaton has.
@@ -18,6 +26,9 @@ pub struct Marks {
     marks: Vec<u64>,
     // Where the next marks are gathered.
     reached: Vec<u64>,
+    // Where one state, and a row of those that follow it, are put together.
+    alone: Vec<u64>,
+    row: Vec<u64>,
     room: usize,
 }
 
@@ -31,8 +42,11 @@ impl Model for Marks {
 
     ghost invariant = { λ s. record {
       even : length s.reached.items ≡ length s.marks.items;
+      fits : length s.marks.items ≤ s.room;
       marks_fit : s.room ≤ vec_capacity s.marks;
       reached_fit : s.room ≤ vec_capacity s.reached;
+      alone_fit : s.room ≤ vec_capacity s.alone;
+      row_fit : s.room ≤ vec_capacity s.row;
     } };
 }
 
@@ -68,6 +82,8 @@ impl Marks {
         Ok(Marks {
             marks: Vec::with_capacity(alloc, words)?,
             reached: Vec::with_capacity(alloc, words)?,
+            alone: Vec::with_capacity(alloc, words)?,
+            row: Vec::with_capacity(alloc, words)?,
             room: words,
         })
     }
@@ -112,6 +128,58 @@ impl Marks {
         }
         gather(&mut self.reached, self.marks.as_slice(), follow);
         keep_taking(&mut self.marks, self.reached.as_slice(), classes, byte);
+    }
+
+    /// Goes on to the states that follow by the operations, and whose bytes have this one.
+    pub(crate) fn step_over(&mut self, operations: &[Operation], byte: u8)
+        requires { HaveBits operations.now (length self.old.marks) }
+        ensures bits { (q : ℕ) → bit self.new.marks q
+            ≡ enters (By byte) (operation_places operations.now) self.old.marks q }
+        ensures words { length self.new.marks ≡ length self.old.marks }
+        ensures room { self.new.room ≡ self.old.room }
+    {
+        let entry = Entry::By(byte);
+        go_over(operations, entry, self.marks.as_slice(), &mut self.reached);
+        mem::swap(&mut self.marks, &mut self.reached);
+    }
+
+    /// Whether behind some marked state of the operations a text may end, and it leads to a loop,
+    /// behind which one may end too.
+    pub(crate) fn has_loop_over(&mut self, operations: &[Operation]) -> bool
+        requires { HaveBits operations.now (length self.old.marks) }
+        ensures value { IsTrue result ↔ ((p : ℕ) × (bit self.old.marks p ≡ true)
+            × LeadsOnward (operation_places operations.now) p) }
+        ensures same { self.new ≡ self.old }
+    {
+        let words = self.marks.len();
+        resize(&mut self.alone, words);
+        resize(&mut self.row, words);
+        has_loop_over(
+            operations,
+            self.marks.as_slice(),
+            &mut self.alone,
+            &mut self.row,
+            &mut self.reached,
+        )
+    }
+
+    /// Whether the states that follow each marked one by the operations are those that are marked,
+    /// and each has every byte but 0.
+    pub(crate) fn are_steady_over(&mut self, operations: &[Operation]) -> bool
+        requires { HaveBits operations.now (length self.old.marks) }
+        ensures value { IsTrue result ↔ ((p : ℕ) → bit self.old.marks p ≡ true
+            → IsSteadyPlace (operation_places operations.now) self.old.marks p) }
+        ensures same { self.new ≡ self.old }
+    {
+        let words = self.marks.len();
+        resize(&mut self.alone, words);
+        resize(&mut self.row, words);
+        are_steady_over(
+            operations,
+            self.marks.as_slice(),
+            &mut self.alone,
+            &mut self.row,
+        )
     }
 
     /// No marks.

@@ -157,17 +157,18 @@ impl<'a> Matcher<'a> {
     /// every byte other than 0, and in which a text may end too. Then the language holds the text
     /// that was read and each text of such bytes that begins with it. It may hold them, and this be
     /// false, where that takes several states together.
-    pub fn takes_all(&self, states: &States) -> bool
-        requires { AreStatesOf self.now states.now.known }
-        ensures exact { IsTrue result ↔ StatesLeadOnward self.now states.now.known }
-        ensures texts { result ≡ true → (text : List ℕ) → StandsFor self.now states.now.known text
+    pub fn takes_all(&self, states: &mut States) -> bool
+        requires { AreStatesOf self.now states.old.known }
+        ensures exact { IsTrue result ↔ StatesLeadOnward self.now states.old.known }
+        ensures texts { result ≡ true → (text : List ℕ) → StandsFor self.now states.old.known text
             → TakesAll self.now text }
+        ensures same { states.new ≡ states.old }
     {
         let start = self.start;
         if states.seen != start.len() {
             return false;
         }
-        self.machine.takes_all(&states.marks)
+        self.machine.takes_all(&mut states.marks)
     }
 
     /// Whether nothing is left, since a byte was met that isn't the literal start's; or the whole
@@ -175,12 +176,13 @@ impl<'a> Matcher<'a> {
     /// state of now to all of these and no other. Then the states stand as well for the text with
     /// one more such byte, whichever it is. They may, and this be false, where other states leave
     /// the same.
-    pub fn stays(&self, states: &States) -> bool
-        requires { AreStatesOf self.now states.now.known }
-        ensures exact { IsTrue result ↔ StatesStay self.now states.now.known }
+    pub fn stays(&self, states: &mut States) -> bool
+        requires { AreStatesOf self.now states.old.known }
+        ensures exact { IsTrue result ↔ StatesStay self.now states.old.known }
         ensures stands { result ≡ true → (byte : ℕ) → 0 < byte → byte < 256
-            → (text : List ℕ) → StandsFor self.now states.now.known text
-            → StandsFor self.now states.now.known (text ++ byte ∷ []) }
+            → (text : List ℕ) → StandsFor self.now states.old.known text
+            → StandsFor self.now states.old.known (text ++ byte ∷ []) }
+        ensures same { states.new ≡ states.old }
     {
         let start = self.start;
         if states.seen > start.len() {
@@ -189,7 +191,7 @@ impl<'a> Matcher<'a> {
         if states.seen < start.len() {
             return false;
         }
-        self.machine.stays(&states.marks)
+        self.machine.stays(&mut states.marks)
     }
 
     /// Whether some text of the language begins with the text that was read.
@@ -330,7 +332,7 @@ mod tests {
         let matcher = Matcher::new(pattern, &tables);
         let mut states = matcher.states(alloc)?;
         matcher.read(&mut states, text);
-        Ok((matcher.takes_all(&states), matcher.stays(&states)))
+        Ok((matcher.takes_all(&mut states), matcher.stays(&mut states)))
     }
 
     // Whether the pattern is told to hold whatever begins with the text, and whether its states are
@@ -423,6 +425,32 @@ mod tests {
         let alloc = rt.alloc();
         assert_eq!(rt; goes_on(alloc, b"/a/.*b?", b"/a/c"), Some((true, false)));
         assert_eq!(rt; goes_on(alloc, b"/a", b"/b"), Some((false, true)));
+    }
+
+    // More than 63 states may be gone over as operations.
+    #[test]
+    fn texts_of_many_states(rt: HostRuntime) {
+        let alloc = rt.alloc();
+        let text = b"abaaaaaaaaaaaaaaaaaaaaaaaaaaaaaaaaaaaaaaabx";
+        assert_eq!(rt; held(alloc, b"(ab?){40}x", text), Some(true));
+        assert_eq!(rt; held(alloc, b"(ab?){39}x", text), Some(false));
+        assert_eq!(rt; held(alloc, b"(ab?){40}", &[b'a'; 40]), Some(true));
+        assert_eq!(rt; held(alloc, b"(ab?){40}", &[b'a'; 41]), Some(false));
+        assert_eq!(rt; held(alloc, b"(ab?){40}x", &[b'a'; 40]), Some(false));
+    }
+
+    #[test]
+    fn whatever_follows_many_states(rt: HostRuntime) {
+        let alloc = rt.alloc();
+        assert_eq!(rt;
+            goes_on(alloc, b"a{70}.*", &[b'a'; 69]),
+            Some((false, false))
+        );
+        assert_eq!(rt;
+            goes_on(alloc, b"a{70}.*", &[b'a'; 70]),
+            Some((true, false))
+        );
+        assert_eq!(rt; goes_on(alloc, b"a{70}.*", &[b'a'; 71]), Some((true, true)));
     }
 
     #[test]

@@ -4,6 +4,7 @@ ghost use Rattle.pattern_syntax.specs.Nodes.{nodes_tree, rest_tree};
 ghost use Rattle.pattern_syntax.specs.Tree.{Tree};
 ghost use Rattle.pattern_syntax.specs.Starts.{behind_start};
 ghost use Rattle.pattern_match.specs.Compiled.{AreTablesOf, IsReadyFor};
+ghost use Rattle.pattern_match.specs.Operations.{AreOperationsOf};
 ghost use Rattle.pattern_match.specs.States.{HasRoomFor, words_for};
 ghost use Rattle.pattern_match.specs.Segments.{in_word};
 ghost use Rattle.pattern_match.specs.Whole.{IsWholeSegment};
@@ -12,14 +13,17 @@ use crate::bits::with_bit_if;
 use crate::class::Class;
 use crate::compile::compiled;
 use crate::layout::lay;
+use crate::operation::Operation;
+use crate::part::Part;
 use crate::segment::Segment;
+use crate::spelling::operations_of;
 use crate::tables::{accept_row, classes_of, follow_table};
 use label_base::OutOfMemory;
 use pattern_syntax::{Node, Pattern};
 use std::alloc::Global;
 
 /// The tables of the automaton of what stands behind a pattern's literal start. One that holds the
-/// empty text alone has none.
+/// empty text alone has none, and one of many states may have operations in place of rows.
 #[derive(Drop)]
 pub struct PatternTables {
     pub(crate) is_bare: bool,
@@ -32,6 +36,8 @@ pub struct PatternTables {
     pub(crate) accept: Vec<u64>,
     // The bytes that lead to each state.
     pub(crate) classes: Vec<Class>,
+    // The operations that are gone over, where there are no rows.
+    pub(crate) operations: Vec<Operation>,
 }
 
 impl PatternTables {
@@ -57,6 +63,7 @@ impl PatternTables {
     fn bare(alloc: Global) -> PatternTables
         ensures bare { result.is_bare ≡ true }
         ensures width { result.width ≡ 0 }
+        ensures operations { result.operations.items ≡ [] }
     {
         PatternTables {
             is_bare: true,
@@ -65,6 +72,7 @@ impl PatternTables {
             follow: Vec::new(alloc),
             accept: Vec::new(alloc),
             classes: Vec::new(alloc),
+            operations: Vec::new(alloc),
         }
     }
 }
@@ -112,6 +120,7 @@ fn closed(
         follow,
         accept: one_word(alloc, last)?,
         classes: all,
+        operations: Vec::new(alloc),
     })
 }
 
@@ -165,6 +174,34 @@ fn words_for(bits: usize) -> Result<usize, OutOfMemory>
     Ok((bits + 63) / 64)
 }
 
+// No rows, but the operations.
+fn with_operations(alloc: Global, operations: Vec<Operation>) -> Result<PatternTables, OutOfMemory>
+    requires { (tree : Tree) × AreOperationsOf operations.items tree }
+    ensures { IfOk result (λ ready. (tree : Tree)
+        → AreOperationsOf operations.items tree → IsReadyFor tree ready) }
+{
+    let rows = Part::of(operations.as_slice()).places() + 1;
+    Ok(PatternTables {
+        is_bare: false,
+        rows,
+        width: words_for(rows)?,
+        follow: Vec::new(alloc),
+        accept: Vec::new(alloc),
+        classes: Vec::new(alloc),
+        operations,
+    })
+}
+
+// What the nodes' automaton has in place of rows, where it can be gone over.
+fn of_operations(alloc: Global, nodes: &[Node]) -> Result<Option<PatternTables>, OutOfMemory>
+    ensures { IfOk result (λ found. IfSome found (IsReadyFor (nodes_tree nodes.now))) }
+{
+    match operations_of(alloc, nodes)? {
+        Some(operations) => Ok(Some(with_operations(alloc, operations)?)),
+        None => Ok(None),
+    }
+}
+
 // The tables of the nodes' automaton, however many places it has.
 fn of_many(alloc: Global, nodes: &[Node]) -> Result<PatternTables, OutOfMemory>
     ensures { IfOk result (IsReadyFor (nodes_tree nodes.now)) }
@@ -182,6 +219,7 @@ fn of_many(alloc: Global, nodes: &[Node]) -> Result<PatternTables, OutOfMemory>
         follow: follow_table(alloc, positions.as_slice(), width)?,
         accept: accept_row(alloc, positions.as_slice(), width)?,
         classes: classes_of(alloc, positions.as_slice())?,
+        operations: Vec::new(alloc),
     })
 }
 
@@ -206,13 +244,23 @@ fn sequence(rest: Vec<Node>) -> Result<Vec<Node>, OutOfMemory>
     Ok(nodes)
 }
 
+// The tables of the nodes' automaton, where its places aren't few.
+fn of_others(alloc: Global, nodes: &[Node]) -> Result<PatternTables, OutOfMemory>
+    ensures { IfOk result (IsReadyFor (nodes_tree nodes.now)) }
+{
+    match of_operations(alloc, nodes)? {
+        Some(ready) => Ok(ready),
+        None => of_many(alloc, nodes),
+    }
+}
+
 // The tables of the automaton of nodes in postfix order.
 fn made_ready(alloc: Global, nodes: &[Node]) -> Result<PatternTables, OutOfMemory>
     ensures { IfOk result (IsReadyFor (nodes_tree nodes.now)) }
 {
     match of_few(alloc, nodes)? {
         Some(ready) => Ok(ready),
-        None => of_many(alloc, nodes),
+        None => of_others(alloc, nodes),
     }
 }
 

@@ -12,7 +12,7 @@ test_sync : IsSync Membership.the_row
 test_sync = search (sendable, crosses, tables_sync) depth 40
 
 rule_sync : IsSync CompiledSpec.the_row
-rule_sync = search (sendable, crosses, spec_sync, test_sync) depth 40
+rule_sync = search (sendable, crosses, spec_sync, test_sync) depth 40 fits 20000
 
 starts_sync : IsSync Starts.the_row
 starts_sync = search (sendable, crosses) depth 40

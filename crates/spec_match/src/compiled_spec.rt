@@ -138,15 +138,17 @@ impl CompiledSpec {
     }
 
     /// Whether the specification fits the text that was read and each text that begins with it,
-    /// whatever kind is asked for, as far as single places of its automaton tell that.
-    pub fn covers(&self, states: &States) -> bool
-        requires { AreStatesOf self.now.spec.pattern states.now.known }
+    /// whatever kind is asked for, as far as single places of its automaton tell that. The states
+    /// are worked in, and left as they were.
+    pub fn covers(&self, states: &mut States) -> bool
+        requires { AreStatesOf self.now.spec.pattern states.old.known }
         ensures any { result ≡ true → self.now.spec.kind ≡ None }
         ensures exact { self.now.spec.kind ≡ None
-            → IsTrue result ↔ StatesLeadOnward self.now.spec.pattern states.now.known }
+            → IsTrue result ↔ StatesLeadOnward self.now.spec.pattern states.old.known }
         ensures holds { result ≡ true → (text : List ℕ)
-            → StandsFor self.now.spec.pattern states.now.known text
+            → StandsFor self.now.spec.pattern states.old.known text
             → TakesAll self.now.spec.pattern text }
+        ensures same { states.new ≡ states.old }
     {
         if self.spec.kind.is_some() {
             return false;
@@ -155,13 +157,15 @@ impl CompiledSpec {
     }
 
     /// Whether the states stand as well for the text with one more byte, whichever it is, other
-    /// than 0, as far as single places of the automaton tell that.
-    pub fn stays(&self, states: &States) -> bool
-        requires { AreStatesOf self.now.spec.pattern states.now.known }
-        ensures exact { IsTrue result ↔ StatesStay self.now.spec.pattern states.now.known }
+    /// than 0, as far as single places of the automaton tell that. The states are worked in, and
+    /// left as they were.
+    pub fn stays(&self, states: &mut States) -> bool
+        requires { AreStatesOf self.now.spec.pattern states.old.known }
+        ensures exact { IsTrue result ↔ StatesStay self.now.spec.pattern states.old.known }
         ensures stands { result ≡ true → (byte : ℕ) → 0 < byte → byte < 256
-            → (text : List ℕ) → StandsFor self.now.spec.pattern states.now.known text
-            → StandsFor self.now.spec.pattern states.now.known (text ++ byte ∷ []) }
+            → (text : List ℕ) → StandsFor self.now.spec.pattern states.old.known text
+            → StandsFor self.now.spec.pattern states.old.known (text ++ byte ∷ []) }
+        ensures same { states.new ≡ states.old }
     {
         self.test.stays(&self.spec.pattern, states)
     }

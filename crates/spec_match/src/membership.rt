@@ -114,13 +114,14 @@ impl Membership {
     }
 
     /// Whether the language holds the text that was read and each text that begins with it. It may
-    /// say false where it does.
-    pub fn takes_all(&self, pattern: &Pattern, states: &States) -> bool
+    /// say false where it does. The states are worked in, and left as they were.
+    pub fn takes_all(&self, pattern: &Pattern, states: &mut States) -> bool
         requires test { IsTestOf pattern.now.tree self.now }
-        requires own { AreStatesOf pattern.now.tree states.now.known }
-        ensures exact { IsTrue result ↔ StatesLeadOnward pattern.now.tree states.now.known }
+        requires own { AreStatesOf pattern.now.tree states.old.known }
+        ensures exact { IsTrue result ↔ StatesLeadOnward pattern.now.tree states.old.known }
         ensures texts { result ≡ true → (text : List ℕ)
-            → StandsFor pattern.now.tree states.now.known text → TakesAll pattern.now.tree text }
+            → StandsFor pattern.now.tree states.old.known text → TakesAll pattern.now.tree text }
+        ensures same { states.new ≡ states.old }
     {
         match self {
             Membership::ByStart => false,
@@ -129,14 +130,15 @@ impl Membership {
     }
 
     /// Whether the states stand as well for the text with one more byte, whichever it is, other
-    /// than 0. It may say false where they do.
-    pub fn stays(&self, pattern: &Pattern, states: &States) -> bool
+    /// than 0. It may say false where they do. The states are worked in, and left as they were.
+    pub fn stays(&self, pattern: &Pattern, states: &mut States) -> bool
         requires test { IsTestOf pattern.now.tree self.now }
-        requires own { AreStatesOf pattern.now.tree states.now.known }
-        ensures exact { IsTrue result ↔ StatesStay pattern.now.tree states.now.known }
+        requires own { AreStatesOf pattern.now.tree states.old.known }
+        ensures exact { IsTrue result ↔ StatesStay pattern.now.tree states.old.known }
         ensures stands { result ≡ true → (byte : ℕ) → 0 < byte → byte < 256
-            → (text : List ℕ) → StandsFor pattern.now.tree states.now.known text
-            → StandsFor pattern.now.tree states.now.known (text ++ byte ∷ []) }
+            → (text : List ℕ) → StandsFor pattern.now.tree states.old.known text
+            → StandsFor pattern.now.tree states.old.known (text ++ byte ∷ []) }
+        ensures same { states.new ≡ states.old }
     {
         match self {
             Membership::ByStart => stays_text(pattern, states),

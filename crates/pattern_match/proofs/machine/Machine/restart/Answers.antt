@@ -5,20 +5,14 @@ use Rattle.pattern_match.proofs.machine.Machine.restart.Goals as goal
 pub returns-clause-made : goal.returns-clause-made
 returns-clause-made c =
     let r = ready_by c.self.inside c.args.self.now c.self.view_is c.self.invariant in
-    restart_made c.args.self.now c.self.inside.tables.now.is_bare c.self.inside.tables.now.rows
-    c.self.inside.tables.now.width c.self.inside.tables.now.follow.items
-    c.self.inside.tables.now.accept.items
-    c.self.inside.tables.now.classes.items r c.restart.new.self.marks
+    restart_made c.args.self.now c.self.inside.tables.now r c.restart.new.self.marks
     c.restart.ensures.words (λ k l. c.restart.ensures.bits k
     (subst (λ n. k < 64 * n) c.restart.ensures.words l))
 
 pub returns-clause-starts : goal.returns-clause-starts
 returns-clause-starts c =
     let r = ready_by c.self.inside c.args.self.now c.self.view_is c.self.invariant in
-    restart_starts c.args.self.now c.self.inside.tables.now.is_bare c.self.inside.tables.now.rows
-    c.self.inside.tables.now.width c.self.inside.tables.now.follow.items
-    c.self.inside.tables.now.accept.items
-    c.self.inside.tables.now.classes.items r c.restart.new.self.marks
+    restart_starts c.args.self.now c.self.inside.tables.now r c.restart.new.self.marks
     c.restart.ensures.words (λ k l. c.restart.ensures.bits k
     (subst (λ n. k < 64 * n) c.restart.ensures.words l))
 
@@ -26,7 +20,5 @@ pub restart-requires : goal.restart-requires
 restart-requires c =
     let r = ready_by c.self.inside c.args.self.now c.self.view_is c.self.invariant in
     subst (λ n. n ≤ c.args.marks.now.room)
-    (words_are c.args.self.now c.self.inside.tables.now.is_bare c.self.inside.tables.now.rows
-    c.self.inside.tables.now.width c.self.inside.tables.now.follow.items
-    c.self.inside.tables.now.accept.items c.self.inside.tables.now.classes.items r)
+    (words_are c.args.self.now c.self.inside.tables.now r)
     c.requires

@@ -5,14 +5,9 @@ use Rattle.pattern_match.proofs.readying.PatternTables.words.Goals as goal
 
 pub returns-clause-value : goal.returns-clause-value
 returns-clause-value c = λ tree tables.
-    let t = c.args.self.now in
-    sym (words_are (behind_start tree) t.is_bare t.rows t.width t.follow.items t.accept.items
-    t.classes.items tables.behind)
+    sym (words_are (behind_start tree) c.args.self.now tables.behind)
 
 pub returns-clause-room : goal.returns-clause-room
 returns-clause-room c = λ tree tables. record {
-  words =
-      let t = c.args.self.now in
-      let e = words_are (behind_start tree) t.is_bare t.rows t.width t.follow.items t.accept.items
-      t.classes.items tables.behind in omega arith;
+  words = let e = words_are (behind_start tree) c.args.self.now tables.behind in omega arith;
 }

@@ -1,0 +1,169 @@
+ghost use Rattle.std.specs.Prelude.{◌≡◌, ◌∷◌, List, []};
+ghost use Rattle.pattern_syntax.specs.Reading.{positions};
+ghost use Rattle.pattern_syntax.specs.Shape.{tree_size};
+ghost use Rattle.pattern_syntax.specs.Tree.{Tree};
+ghost use Rattle.pattern_match.specs.Operations.{AreOperationsOf, SpellTree};
+ghost use Rattle.pattern_match.specs.Passes.{holds_nothing};
+ghost use Rattle.pattern_match.specs.Shapes.{shape_tree};
+ghost use Rattle.pattern_match.specs.Spelling.{SpellTrees};
+
+use crate::class::Class;
+use crate::operation::Operation;
+use pattern_syntax::Node;
+use std::marker::Model;
+
+/// A part of a pattern, as its operations, seen as its tree.
+#[derive(Drop)]
+pub struct Part<'a> {
+    operations: &'a [Operation],
+}
+
+impl<'a> Model for Part<'a> {
+    ghost use Rattle.pattern_syntax.specs.Tree.{Tree, tree_code};
+
+    ghost Value = { Tree };
+
+    ghost coded = { tree_code };
+
+    ghost use Rattle.pattern_match.specs.Operations.{SpellTree, operations_tree};
+
+    ghost view = { λ p. operations_tree p.operations.now };
+
+    ghost invariant = { λ p. SpellTree p.operations.now (operations_tree p.operations.now) };
+}
+
+/// What a part is made of.
+#[derive(Drop)]
+pub enum Shape<'a> {
+    /// A place of these bytes.
+    Set(Class),
+    /// The empty sequence.
+    Nothing,
+    /// One part and then another.
+    Both(Part<'a>, Part<'a>),
+    /// The choice between two parts.
+    Either(Part<'a>, Part<'a>),
+    /// A part, from `least` to `most` times, or without an upper number.
+    Repeat {
+        least: u32,
+        most: Option<u32>,
+        piece: Part<'a>,
+    },
+}
+
+impl<'a> Part<'a> {
+    /// The part that all of the operations are.
+    pub fn of(operations: &'a [Operation]) -> Part<'a>
+        requires { (tree : Tree) × AreOperationsOf operations.now tree }
+        ensures { (tree : Tree) → AreOperationsOf operations.now tree → result ≡ tree }
+    {
+        Part { operations }
+    }
+
+    /// How many places it has, repeats written out.
+    pub fn places(&self) -> usize
+        ensures { result ≡ positions self.now }
+    {
+        match self.operations.last() {
+            Some(last) => usize::from(last.places),
+            None => 0,
+        }
+    }
+
+    /// Whether it holds the empty text.
+    pub fn holds_nothing(&self) -> bool
+        ensures { result ≡ holds_nothing self.now }
+    {
+        match self.operations.last() {
+            Some(last) => last.holds_nothing,
+            None => true,
+        }
+    }
+
+    /// What it is made of.
+    pub fn shape(&self) -> Shape<'a>
+        ensures { shape_tree result ≡ self.now }
+    {
+        let operations = self.operations;
+        let Some((last, before)) = operations.split_last() else {
+            return Shape::Nothing;
+        };
+        match last.node {
+            Node::Byte(byte) => Shape::Set(Class::Byte(byte)),
+            Node::Set(set) => Shape::Set(Class::Set(set)),
+            Node::Nothing => Shape::Nothing,
+            Node::Both => {
+                let (first, second) = halves(before);
+                Shape::Both(first, second)
+            }
+            Node::Either => {
+                let (left, right) = halves(before);
+                Shape::Either(left, right)
+            }
+            Node::Repeat { least, most } => {
+                let piece = Part { operations: before };
+                Shape::Repeat { least, most, piece }
+            }
+        }
+    }
+}
+
+// How many nodes the part has that ends the operations.
+fn last_nodes(operations: &[Operation]) -> usize
+    ensures { (t : Tree) (trees : List Tree) → SpellTrees operations.now (t ∷ trees)
+        → result ≡ tree_size t }
+{
+    match operations.last() {
+        Some(last) => usize::from(last.nodes),
+        None => 0,
+    }
+}
+
+/// The operations before the part that ends them, and those of that part.
+pub(crate) fn split_last_part(operations: &[Operation]) -> (&[Operation], &[Operation])
+    ensures { (t : Tree) (trees : List Tree) → SpellTrees operations.now (t ∷ trees)
+        → SpellTrees result.0.now trees × SpellTree result.1.now t }
+{
+    let nodes = last_nodes(operations);
+    operations.split_at(operations.len().saturating_sub(nodes))
+}
+
+// The two parts that operations are, one behind the other.
+fn halves<'a>(operations: &'a [Operation]) -> (Part<'a>, Part<'a>)
+    requires { (first : Tree) × ((second : Tree)
+        × SpellTrees operations.now (second ∷ first ∷ [])) }
+    ensures { (first second : Tree) → SpellTrees operations.now (second ∷ first ∷ [])
+        → (result.0 ≡ first) × (result.1 ≡ second) }
+{
+    let (first, second) = split_last_part(operations);
+    (Part { operations: first }, Part { operations: second })
+}
+
+#[cfg(test)]
+mod tests {
+    use super::*;
+    use crate::spelling::operations_of;
+    use std::alloc::Global;
+
+    // How many places the part has that the nodes are.
+    fn places(alloc: Global, nodes: &[Node]) -> Option<usize> {
+        match operations_of(alloc, nodes) {
+            Ok(Some(operations)) => Some(Part::of(operations.as_slice()).places()),
+            _ => None,
+        }
+    }
+
+    #[test]
+    fn places_of_copies(rt: HostRuntime) {
+        let nodes = [
+            Node::Byte(b'a'),
+            Node::Byte(b'b'),
+            Node::Both,
+            Node::Repeat {
+                least: 0,
+                most: Some(3),
+            },
+        ];
+        assert_eq!(rt; places(rt.alloc(), &nodes), Some(6));
+    }
+}
