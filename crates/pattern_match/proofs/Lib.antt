@@ -14,6 +14,7 @@ pub mod SegmentPlaces
 pub mod Segments
 pub mod Repeats
 pub mod PassPlaces
+pub mod Placeless
 pub mod PassRows
 pub mod Linking
 pub mod Growing
@@ -46,3 +47,4 @@ pub mod Turning
 pub mod Barred
 pub mod OpenParts
 pub mod Spelled
+pub mod Alike

@@ -148,7 +148,7 @@ not_empty operations t trees none s =
     let k = length-append (front t) (last_seen t ∷ []) in
     omega arith
 
-seam : (operations : List Operation) (t : Tree) (trees : List Tree) (nodes : ℕ)
+pub seam : (operations : List Operation) (t : Tree) (trees : List Tree) (nodes : ℕ)
     → nodes ≡ tree_size t → SpellTrees operations (t ∷ trees)
     → length operations - nodes ≡ length (stack_operations trees)
 seam operations t trees nodes e s =
@@ -158,19 +158,24 @@ seam operations t trees nodes e s =
     let c = size_counts t in
     omega arith
 
+pub front_trees : (operations before : List Operation) (t : Tree) (trees : List Tree) (start : ℕ)
+    → start ≡ length (stack_operations trees) → before ≡ take start operations
+    → SpellTrees operations (t ∷ trees) → SpellTrees before trees
+front_trees operations before t trees start k b s =
+    ap (map seen_operation) b ∙ sym (take-map seen_operation start operations)
+    ∙ ap (take start) s ∙ ap (λ n. take n (stack_operations trees ++ tree_operations t)) k
+    ∙ take-append_seam (stack_operations trees) (tree_operations t)
+
 pub cut_trees : (operations before behind : List Operation) (t : Tree) (trees : List Tree)
-    (nodes start : ℕ) → start ≡ length operations - nodes → before ≡ take start operations
-    → behind ≡ drop start operations → nodes ≡ tree_size t → SpellTrees operations (t ∷ trees)
+    (start : ℕ) → start ≡ length (stack_operations trees) → before ≡ take start operations
+    → behind ≡ drop start operations → SpellTrees operations (t ∷ trees)
     → SpellTrees before trees × SpellTree behind t
-cut_trees operations before behind t trees nodes start f b d e s =
-    let k = f ∙ seam operations t trees nodes e s in (
-      ap (map seen_operation) b ∙ sym (take-map seen_operation start operations)
-          ∙ ap (take start) s ∙ ap (λ n. take n (stack_operations trees ++ tree_operations t)) k
-          ∙ take-append_seam (stack_operations trees) (tree_operations t),
-      ap (map seen_operation) d ∙ sym (drop-map seen_operation start operations)
-          ∙ ap (drop start) s ∙ ap (λ n. drop n (stack_operations trees ++ tree_operations t)) k
-          ∙ drop-append_seam (stack_operations trees) (tree_operations t),
-    )
+cut_trees operations before behind t trees start k b d s = (
+  front_trees operations before t trees start k b s,
+  ap (map seen_operation) d ∙ sym (drop-map seen_operation start operations)
+      ∙ ap (drop start) s ∙ ap (λ n. drop n (stack_operations trees ++ tree_operations t)) k
+      ∙ drop-append_seam (stack_operations trees) (tree_operations t),
+)
 
 -- ---- shapes
 

@@ -41,7 +41,7 @@ plain_repeat least (Some most) piece h = record {
   piece_plain = second_so (nat_lt 0 most) _ (second_so (nat_le least most) _ h);
 }
 
-no_product : (m n : ℕ) → 0 < n → m * n ≡ 0 → m ≡ 0
+pub no_product : (m n : ℕ) → 0 < n → m * n ≡ 0 → m ≡ 0
 no_product m n l e = grind arith
 
 -- without a position the empty text is held

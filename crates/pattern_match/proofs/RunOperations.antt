@@ -1,32 +1,30 @@
 -- What going over operations does to sets of states.
 use Rattle.std.proofs.Common.{◌≡◌, refl, sym, ◌∙◌, ap, subst, ℕ, suc, ◌+◌, ◌/◌, ◌<◌, Bool, true}
 use Rattle.std.proofs.Common.{false, List, [], ◌∷◌, length, Option, Some, None, ◌↔◌, arith}
-use Rattle.std.specs.Prelude.{◌&&◌, slice_get}
+use Rattle.std.specs.Prelude.{◌&&◌, not, slice_get}
 use Rattle.std.proofs.lemmas.Bool.{and_from}
 use Rattle.std.specs.Cmp.{first_so, second_so}
 use Rattle.pattern_syntax.specs.Reading.{positions}
-use Rattle.pattern_syntax.specs.Tree.{Tree, Nothing}
-use Rattle.pattern_match.specs.Automaton.{Place, automaton, all_places}
+use Rattle.pattern_syntax.specs.Tree.{Tree}
+use Rattle.pattern_match.specs.Automaton.{Place, Automaton, automaton, all_places}
 use Rattle.pattern_match.specs.Compiled.{AreTablesReady}
 use Rattle.pattern_match.specs.Operations.{AreOperationsOf, operations_tree}
 use Rattle.pattern_match.specs.Over.{HaveBits, ends_among, enters, follows_marked, operation_places}
 use Rattle.pattern_match.specs.Over.{place_admitted}
+use Rattle.pattern_match.specs.Residuals.{is_some_list}
 use Rattle.pattern_match.specs.Settled.{IsSteadyPlace, LeadsOnward, MarksLeadOnward, MarksStay}
 use Rattle.pattern_match.specs.States.{AreMarks, bit, is_bare}
 use Rattle.pattern_match.specs.Tables.{ends, has, leads}
 use Rattle.pattern_match.specs.declared.class.Class.{Class}
 use Rattle.pattern_match.specs.declared.entry.Entry.TheVariants.{By}
 use Rattle.pattern_match.specs.declared.operation.Operation.{Operation}
-use Rattle.pattern_match.proofs.OpenParts.{spelled_tree}
 use Rattle.pattern_match.proofs.PassPlaces.{all_count, plain_not_bare}
 use Rattle.pattern_match.proofs.RunTables.{any_from, any_to, ends_within, leads_within}
 use Rattle.pattern_match.proofs.Stepping.{IsEnd, IsStep, as_many}
 
 are_some : (operations : List Operation) (t : Tree) → AreOperationsOf operations t
     → 0 < length operations
-are_some [] t a = let n : Nothing ≡ t = spelled_tree [] t a.spell in
-    absurd (let l : 0 < positions Nothing = subst (λ u. 0 < positions u) (sym n) a.some in
-    omega arith)
+are_some [] t a = absurd (let l : 0 < 0 = a.some in omega arith)
 are_some (o ∷ os) t a = omega arith
 
 admitted : (place : Option Place) (b : ℕ) → place_admitted (By b) place ≡ has place b
@@ -59,15 +57,12 @@ ended_end places marks v e = record {
 }
 
 module _ (t : Tree) (operations : List Operation) (a : AreOperationsOf operations t) where
-  is_tree : operations_tree operations ≡ t
-  is_tree = spelled_tree operations t a.spell
-
   are_places : operation_places operations ≡ all_places (automaton t)
-  are_places = ap (λ u. all_places (automaton u)) is_tree
+  are_places = ap all_places a.same
 
   pub have_bits : (marks : List ℕ) → AreMarks t marks → HaveBits operations (length marks)
   have_bits marks m = record {
-    are = subst (AreOperationsOf operations) (sym is_tree) a;
+    are = record { spell = a.spell; same = refl; plain = a.plain; some = a.some; few = a.few };
     room =
         let n = ap (λ (ps : List Place). length ps) are_places in
         let r = as_many t in
@@ -110,15 +105,21 @@ module _ (t : Tree) (operations : List Operation) (a : AreOperationsOf operation
     λ s p m. subst (λ ps. IsSteadyPlace ps marks p) (sym are_places) (s.each p m),
   )
 
+abbrev bare_of : Automaton → Bool
+bare_of a = not (is_some_list a.places) && a.holds_empty
+
 -- operations ready for use in place of rows
 pub operations_ready : (t : Tree) (operations : List Operation) (rows width : ℕ)
     (follow accept : List ℕ) (classes : List Class) → AreOperationsOf operations t
-    → rows ≡ positions t + 1 → width ≡ (rows + 63) / 64
+    → rows ≡ positions (operations_tree operations) + 1 → width ≡ (rows + 63) / 64
     → AreTablesReady t false rows width follow accept classes operations
 operations_ready t operations rows width follow accept classes a n w =
-    let c : length (all_places (automaton t)) ≡ suc (positions t) = all_count t a.plain in
+    let c : length (all_places (automaton t)) ≡ suc (positions (operations_tree operations)) =
+    ap (λ (b : Automaton). length (all_places b)) (sym a.same)
+    ∙ all_count (operations_tree operations) a.plain in
     record {
-      bare_is = sym (plain_not_bare t a.plain a.some);
+      bare_is = sym (ap bare_of (sym a.same)
+          ∙ plain_not_bare (operations_tree operations) a.plain a.some);
       none = λ e. cc;
       rows_are = λ e. omega arith;
       wide = λ e. omega arith;

@@ -11,17 +11,18 @@ use Rattle.pattern_syntax.specs.Tree as tree
 use Rattle.pattern_syntax.specs.Tree.{Tree, tree_from}
 use Rattle.pattern_syntax.specs.declared.node.Node.{Node}
 use Rattle.pattern_syntax.specs.declared.node.Node.TheVariants.{Repeat}
+use Rattle.pattern_match.specs.Automaton.{automaton}
 use Rattle.pattern_match.specs.Layouts.{copies_of}
 use Rattle.pattern_match.specs.Operations.{SeenOperation, seen_node, seen_operation, last_seen}
-use Rattle.pattern_match.specs.Operations.{tree_operations, AreOperationsOf, SpellTree}
+use Rattle.pattern_match.specs.Operations.{tree_operations, operations_tree, AreOperationsOf}
+use Rattle.pattern_match.specs.Operations.{SpellTree}
 use Rattle.pattern_match.specs.Passes.{holds_nothing, is_plain}
-use Rattle.pattern_match.specs.Skipping.{trees_before}
 use Rattle.pattern_match.specs.Spelling.{stack_operations, SpellTrees, ArePlainParts, AreSpelled}
-use Rattle.pattern_match.specs.Spelling.{EndsPart, SpellsNode, EndWithTwo}
+use Rattle.pattern_match.specs.Spelling.{EndsPart, SpellsNode, StandForTrees, EndWithTwo}
 use Rattle.pattern_match.specs.declared.operation.Operation.{Operation}
 use Rattle.pattern_match.specs.declared.operation.TheConstants.{MOST_PLACES}
-use Rattle.pattern_match.proofs.OpenParts.{front, ends_with, seen_last, size_counts}
-use Rattle.pattern_match.proofs.Zeros.{one_before}
+use Rattle.pattern_match.proofs.OpenParts.{front, ends_with, seen_last, size_counts, spell_own}
+use Rattle.pattern_match.proofs.OpenParts.{spelled_tree}
 
 -- ---- the last parts
 
@@ -49,7 +50,7 @@ two_ended operations before behind first second d e f some cut g more (y ∷ x �
 
 -- ---- one operation more
 
-pushed : (operations : List Operation) (made : Operation) (t : Tree) (trees : List Tree)
+pub pushed : (operations : List Operation) (made : Operation) (t : Tree) (trees : List Tree)
     → map seen_operation operations ≡ stack_operations trees ++ front t → EndsPart made t
     → ArePlainParts trees → AreSpelled (operations ++ made ∷ []) (t ∷ trees)
 pushed operations made t trees e ends fit = record {
@@ -118,32 +119,42 @@ repeat_spelled operations piece made d least most copies f some g any enough few
 
 -- ---- one part alone
 
-pub one_part : (operations : List Operation) (last d : Operation)
+same_top : (t : Tree) (below trees : List Tree)
+    → map automaton (t ∷ below) ≡ map automaton trees → automaton t ≡ automaton (tree_from trees)
+same_top t below [] e = cc
+same_top t below (u ∷ trees) e = cc
+
+one_spelled : (operations : List Operation) (last d : Operation)
     → last ≡ get_or operations (length operations - 1) d → 0 < length operations
     → last.nodes ≡ length operations → nat_lt 0 last.places ≡ true
-    → (trees : List Tree) → AreSpelled operations trees
-    → AreOperationsOf operations (tree_from trees)
-one_part operations last d f some whole places [] s = none_spelled operations some s.spell
-one_part operations last d f some whole places (t ∷ trees) s =
-    let seen = seen_last operations last d t trees f some s.spell in
+    → (spelled : List Tree) → AreSpelled operations spelled → (trees : List Tree)
+    → map automaton spelled ≡ map automaton trees → AreOperationsOf operations (tree_from trees)
+one_spelled operations last d f some whole places [] s trees e =
+    none_spelled operations some s.spell
+one_spelled operations last d f some whole places (t ∷ below) s trees e =
+    let seen = seen_last operations last d t below f some s.spell in
     let size : last.nodes ≡ tree_size t = ap (λ s. s.1.0) seen in
     let n = length-map operations seen_operation in
     let m = ap length s.spell in
-    let k = length-append (stack_operations trees) (tree_operations t) in
+    let k = length-append (stack_operations below) (tree_operations t) in
     let c = size_counts t in
-    let rest : length (stack_operations trees) ≡ 0 = omega arith in
+    let rest : length (stack_operations below) ≡ 0 = omega arith in
+    let spell : SpellTree operations t =
+    s.spell ∙ ap (λ l. l ++ tree_operations t) (nil_from_length _ rest) in
+    let own : t ≡ operations_tree operations = sym (spelled_tree operations t spell) in
     record {
-      spell = s.spell ∙ ap (λ l. l ++ tree_operations t) (nil_from_length _ rest);
-      plain = s.fit.0.plain;
-      some = subst (λ n. 0 < n) (ap (λ s. s.1.1.0) seen) (ltb-true _ _ places);
-      few = s.fit.0.few;
+      spell = spell_own operations t spell;
+      same = sym (ap automaton own) ∙ same_top t below trees e;
+      plain = sym (ap is_plain own) ∙ s.fit.0.plain;
+      some = subst (λ n. 0 < n) (ap (λ s. s.1.1.0) seen ∙ ap positions own)
+          (ltb-true _ _ places);
+      few = subst (λ n. n ≤ MOST_PLACES) (ap positions own) s.fit.0.few;
     }
 
--- ---- the nodes one by one
-
-pub node_spelled : (nodes : List Node) (k : ℕ) (d : Node) (operations new : List Operation)
-    (made : Operation) → k < length nodes → new ≡ operations ++ made ∷ []
-    → SpellsNode (get_or nodes k d) operations made → AreSpelled operations (trees_before nodes k)
-    → AreSpelled new (trees_before nodes (k + 1))
-node_spelled nodes k d operations new made l e spells s =
-    rw (e, one_before nodes k d l) (spells (trees_before nodes k) s)
+pub one_part : (operations : List Operation) (last d : Operation)
+    → last ≡ get_or operations (length operations - 1) d → 0 < length operations
+    → last.nodes ≡ length operations → nat_lt 0 last.places ≡ true
+    → (trees : List Tree) → StandForTrees operations trees
+    → AreOperationsOf operations (tree_from trees)
+one_part operations last d f some whole places trees s =
+    one_spelled operations last d f some whole places s.spelled s.are trees s.same

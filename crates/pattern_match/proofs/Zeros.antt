@@ -29,7 +29,7 @@ one_before nodes k d l = ap (λ (ns : List Node). after_nodes ns []) (take_more 
     ∙ after_append (take k nodes) (get_or nodes k d) []
 
 -- a part repeated zero times has the automaton of the empty text
-zero_times : (a : Automaton) → bare true ≡ repeated_automaton 0 (Some 0) a
+pub zero_times : (a : Automaton) → bare true ≡ repeated_automaton 0 (Some 0) a
 zero_times a = at (is_some_list a.places) refl
   where
     at : (v : Bool) → is_some_list a.places ≡ v → bare true ≡ repeated_automaton 0 (Some 0) a

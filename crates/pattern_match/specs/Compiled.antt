@@ -1,11 +1,11 @@
 -- What an automaton made ready keeps.
-use Rattle.std.specs.Prelude.{◌≡◌, ℕ, ◌+◌, ◌/◌, ◌<◌, Bool, true, false, List, length}
-use Rattle.std.specs.Coded.{Coded-set, coded_list, coded_ℕ, coded×, coded_bool, coded_option}
-use Rattle.std.specs.Coded.{Π_prop}
+use Rattle.std.specs.Prelude.{◌≡◌, ℕ, ◌+◌, ◌/◌, ◌<◌, Bool, true, false, List, length, refl}
+use Rattle.std.specs.Coded.{Coded, code_by, Coded-set, coded_list, coded_ℕ, coded×, coded_bool}
+use Rattle.std.specs.Coded.{coded_option, Π_prop}
 use Rattle.std.proofs.Math.Bridge.{le_prop}
 use mathlib.Core.Bool.{Bool-set}
 use Rattle.pattern_syntax.specs.Tree.{Tree}
-use Rattle.pattern_match.specs.Automaton.{Place, automaton, all_places}
+use Rattle.pattern_match.specs.Automaton.{Place, Automaton, automaton, all_places}
 use Rattle.pattern_match.specs.Operations.{AreOperationsOf}
 use Rattle.pattern_match.specs.States.{is_bare}
 use Rattle.pattern_syntax.specs.Starts.{behind_start}
@@ -15,8 +15,8 @@ use Rattle.pattern_match.specs.declared.operation.Operation.{Operation}
 use Rattle.pattern_match.specs.declared.readying.PatternTables.{PatternTables}
 use Rattle.pattern_match.specs.declared.machine.Machine.TheInside.{Inside}
 
--- the tables are those of the tree's automaton, or the operations are the tree's; one that holds
--- the empty text alone has none
+-- the tables are those of the tree's automaton, or the operations are; one that holds the empty
+-- text alone has none
 pub record AreTablesReady (tree : Tree) (bare : Bool) (rows width : ℕ) (follow accept : List ℕ)
     (classes : List Class) (operations : List Operation) : Type 0 where
   pub bare_is : bare ≡ is_bare tree
@@ -44,12 +44,26 @@ all_tables width follow accept classes places x y = λ i. record {
   bytes = Coded-set (coded_list (coded_list coded_ℕ)) _ _ x.bytes y.bytes i;
 }
 
+abbrev place_code : Coded Place
+place_code = code_by (List ℕ × (Bool × List ℕ))
+    (coded× (coded_list coded_ℕ) (coded× coded_bool (coded_list coded_ℕ)))
+    (λ p. (p.bytes, (p.is_last, p.next)))
+    (λ s. record { bytes = s.0; is_last = s.1.0; next = s.1.1 }) (λ p. refl)
+
+abbrev automaton_code : Coded Automaton
+automaton_code = code_by (List Place × (List ℕ × (Bool × Bool)))
+    (coded× (coded_list place_code) (coded× (coded_list coded_ℕ) (coded× coded_bool coded_bool)))
+    (λ a. (a.places, (a.first, (a.holds_empty, a.is_live))))
+    (λ s. record { places = s.0; first = s.1.0; holds_empty = s.1.1.0; is_live = s.1.1.1 })
+    (λ a. refl)
+
 all_operations : (operations : List Operation) (tree : Tree)
     → IsProp (AreOperationsOf operations tree)
 all_operations operations tree x y = λ i. record {
   spell = Coded-set (coded_list (coded× (coded× coded_ℕ (coded× (coded_list coded_ℕ)
       (coded× coded_ℕ (coded_option coded_ℕ)))) (coded× coded_ℕ (coded× coded_ℕ coded_bool))))
       _ _ x.spell y.spell i;
+  same = Coded-set automaton_code _ _ x.same y.same i;
   plain = Bool-set _ _ x.plain y.plain i;
   some = le_prop x.some y.some i;
   few = le_prop x.few y.few i;

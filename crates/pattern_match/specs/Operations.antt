@@ -9,6 +9,7 @@ use Rattle.pattern_syntax.specs.Tree.{Tree, TreeNode, built, tree_from}
 use Rattle.pattern_syntax.specs.declared.node.Node.{Node}
 use Rattle.pattern_syntax.specs.declared.node.Node.TheVariants.{Byte, Set, Nothing, Both, Either}
 use Rattle.pattern_syntax.specs.declared.node.Node.TheVariants.{Repeat}
+use Rattle.pattern_match.specs.Automaton.{automaton}
 use Rattle.pattern_match.specs.Passes.{holds_nothing, is_plain}
 use Rattle.pattern_match.specs.declared.operation.Operation.{Operation}
 use Rattle.pattern_match.specs.declared.operation.TheConstants.{MOST_PLACES}
@@ -59,9 +60,11 @@ operations_tree operations = tree_from (built (map (λ o. seen_node o.node) oper
 abbrev pub SpellTree : List Operation → Tree → Type 0
 SpellTree operations t = map seen_operation operations ≡ tree_operations t
 
--- and it is a plain one of some places, which aren't too many
+-- the operations are those of a plain tree of some places, which aren't too many, and its automaton
+-- is that of the tree
 pub record AreOperationsOf (operations : List Operation) (t : Tree) : Type 0 where
-  pub spell : SpellTree operations t
-  pub plain : is_plain t ≡ true
-  pub some : 0 < positions t
-  pub few : positions t ≤ MOST_PLACES
+  pub spell : SpellTree operations (operations_tree operations)
+  pub same : automaton (operations_tree operations) ≡ automaton t
+  pub plain : is_plain (operations_tree operations) ≡ true
+  pub some : 0 < positions (operations_tree operations)
+  pub few : positions (operations_tree operations) ≤ MOST_PLACES

@@ -8,7 +8,7 @@ pub const MOST_PLACES: usize = 65_535;
 #[derive(Clone, Copy)]
 pub struct Operation {
     pub(crate) node: Node,
-    pub(crate) nodes: u16,
+    pub(crate) nodes: u32,
     pub(crate) places: u16,
     pub(crate) levels: u16,
     pub(crate) holds_nothing: bool,

@@ -1,11 +1,11 @@
-ghost use Rattle.std.specs.Prelude.{◌≡◌, ◌∷◌, List, []};
+ghost use Rattle.std.specs.Prelude.{◌≡◌, ◌∷◌, ◌≤◌, List, [], length};
 ghost use Rattle.pattern_syntax.specs.Reading.{positions};
 ghost use Rattle.pattern_syntax.specs.Shape.{tree_size};
 ghost use Rattle.pattern_syntax.specs.Tree.{Tree};
-ghost use Rattle.pattern_match.specs.Operations.{AreOperationsOf, SpellTree};
+ghost use Rattle.pattern_match.specs.Operations.{SpellTree, operations_tree};
 ghost use Rattle.pattern_match.specs.Passes.{holds_nothing};
 ghost use Rattle.pattern_match.specs.Shapes.{shape_tree};
-ghost use Rattle.pattern_match.specs.Spelling.{SpellTrees};
+ghost use Rattle.pattern_match.specs.Spelling.{SpellTrees, stack_operations};
 
 use crate::class::Class;
 use crate::operation::Operation;
@@ -54,8 +54,8 @@ pub enum Shape<'a> {
 impl<'a> Part<'a> {
     /// The part that all of the operations are.
     pub fn of(operations: &'a [Operation]) -> Part<'a>
-        requires { (tree : Tree) × AreOperationsOf operations.now tree }
-        ensures { (tree : Tree) → AreOperationsOf operations.now tree → result ≡ tree }
+        requires { SpellTree operations.now (operations_tree operations.now) }
+        ensures { result ≡ operations_tree operations.now }
     {
         Part { operations }
     }
@@ -114,9 +114,18 @@ fn last_nodes(operations: &[Operation]) -> usize
         → result ≡ tree_size t }
 {
     match operations.last() {
-        Some(last) => usize::from(last.nodes),
+        Some(last) => last.nodes as usize,
         None => 0,
     }
+}
+
+/// How many operations stand before the part that ends them.
+pub(crate) fn last_part_start(operations: &[Operation]) -> usize
+    ensures start { (t : Tree) (trees : List Tree) → SpellTrees operations.now (t ∷ trees)
+        → result ≡ length (stack_operations trees) }
+    ensures within { result ≤ length operations.now }
+{
+    operations.len().saturating_sub(last_nodes(operations))
 }
 
 /// The operations before the part that ends them, and those of that part.
@@ -124,8 +133,7 @@ pub(crate) fn split_last_part(operations: &[Operation]) -> (&[Operation], &[Oper
     ensures { (t : Tree) (trees : List Tree) → SpellTrees operations.now (t ∷ trees)
         → SpellTrees result.0.now trees × SpellTree result.1.now t }
 {
-    let nodes = last_nodes(operations);
-    operations.split_at(operations.len().saturating_sub(nodes))
+    operations.split_at(last_part_start(operations))
 }
 
 // The two parts that operations are, one behind the other.

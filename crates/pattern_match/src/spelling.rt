@@ -1,28 +1,32 @@
-ghost use Rattle.std.specs.Prelude.{◌≡◌, ◌+◌, ◌≤◌, true, List, [], IfOk, IfSome, Some, None};
-ghost use Rattle.std.specs.Prelude.{nat_lt, if◌then◌else◌};
+ghost use Rattle.std.specs.Prelude.{◌≡◌, ◌∷◌, ◌+◌, ◌<◌, ◌≤◌, true, List, [], IfOk, OnOk, IfSome};
+ghost use Rattle.std.specs.Prelude.{Some, None, length, nat_lt, if◌then◌else◌};
 ghost use Rattle.pattern_syntax.specs.ByteSet.{bytes_with, has_byte};
 ghost use Rattle.pattern_syntax.specs.Nodes.{after_nodes, nodes_tree};
 ghost use Rattle.pattern_syntax.specs.Tree as tree;
 ghost use Rattle.pattern_syntax.specs.Tree.{Tree};
 ghost use Rattle.pattern_syntax.specs.declared.node.Node.TheVariants as nodes;
 ghost use Rattle.pattern_match.specs.Operations.{AreOperationsOf, seen_node, seen_operation};
-ghost use Rattle.pattern_match.specs.Spelling.{AreSpelled, EndWithTwo, EndsPart, SpellTrees};
-ghost use Rattle.pattern_match.specs.Spelling.{SpellsNode, seen_behind};
+ghost use Rattle.pattern_match.specs.Skipping.{AreSkips, trees_before};
+ghost use Rattle.pattern_match.specs.Spelling.{EndWithTwo, EndsPart, IsNodeSpelled, Leaves};
+ghost use Rattle.pattern_match.specs.Spelling.{SpellTrees, SpellsNode, StandBehind, StandForTrees};
+ghost use Rattle.pattern_match.specs.Spelling.{adds_nothing, seen_behind};
 
 use crate::class::Class;
 use crate::copying::copies_of;
 use crate::operation::{MOST_PLACES, Operation};
-use crate::part::split_last_part;
+use crate::part::{last_part_start, split_last_part};
+use crate::skipping::{skip_at, skips_of};
 use label_base::OutOfMemory;
 use pattern_syntax::{ByteSet, Node};
 use std::alloc::Global;
 
 /// How deep the parts of a pattern over operations may be nested, each part of a sequence being one
 /// level more: a call of a pass is inside another for each.
+///
+/// No pattern within the limits has more: each level has a place of its own beside the part below
+/// it, but for three in each group, a sequence behind its empty start, an empty side of a choice
+/// and a repeat.
 pub const MOST_LEVELS: u16 = 2_200;
-
-/// How many operations a pattern may have, for the count of a part to be a `u16`.
-const MOST_OPERATIONS: usize = 65_535;
 
 // The operation of a node that has no parts.
 fn leaf(node: Node, places: u16, holds_nothing: bool) -> Operation
@@ -162,41 +166,119 @@ fn spell(operations: &[Operation], node: &Node) -> Option<Operation>
 
 // Whether operations are one part, and it has a place.
 fn is_one_part(operations: &[Operation]) -> bool
-    ensures { result ≡ true → (trees : List Tree) → AreSpelled operations.now trees
+    ensures { result ≡ true → (trees : List Tree) → StandForTrees operations.now trees
         → AreOperationsOf operations.now (tree.tree_from trees) }
 {
     match operations.last() {
-        Some(last) => usize::from(last.nodes) == operations.len() && last.places > 0,
+        Some(last) => last.nodes as usize == operations.len() && last.places > 0,
         None => false,
     }
 }
 
-// SpellsNode nodes one by one, and says whether each could be.
-fn spell_all(operations: &mut Vec<Operation>, nodes: &[Node]) -> Result<bool, OutOfMemory>
-    requires { AreSpelled operations.old.items [] }
-    ensures { IfOk result (λ done. done ≡ true
-        → AreSpelled operations.new.items (after_nodes nodes.now [])) }
+// Whether the node leaves the first of two parts as it is, since the second has no place.
+fn adds_nothing(first: &Operation, second: &Operation, node: &Node) -> bool
+    ensures { result ≡ adds_nothing node.now first.now second.now }
 {
-    'nodes: for at in 0..nodes.len() {
-        let Some(operation) = spell(operations.as_slice(), &nodes[at]) else {
+    match node {
+        Node::Both => second.places == 0,
+        Node::Either => second.places == 0 && first.holds_nothing,
+        _ => false,
+    }
+}
+
+// How many of the operations are left behind a node that adds nothing to the part before the last.
+fn left_behind(operations: &[Operation], node: &Node) -> Option<usize>
+    ensures { IfSome result (λ kept. Leaves node.now operations.now kept) }
+{
+    let (first, second) = last_two(operations)?;
+    if !adds_nothing(first, second, node) {
+        return None;
+    }
+    Some(last_part_start(operations))
+}
+
+// Spells the node behind the operations, and says whether it could be.
+fn put(operations: &mut Vec<Operation>, node: &Node) -> Result<bool, OutOfMemory>
+    ensures { IfOk result (λ done. done ≡ true
+        → StandBehind node.now operations.old.items operations.new.items) }
+{
+    if let Some(kept) = left_behind(operations.as_slice(), node) {
+        operations.truncate(kept);
+        return Ok(true);
+    }
+    let Some(operation) = spell(operations.as_slice(), node) else {
+        return Ok(false);
+    };
+    operations.push(operation)?;
+    Ok(true)
+}
+
+// Spells a part that is repeated zero times, which is nothing.
+fn put_none(operations: &mut Vec<Operation>) -> Result<(), OutOfMemory>
+    ensures { OnOk result ((trees : List Tree) (part : Tree)
+        → StandForTrees operations.old.items trees
+        → StandForTrees operations.new.items (tree.Repeat 0 (Some 0) part ∷ trees)) }
+{
+    operations.push(leaf(Node::Nothing, 0, true))?;
+    Ok(())
+}
+
+// Spells the node at a place, or a part that is repeated zero times, and gives the place behind it;
+// none where the node can't be spelled.
+fn put_next(
+    operations: &mut Vec<Operation>,
+    nodes: &[Node],
+    skips: &[usize],
+    at: usize,
+) -> Result<Option<usize>, OutOfMemory>
+    requires within { at < length nodes.now }
+    requires skips { AreSkips nodes.now skips.now }
+    requires stand { StandForTrees operations.old.items (trees_before nodes.now at) }
+    ensures { IfOk result (λ found. IfSome found (λ next.
+        IsNodeSpelled nodes.now operations.new.items at next)) }
+{
+    let end = skip_at(skips, at);
+    if at < end {
+        put_none(operations)?;
+        return Ok(Some(end + 1));
+    }
+    if !put(operations, &nodes[at])? {
+        return Ok(None);
+    }
+    Ok(Some(at + 1))
+}
+
+// Spells the nodes one by one, and says whether each could be.
+fn spell_all(
+    operations: &mut Vec<Operation>,
+    nodes: &[Node],
+    skips: &[usize],
+) -> Result<bool, OutOfMemory>
+    requires skips { AreSkips nodes.now skips.now }
+    requires stand { StandForTrees operations.old.items [] }
+    ensures { IfOk result (λ done. done ≡ true
+        → StandForTrees operations.new.items (after_nodes nodes.now [])) }
+{
+    let mut at = 0;
+    'nodes: while at < nodes.len() {
+        let Some(next) = put_next(operations, nodes, skips, at)? else {
             return Ok(false);
         };
-        operations.push(operation)?;
+        at = next;
     }
     Ok(true)
 }
 
-/// The operations of nodes in postfix order; none where the tree isn't plain, has no place or too
-/// many, or is nested too deep.
+/// Operations with the automaton of nodes in postfix order, those of parts without places left out
+/// where they add nothing; none where the nodes' tree isn't plain, has no place or too many, or is
+/// nested too deep.
 pub fn operations_of(alloc: Global, nodes: &[Node]) -> Result<Option<Vec<Operation>>, OutOfMemory>
     ensures { IfOk result (λ found. IfSome found (λ operations.
         AreOperationsOf operations.items (nodes_tree nodes.now))) }
 {
-    if nodes.len() > MOST_OPERATIONS {
-        return Ok(None);
-    }
+    let skips = skips_of(alloc, nodes)?;
     let mut operations = Vec::with_capacity(alloc, nodes.len())?;
-    if !spell_all(&mut operations, nodes)? {
+    if !spell_all(&mut operations, nodes, skips.as_slice())? {
         return Ok(None);
     }
     if !is_one_part(operations.as_slice()) {
@@ -232,15 +314,45 @@ mod tests {
     }
 
     #[test]
-    fn none_for_a_part_of_no_times(rt: HostRuntime) {
+    fn no_more_for_a_part_of_no_times(rt: HostRuntime) {
         let nodes = [
             Node::Byte(b'a'),
+            Node::Byte(b'b'),
             Node::Repeat {
                 least: 0,
                 most: Some(0),
             },
+            Node::Both,
         ];
-        assert_eq!(rt; count(rt.alloc(), &nodes), None);
+        assert_eq!(rt; count(rt.alloc(), &nodes), Some(1));
+    }
+
+    #[test]
+    fn no_more_for_a_second_empty_side(rt: HostRuntime) {
+        let nodes = [
+            Node::Byte(b'a'),
+            Node::Nothing,
+            Node::Either,
+            Node::Nothing,
+            Node::Either,
+        ];
+        assert_eq!(rt; count(rt.alloc(), &nodes), Some(3));
+    }
+
+    // The same of a byte and so many empty groups.
+    fn count_before(alloc: Global, groups: usize) -> Option<usize> {
+        let mut nodes = Vec::new(alloc);
+        nodes.push(Node::Byte(b'a')).ok()?;
+        for _ in 0..groups {
+            nodes.push(Node::Nothing).ok()?;
+            nodes.push(Node::Both).ok()?;
+        }
+        count(alloc, nodes.as_slice())
+    }
+
+    #[test]
+    fn no_more_for_empty_groups(rt: HostRuntime) {
+        assert_eq!(rt; count_before(rt.alloc(), 3_000), Some(1));
     }
 
     // The same of a byte under so many repeats, one around the other.

@@ -3,4 +3,4 @@ use Rattle.pattern_match.proofs.over.place_count.Goals as goal
 
 pub returns : goal.returns
 returns c = counted c.args.operations.now c.requires c.of.result c.places.result
-    (c.of.ensures _ c.requires) c.places.ensures
+    c.of.ensures c.places.ensures
