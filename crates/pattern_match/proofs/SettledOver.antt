@@ -187,28 +187,28 @@ none_found places marks row n l made none (p, m, o) =
 
 -- ---- steady places
 
-pub same_row : (words row : List ℕ) → length row ≡ length words → IsRow words row 0 → (q : ℕ)
-    → bit row q ≡ bit words q
-same_row words row l h q = at (cases_lt q (64 * length words))
+pub same_row : (words found : List ℕ) → length found ≡ length words → IsRow words found 0 → (q : ℕ)
+    → bit found q ≡ bit words q
+same_row words found l h q = at (cases_lt q (64 * length words))
   where
-    at : (q < 64 * length words) ⊎ (64 * length words ≤ q) → bit row q ≡ bit words q
-    at (inl u) = let e : 64 * 0 + q ≡ q = omega arith in ap (bit row) (sym e) ∙ h q u
+    at : (q < 64 * length words) ⊎ (64 * length words ≤ q) → bit found q ≡ bit words q
+    at (inl u) = let e : 64 * 0 + q ≡ q = omega arith in ap (bit found) (sym e) ∙ h q u
     at (inr u) =
-        let m : 64 * length row ≡ 64 * length words = ap (λ k. 64 * k) l in
-        no_word row q (omega arith) ∙ sym (no_word words q u)
+        let m : 64 * length found ≡ 64 * length words = ap (λ k. 64 * k) l in
+        no_word found q (omega arith) ∙ sym (no_word words q u)
 
-pub row_same : (words row : List ℕ) → ((q : ℕ) → bit row q ≡ bit words q) → IsRow words row 0
-row_same words row h k l = let e : 64 * 0 + k ≡ k = omega arith in ap (bit row) e ∙ h k
+pub row_same : (words found : List ℕ) → ((q : ℕ) → bit found q ≡ bit words q) → IsRow words found 0
+row_same words found h k l = let e : 64 * 0 + k ≡ k = omega arith in ap (bit found) e ∙ h k
 
 -- a row of what follows a place is that of the marks where it leads to those
-pub leads_row : (t : Tree) (marks row : List ℕ) (p : ℕ) (v : Bool) → length row ≡ length marks
-    → ((q : ℕ) → bit row q ≡ (leads (slice_get (all_places (automaton t)) p) q
+pub leads_row : (t : Tree) (marks found : List ℕ) (p : ℕ) (v : Bool) → length found ≡ length marks
+    → ((q : ℕ) → bit found q ≡ (leads (slice_get (all_places (automaton t)) p) q
     && place_admitted Free (slice_get (all_places (automaton t)) q)))
-    → Decides v (IsRow marks row 0)
+    → Decides v (IsRow marks found 0)
     → Decides v ((q : ℕ) → leads (slice_get (all_places (automaton t)) p) q ≡ bit marks q)
-leads_row t marks row p v l bits =
-    Decides-like v (λ h q. sym (bits q ∙ free_leads t p q) ∙ same_row marks row l h q)
-    (λ h. row_same marks row (λ q. bits q ∙ free_leads t p q ∙ h q))
+leads_row t marks found p v l bits =
+    Decides-like v (λ h q. sym (bits q ∙ free_leads t p q) ∙ same_row marks found l h q)
+    (λ h. row_same marks found (λ q. bits q ∙ free_leads t p q ∙ h q))
 
 -- each marked place is steady
 abbrev pub AllSteady : List Place → List ℕ → Type 0

@@ -8,6 +8,7 @@ ghost use Rattle.pattern_match.specs.States.{bit};
 ghost use Rattle.pattern_match.specs.declared.operation.TheConstants.{MOST_PLACES};
 
 use crate::bits::{is_marked, next_marked, set_if};
+use crate::copying::copies_of;
 use crate::entry::Entry;
 use crate::part::{Part, Shape};
 
@@ -37,31 +38,29 @@ struct Copies {
 }
 
 // The copies of a piece of so many places from one on.
-fn copies_of(least: u32, most: Option<u32>, size: usize, start: usize) -> Copies
+fn copies_from(least: u32, most: Option<u32>, size: usize, start: usize) -> Copies
     ensures start { result.start ≡ start }
     ensures size { result.size ≡ size }
     ensures times { result.times ≡ factor least most }
     ensures needed { result.needed ≡ copies_needed least most }
     ensures endless { result.is_endless ≡ has_no_most most }
 {
+    let times = copies_of(least, most) as usize;
     match most {
-        Some(most) => Copies {
+        Some(_) => Copies {
             start,
             size,
-            times: most as usize,
+            times,
             needed: least as usize,
             is_endless: false,
         },
-        None => {
-            let times = least.max(1) as usize;
-            Copies {
-                start,
-                size,
-                times,
-                needed: times,
-                is_endless: true,
-            }
-        }
+        None => Copies {
+            start,
+            size,
+            times,
+            needed: times,
+            is_endless: true,
+        },
     }
 }
 
@@ -260,7 +259,7 @@ pub fn pass(step: &Step<'_>, to: &mut [u64], part: &Part<'_>, turn: Turn) -> boo
         Shape::Both(first, second) => pass_both(step, to, &first, &second, turn),
         Shape::Either(left, right) => pass_either(step, to, &left, &right, turn),
         Shape::Repeat { least, most, piece } => {
-            let copies = copies_of(least, most, piece.places(), turn.start);
+            let copies = copies_from(least, most, piece.places(), turn.start);
             pass_copies(step, to, &piece, &copies, turn.entered)
         }
     }
