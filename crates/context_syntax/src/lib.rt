@@ -14,6 +14,3 @@ pub use customizable::{CustomFault, NoTypeName, read_customizable, types_follow_
 pub use label::Label;
 pub use laws::constants_are_stated;
 pub use type_names::TypeNames;
-
-#[cfg(test)]
-mod tests;

@@ -15,6 +15,3 @@ pub use laws::{
 pub use listings::{Listings, digest, listing};
 pub use mode::Mode;
 pub use twenty_bytes::Digest;
-
-#[cfg(test)]
-mod tests;

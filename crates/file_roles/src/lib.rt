@@ -9,6 +9,3 @@ mod role;
 pub use laws::constants_are_stated;
 pub use list::{FileList, NamedFile};
 pub use role::{FileRole, Part};
-
-#[cfg(test)]
-mod tests;

@@ -26,6 +26,3 @@ pub use format::Format;
 pub use laws::constants_are_stated;
 pub use reading::{RecordLimits, read_records, records_follow_grammar};
 pub use records::Records;
-
-#[cfg(test)]
-mod tests;

@@ -36,6 +36,3 @@ pub use users_fault::{NoUser, UsersFault};
 
 /// The name of the tool.
 pub const GENHOMEDIRCON: &str = "genhomedircon";
-
-#[cfg(test)]
-mod tests;

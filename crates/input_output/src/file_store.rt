@@ -19,8 +19,8 @@ use std::marker::Model;
 /// (ENOENT) and "file name too long" (ENAMETOOLONG), since no such file can exist. A read takes at
 /// most one byte more than its limit. A write makes the file anew, or shortens it to nothing first,
 /// so a write that fails may leave a part of the bytes; it ends once the bytes have reached their
-/// device, since some file systems tell only then that they lost them. One name may lead to another
-/// file.
+/// device, since some file systems tell only then that they lost them. One name may be read from
+/// another file; writes don't follow it.
 #[derive(Drop)]
 pub struct FileStore<'r, R> {
     system: &'r R,
@@ -46,7 +46,7 @@ impl<'r, R: Files> FileStore<'r, R> {
         FileStore::redirected(system, "", "")
     }
 
-    /// The same, where the name `from` leads to the file `to`, unless `to` is empty.
+    /// The same, where a read of the name `from` reads the file `to`, unless `to` is empty.
     pub fn redirected(system: &'r R, from: &'r str, to: &'r str) -> FileStore<'r, R>
         ensures { result ≡ record { read_faults = 0; write_faults = 0 } }
     {
@@ -154,75 +154,10 @@ impl<'r, R: Files> Store for FileStore<'r, R> {
         name: &str,
         text: &PiecedText,
     ) -> Result<(), SaveFault> {
-        let answer = save(self.system, name_led(self.from, self.to, name), text);
+        let answer = save(self.system, name, text);
         if let Err(SaveFault::Failed) = &answer {
             self.write_faults = self.write_faults.saturating_add(1);
         }
         answer
-    }
-}
-
-#[cfg(test)]
-mod tests {
-    use super::*;
-    use label_base::OutOfMemory;
-    use std::test::Fail;
-    use std::{env, process};
-
-    fn text(alloc: Global, bytes: &[u8]) -> Result<PiecedText, OutOfMemory> {
-        PiecedText::of(alloc, Bytes::copy_of(alloc, bytes)?)
-    }
-
-    #[test]
-    fn a_file_of_the_system_is_written_and_read(rt: HostRuntime) -> Result<(), Fail> {
-        let id = process::id(rt.process());
-        let name = format!(in rt.alloc(); "label_base-{id}")?;
-        let path = env::temp_dir(&rt)?.join(rt.alloc(), name.as_str())?;
-        let mut store = FileStore::new(&rt);
-        let mut longer = text(rt.alloc(), b"one")?;
-        longer.push(Bytes::copy_of(rt.alloc(), b" and two")?)?;
-        store.write_file(rt.alloc(), path.as_str(), &longer)?;
-        store.write_file(rt.alloc(), path.as_str(), &text(rt.alloc(), b"three")?)?;
-        let read = store.read_file(rt.alloc(), path.as_str(), 5);
-        let long = store.read_file(rt.alloc(), path.as_str(), 4).err();
-        fs::remove_file(&rt, path.as_str())?;
-        assert_eq!(rt; read?.as_slice(), b"three".as_slice());
-        assert_eq!(rt; long, Some(FileFault::TooLong));
-        Ok(())
-    }
-
-    #[test]
-    fn a_name_leads_to_another_file(rt: HostRuntime) -> Result<(), Fail> {
-        let id = process::id(rt.process());
-        let name = format!(in rt.alloc(); "label_base-led-{id}")?;
-        let path = env::temp_dir(&rt)?.join(rt.alloc(), name.as_str())?;
-        let three = text(rt.alloc(), b"three")?;
-        FileStore::new(&rt).write_file(rt.alloc(), path.as_str(), &three)?;
-        let mut store = FileStore::redirected(&rt, "/dev/no such file", path.as_str());
-        let read = store.read_file(rt.alloc(), "/dev/no such file", 5);
-        fs::remove_file(&rt, path.as_str())?;
-        assert_eq!(rt; read?.as_slice(), b"three".as_slice());
-        let mut plain = FileStore::redirected(&rt, "/dev/no such file", "");
-        let absent = plain.read_file(rt.alloc(), "/dev/no such file", 5).err();
-        assert_eq!(rt; absent, Some(FileFault::NotThere));
-        Ok(())
-    }
-
-    #[test]
-    fn a_file_that_is_not_there(rt: HostRuntime) {
-        let mut store = FileStore::new(&rt);
-        let absent = store.read_file(rt.alloc(), "/dev/no such file", 9).err();
-        assert_eq!(rt; absent, Some(FileFault::NotThere));
-        let below_none = store.read_file(rt.alloc(), "/dev/null/a", 9).err();
-        assert_eq!(rt; below_none, Some(FileFault::Failed));
-    }
-
-    #[test]
-    fn no_file_has_so_long_a_name(rt: HostRuntime) -> Result<(), Fail> {
-        let name = "a".repeat(rt.alloc(), 5000)?;
-        let mut store = FileStore::new(&rt);
-        let absent = store.read_file(rt.alloc(), name.as_str(), 9).err();
-        assert_eq!(rt; absent, Some(FileFault::NotThere));
-        Ok(())
     }
 }

@@ -27,6 +27,3 @@ pub use words::{AuditWords, read_audit};
 
 /// The name of the tool.
 pub const AUDIT: &str = "audit";
-
-#[cfg(test)]
-mod tests;

@@ -7,14 +7,3 @@ pub fn greater(a: Option<usize>, b: Option<usize>) -> Option<usize>
 {
     a.max(b)
 }
-
-#[cfg(test)]
-mod tests {
-    use super::greater;
-
-    #[test]
-    fn one_is_greater_than_none(rt: HostRuntime) {
-        assert_eq!(rt; greater(Some(2), Some(7)), Some(7));
-        assert_eq!(rt; greater(Some(0), None), Some(0));
-    }
-}

@@ -34,17 +34,3 @@ pub fn read_number(bytes: &[u8]) -> Option<u64>
     }
     Some(value)
 }
-
-#[cfg(test)]
-mod tests {
-    use super::*;
-
-    #[test]
-    fn numbers_have_at_most_64_bits(rt: HostRuntime) {
-        assert_eq!(rt; read_number(b"007"), Some(7));
-        assert_eq!(rt; read_number(b"18446744073709551615"), Some(u64::MAX));
-        for text in [b"".as_slice(), b"1a", b"-1", b"18446744073709551616"] {
-            assert_eq!(rt; read_number(text), None);
-        }
-    }
-}

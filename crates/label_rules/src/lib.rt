@@ -17,6 +17,3 @@ pub use listed::ListedRules;
 pub use looking_up::{look_up, look_up_path};
 pub use rules::Rules;
 pub use verdict::{Verdict, decide};
-
-#[cfg(test)]
-mod tests;

@@ -21,6 +21,3 @@ pub use words::{LookupWords, read_lookup};
 
 /// The name of the tool.
 pub const MATCHPATHCON: &str = "matchpathcon";
-
-#[cfg(test)]
-mod tests;

@@ -16,6 +16,3 @@ pub use sub::Sub;
 pub use sub_fault::{NoSub, SubFault};
 pub use sub_list::SubList;
 pub use subs::Subs;
-
-#[cfg(test)]
-mod tests;

@@ -146,32 +146,3 @@ fn halves<'a>(operations: &'a [Operation]) -> (Part<'a>, Part<'a>)
     let (first, second) = split_last_part(operations);
     (Part { operations: first }, Part { operations: second })
 }
-
-#[cfg(test)]
-mod tests {
-    use super::*;
-    use crate::spelling::operations_of;
-    use std::alloc::Global;
-
-    // How many places the part has that the nodes are.
-    fn places(alloc: Global, nodes: &[Node]) -> Option<usize> {
-        match operations_of(alloc, nodes) {
-            Ok(Some(operations)) => Some(Part::of(operations.as_slice()).places()),
-            _ => None,
-        }
-    }
-
-    #[test]
-    fn places_of_copies(rt: HostRuntime) {
-        let nodes = [
-            Node::Byte(b'a'),
-            Node::Byte(b'b'),
-            Node::Both,
-            Node::Repeat {
-                least: 0,
-                most: Some(3),
-            },
-        ];
-        assert_eq!(rt; places(rt.alloc(), &nodes), Some(6));
-    }
-}

@@ -30,6 +30,3 @@ pub use limits::{MOST_GROUPS, MOST_POSITIONS, MOST_TIMES};
 pub use node::Node;
 pub use pattern::Pattern;
 pub use pattern_fault::{PatternFault, PatternWhy};
-
-#[cfg(test)]
-mod tests;

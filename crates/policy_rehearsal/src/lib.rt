@@ -24,6 +24,3 @@ pub use words::{RehearseWords, read_rehearse};
 
 /// The name of the tool.
 pub const REHEARSE_TOOL: &str = "rehearse";
-
-#[cfg(test)]
-mod tests;

@@ -44,12 +44,3 @@ pub use stored::Stored;
 pub use swept::{Cursor, Skip, Swept, does_skip, is_first, is_skipped};
 pub use walked::Walked;
 pub use walking::walk;
-
-#[cfg(test)]
-mod digest_tests;
-#[cfg(test)]
-mod dump_tests;
-#[cfg(test)]
-mod test_walks;
-#[cfg(test)]
-mod tests;

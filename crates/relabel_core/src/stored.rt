@@ -214,8 +214,8 @@ impl Stored {
         }
     }
 
-    // Whether no digest is stored.
-    pub(crate) fn is_empty(&self) -> bool
+    /// Whether no digest is stored.
+    pub fn is_empty(&self) -> bool
         ensures { IsTrue result ↔ (digests_of self.now ≡ no_digests) }
     {
         self.by_directory.is_empty()

@@ -5,24 +5,9 @@
 
 ghost use Rattle.std.specs.Prelude.{◌<◌, ◌^◌, IfOk, length};
 
-#[cfg(test)]
-mod audit_tests;
-#[cfg(test)]
-mod digest_tests;
-#[cfg(test)]
-mod failing_tests;
-mod laws;
-#[cfg(test)]
-mod realistic_tests;
-mod runs;
-#[cfg(test)]
-mod tests;
-#[cfg(test)]
-mod worked_tests;
-
-use crate::runs::top;
 use input_output::{FileStore, ReadSource, WriteSink};
 use policy_files::CUSTOMIZABLE_TYPES;
+use relabel_commands::top;
 use std::alloc::Global;
 use std::env::VarError;
 use std::io::ErrorKind;
@@ -34,10 +19,13 @@ use std::{env, io, thread};
 const TYPES_VARIABLE: &str = "RELABEL_CUSTOMIZABLE_TYPES";
 /// The exit status where the program is given 2^31 words or more.
 const TOO_MANY_WORDS: u8 = 250;
-/// The exit status where a word, or the variable, is no text.
+/// The exit status where a word is no text.
 const WORDS_REFUSED: u8 = 251;
 /// The exit status where there is no memory for the words.
 const NO_MEMORY: u8 = 254;
+/// A name that no file can have, for a value of the variable that is no text: reading the types by
+/// it fails.
+const NO_FILE: &str = "\0";
 
 // The words after the program's name, or the status to end with.
 fn words_of(alloc: Global, rt: &HostRuntime) -> Result<Vec<String>, u8>
@@ -65,7 +53,10 @@ fn types_named(rt: &HostRuntime) -> Result<String, u8> {
     match env::var(rt, TYPES_VARIABLE) {
         Ok(name) => Ok(name),
         Err(VarError::NotPresent) => Ok(String::new(rt.alloc())),
-        Err(VarError::NotUnicode) => Err(WORDS_REFUSED),
+        Err(VarError::NotUnicode) => match String::from_str(rt.alloc(), NO_FILE) {
+            Ok(name) => Ok(name),
+            Err(_) => Err(NO_MEMORY),
+        },
         Err(VarError::OutOfMemory) => Err(NO_MEMORY),
     }
 }

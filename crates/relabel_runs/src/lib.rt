@@ -29,6 +29,3 @@ pub fn one_more_run_keeps_labels()
 pub fn none_is_skipped()
     ensures { NoneSkipped }
 {}
-
-#[cfg(test)]
-mod tests;

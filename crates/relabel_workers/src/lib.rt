@@ -12,10 +12,6 @@ mod put_back;
 mod running;
 mod share;
 mod site;
-#[cfg(test)]
-mod test_worlds;
-#[cfg(test)]
-mod tests;
 mod walk;
 mod work;
 

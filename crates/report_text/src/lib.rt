@@ -5,8 +5,6 @@
 mod laws;
 mod lines;
 mod message;
-#[cfg(test)]
-mod tests;
 mod words;
 
 pub use laws::constants_are_stated;

@@ -8,6 +8,3 @@ mod writing;
 pub use ending::{End, Ending, Saved};
 pub use refusing::{finish, give_up, lose_dump, outcome, refuse, refuse_words};
 pub use writing::save;
-
-#[cfg(test)]
-mod tests;

@@ -10,6 +10,3 @@ pub use cause::{Cause, LimitKind, Outcome};
 pub use fault::{fault_line, status};
 pub use finding::{Finding, Piece};
 pub use laws::constants_are_stated;
-
-#[cfg(test)]
-mod tests;

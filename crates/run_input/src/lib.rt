@@ -9,6 +9,3 @@ mod records;
 pub use files::read_part;
 pub use laws::constants_are_stated;
 pub use records::{MOST_RECORD_BYTES, MOST_RECORDS, read_entries, read_tree};
-
-#[cfg(test)]
-mod tests;

@@ -18,6 +18,3 @@ pub use words::{MOST_FILES, SampleWords, read_sample};
 
 /// The name of the tool.
 pub const SAMPLE: &str = "sample";
-
-#[cfg(test)]
-mod tests;

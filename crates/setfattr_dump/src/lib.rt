@@ -17,6 +17,3 @@ pub use fault::{DumpFault, DumpWhy};
 pub use laws::constants_are_stated;
 pub use marks::{DIGEST_KEY, FILE_MARK, LABEL_KEY};
 pub use writing::{add_attr, add_name, end_section};
-
-#[cfg(test)]
-mod tests;

@@ -3,8 +3,6 @@
 
 mod answering;
 mod carried;
-#[cfg(test)]
-mod carried_tests;
 mod carrying;
 mod compiled_spec;
 mod direct;
@@ -18,12 +16,8 @@ mod scratch;
 mod starts;
 mod stepping;
 mod table;
-#[cfg(test)]
-mod tests;
 mod trail;
 mod trials;
-#[cfg(test)]
-mod tried_tests;
 mod workspace;
 
 pub use carried::Carried;

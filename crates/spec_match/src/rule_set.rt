@@ -229,7 +229,7 @@ impl Scratch {
 
     /// The same with room for so many lists, so many specifications in all of them, and so many
     /// words of marks, in each table.
-    pub(crate) fn with_room(
+    pub fn with_room(
         alloc: Global,
         rules: &RuleSet,
         lists: usize,

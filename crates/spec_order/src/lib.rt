@@ -4,6 +4,3 @@
 mod order;
 
 pub use order::ordered;
-
-#[cfg(test)]
-mod tests;

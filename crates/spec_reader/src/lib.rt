@@ -12,6 +12,3 @@ pub use line::NO_CONTEXT;
 pub use reading::{read_specs, specs_follow_grammar};
 pub use spec::{Decision, Spec};
 pub use spec_fault::{SpecFault, SpecWhy};
-
-#[cfg(test)]
-mod tests;

@@ -9,6 +9,3 @@ mod stem_index;
 pub use candidates::Candidates;
 pub use laws::candidates_fit;
 pub use stem_index::StemIndex;
-
-#[cfg(test)]
-mod tests;

@@ -10,49 +10,43 @@ ghost use Rattle.relabel_core.specs.Walked.{IsFit, walk_of};
 
 use crate::entry_texts::{add_lines, add_sections};
 use label_base::{Bytes, OutOfMemory, PiecedText};
-use relabel_core::{WalkInput, Walked, uses_digests};
+use relabel_core::{WalkInput, Walked};
 use relabel_workers::{OpenGate, walk_threads};
 use std::alloc::Global;
 use std::sync::Wait;
 use std::thread::Threads;
 use tree_relabelling::{OneWorker, Walker};
 
-/// So many workers, of whom one alone works where a tree has too few entries.
+/// A number of workers, who walk a tree and write its texts at once.
 #[derive(Drop)]
 pub struct Workers<'r, R: Threads + Wait + Sync> {
     rt: &'r R,
     count: u32,
-    // The fewest entries for each.
-    fewest: u32,
     ghost some: { 0 < count },
     ghost few: { count ≤ MOST_WORKERS },
-    ghost each: { 0 < fewest },
 }
 
 impl<'r, R: Threads + Wait + Sync> Workers<'r, R> {
-    /// At most so many workers, of whom each has at least so many entries of a tree, or else one
-    /// works.
-    pub fn new(rt: &'r R, count: u32, fewest: u32) -> Workers<'r, R>
+    /// As many workers as the count says, or as a tree has entries where that is fewer.
+    pub fn new(rt: &'r R, count: u32) -> Workers<'r, R>
         requires some { 0 < count }
         requires few { count ≤ MOST_WORKERS }
-        requires each { 0 < fewest }
     {
-        Workers { rt, count, fewest }
+        Workers { rt, count }
     }
 
     // How many work for a tree of so many entries.
     fn count_for(&self, entries: u32) -> u32
-        ensures value { result ≡ count_for self.now.count self.now.fewest entries }
+        ensures value { result ≡ count_for self.now.count entries }
         ensures some { 0 < result }
         ensures few { result ≤ MOST_WORKERS }
     {
         let _ = &self.count;
-        let most = entries / self.fewest;
-        if most == 0 {
+        if entries == 0 {
             return 1;
         }
-        if most < self.count {
-            return most;
+        if entries < self.count {
+            return entries;
         }
         self.count
     }
@@ -113,12 +107,9 @@ impl<'r, R: Threads + Wait + Sync> Walker for Workers<'r, R> {
 
     ghost IsReady = { λ workers. IsSync R.row };
 
-    // Workers take the directories of a queue as they come, so one after the other is seldom near
-    // the last in the tree, by which one worker saves most of a look-up. That pays where digests
-    // are made.
     fn walk<'a>(&self, alloc: Global, input: &WalkInput<'a>) -> Result<Walked<'a>, OutOfMemory> {
         let workers = self.count_for(input.tree.len());
-        if workers == 1 || !uses_digests(&input.options) {
+        if workers == 1 {
             return OneWorker.walk(alloc, input);
         }
         walk_shared(self.rt, alloc, input, workers)

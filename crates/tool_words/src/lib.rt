@@ -20,6 +20,3 @@ pub use lists::{names_of, operands, paths_given};
 pub use reading::{read_items, read_items_within};
 pub use said::{has_flag, has_operand, has_value, kind_of, name_of, number_of, value_of};
 pub use usage::{Usage, UsageWhy};
-
-#[cfg(test)]
-mod tests;

@@ -30,6 +30,3 @@ pub use job_entries::JobEntries;
 pub use laws::{absent_have_no_entry, groups_are_inodes, jobs_are_directories};
 pub use selection::Selected;
 pub use tree::Tree;
-
-#[cfg(test)]
-mod tests;

@@ -22,6 +22,3 @@ pub const SETFILES: &str = "setfiles";
 
 /// The name of the tool that goes below its paths where it is asked to.
 pub const RESTORECON: &str = "restorecon";
-
-#[cfg(test)]
-mod tests;

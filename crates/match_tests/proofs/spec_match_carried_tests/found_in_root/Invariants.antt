@@ -1,0 +1,4 @@
+use Rattle.match_tests.proofs.spec_match_carried_tests.found_in_root.Given as goal
+
+abbrev pub ghosts-counted : goal.ghosts-counted
+ghosts-counted a = record { name = a.blank.name; parts = a.blank.parts }

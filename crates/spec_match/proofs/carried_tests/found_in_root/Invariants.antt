@@ -1,4 +1,0 @@
-use Rattle.spec_match.proofs.carried_tests.found_in_root.Given as goal
-
-abbrev pub ghosts-counted : goal.ghosts-counted
-ghosts-counted a = record { name = a.blank.name; parts = a.blank.parts }

@@ -1,5 +1,0 @@
-use Rattle.spec_match.specs.Scratches.{IsScratchOf}
-use Rattle.spec_match.proofs.tests.are_rounds_right.Given as goal
-
-abbrev pub invariant-rounds : goal.invariant-rounds
-invariant-rounds l = IsScratchOf l.rules l.scratch

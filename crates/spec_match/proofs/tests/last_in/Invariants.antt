@@ -1,4 +1,0 @@
-use Rattle.spec_match.proofs.tests.last_in.Given as goal
-
-abbrev pub ghosts-counted : goal.ghosts-counted
-ghosts-counted a = record { name = a.blank.name; parts = a.blank.parts }

@@ -1,6 +1,0 @@
-ghost use Rattle.threaded_relabelling.specs.Constants.{ConstantsAreStated};
-
-/// A law: the constants are those of `specs/Constants.antt`. It does nothing.
-pub fn constants_are_stated()
-    ensures { ConstantsAreStated }
-{}
