@@ -1,0 +1,368 @@
+//! What relabel decided of a part, and how it is set.
+
+use crate::decide::Answer;
+use crate::digest::{is_void, Marks};
+use crate::dump::{self, Section};
+use crate::links::Groups;
+use crate::progress::Phase;
+use crate::report::{self, Line};
+use crate::run::Run;
+use crate::say::{plain, push_reported, refusal, refuse, say, Outcome};
+use crate::set::{self, Change, Expected, Setting, Unset, Watch};
+use crate::show::{Item, Shower, Shown, Style, DONE, FAILED, WAITS};
+use crate::sys::attributes::Attribute;
+use crate::sys::reason;
+use crate::tree::{Directory, Finder, Part, Place};
+use crate::words::{Mode, Words};
+use std::borrow::Cow;
+use std::collections::{HashMap, HashSet};
+use std::sync::atomic::{AtomicU8, AtomicUsize, Ordering};
+use std::sync::Arc;
+
+/// A label that was to be set.
+pub struct Labelled {
+    pub place: Place,
+    pub label: Vec<u8>,
+    pub is_set: bool,
+}
+
+/// What relabel decided.
+#[derive(Default)]
+pub struct Decided<'a> {
+    pub changes: Vec<Change<'a>>,
+    places: Vec<Place>,
+    items: Vec<Item<'a>>,
+    pub kept: usize,
+    pub undecided: usize,
+    pub skipped: usize,
+    pub conflicts: usize,
+    pub further: usize,
+    pub unread: usize,
+}
+
+fn not_agreed(what: &str) -> crate::say::Refusal {
+    refusal(format!("{what}; nothing of this part was set"))
+}
+
+/// The sections of a dump, each of an entry that was read, and of each one.
+fn sections_of<'a>(part: &Part, answer: &'a Answer) -> Outcome<Vec<(Place, Section<'a>)>> {
+    let sections = dump::parse(&answer.dump).map_err(|line| {
+        not_agreed(&format!("the dump of relabel is none at line {}", line.0))
+    })?;
+    let mut finder = Finder::new(part);
+    let mut seen = HashSet::new();
+    let mut placed = Vec::with_capacity(sections.len());
+    for section in sections {
+        match finder.find(&section.name).filter(|place| seen.insert(*place)) {
+            Some(place) => placed.push((place, section)),
+            None => {
+                let name = plain(&section.name);
+                return Err(not_agreed(&format!("relabel decided on {name}, which wasn't read")));
+            }
+        }
+    }
+    Ok(placed)
+}
+
+impl<'a> Decided<'a> {
+    pub fn of(
+        part: &'a Part,
+        groups: &Groups,
+        answer: &'a Answer,
+        words: &Words,
+    ) -> Outcome<Decided<'a>> {
+        let mut decided = Decided::default();
+        for (place, section) in sections_of(part, answer)? {
+            if let Some(label) = section.label {
+                decided.add(part, groups, place, section.name, label);
+            }
+        }
+        decided.read_report(part, groups, answer, words)?;
+        Ok(decided)
+    }
+    fn add(
+        &mut self,
+        part: &'a Part,
+        groups: &Groups,
+        place: Place,
+        path: Cow<'a, [u8]>,
+        value: Cow<'a, [u8]>,
+    ) {
+        let entry = part.entry(place);
+        let names = groups.names_of(entry).filter(|linked| linked.place != place);
+        let others: Vec<Vec<u8>> =
+            names.map(|it| it.directory.path_of(part.name(it.place))).collect();
+        if entry.directory == crate::tree::NO_DIRECTORY {
+            self.unread += (entry.links as usize).saturating_sub(1 + others.len());
+        }
+        let expected = Some(Expected {
+            device: entry.device,
+            inode: entry.inode,
+            kind: entry.kind,
+            birth: Some(entry.birth),
+            label: Some(part.label(place)),
+        });
+        self.changes.push(Change { path, expected, value, others });
+        self.places.push(place);
+    }
+    fn read_report(
+        &mut self,
+        part: &'a Part,
+        groups: &Groups,
+        answer: &'a Answer,
+        words: &Words,
+    ) -> Outcome<()> {
+        let shows = words.shows || words.mode != Mode::Set;
+        let mut finder = (groups.sizes().next().is_some()).then(|| Finder::new(part));
+        let mut undecided: HashMap<(u64, u64), usize> = HashMap::new();
+        let mut changed = 0;
+        for line in report::lines(&answer.report) {
+            let line = line.ok_or_else(|| not_agreed("the report of relabel has no end"))?;
+            let is_shown = match report::parse_line(line) {
+                Some(Line::Changed(rest)) => {
+                    if !self.agrees(changed, rest) {
+                        let line = plain(line);
+                        let told = format!("report and dump of relabel differ: {line}");
+                        return Err(not_agreed(&told));
+                    }
+                    if shows {
+                        self.items.push(Item::Change(changed));
+                    }
+                    changed += 1;
+                    continue;
+                }
+                Some(Line::Kept(_)) => {
+                    self.kept += 1;
+                    shows
+                }
+                Some(Line::Undecided(name)) => {
+                    self.undecided += 1;
+                    let finder = finder.as_mut();
+                    if let Some(place) = finder.and_then(|finder| {
+                        dump::unescaped(name).and_then(|name| finder.find(&name))
+                    }) {
+                        let entry = part.entry(place);
+                        *undecided.entry((entry.device, entry.inode)).or_default() += 1;
+                    }
+                    shows
+                }
+                Some(Line::Skipped(_)) => {
+                    self.skipped += 1;
+                    false
+                }
+                Some(Line::Conflict) => {
+                    self.conflicts += 1;
+                    shows || !words.quiet
+                }
+                None => {
+                    let line = plain(line);
+                    return Err(not_agreed(&format!("relabel reports what isn't known: {line}")));
+                }
+            };
+            if is_shown {
+                self.items.push(Item::Line(line));
+            }
+        }
+        if changed != self.changes.len() {
+            return Err(not_agreed("report and dump of relabel differ at their end"));
+        }
+        self.further = groups
+            .sizes()
+            .map(|(inode, size)| {
+                let undecided = undecided.get(&inode).copied().unwrap_or_default();
+                size.saturating_sub(1 + undecided)
+            })
+            .sum();
+        Ok(())
+    }
+    /// Whether a line of the report is that of the change.
+    fn agrees(&self, number: usize, line: &[u8]) -> bool {
+        let mut name = Vec::new();
+        let change = self.changes.get(number);
+        change.map_or(false, |change| {
+            push_reported(&mut name, &change.path);
+            line.strip_prefix(&name[..]).map_or(false, |rest| rest.starts_with(b" from "))
+        })
+    }
+    fn shown(&self, number: usize) -> Shown<'_> {
+        let change = &self.changes[number];
+        let from = change.expected.and_then(|expected| expected.label).unwrap_or_default();
+        Shown { path: &change.path, from, to: &change.value }
+    }
+    /// Shows what would change.
+    pub fn show(&self, style: Style) {
+        let answers: Vec<AtomicU8> = self.changes.iter().map(|_| AtomicU8::new(DONE)).collect();
+        Shower::new(style, &self.items, &answers, |number| self.shown(number)).finish();
+    }
+    /// Sets all labels, and says which.
+    pub fn set(self, run: &mut Run) -> Outcome<Vec<Labelled>> {
+        let answers: Vec<AtomicU8> = self.changes.iter().map(|_| AtomicU8::new(WAITS)).collect();
+        let done = Arc::new(AtomicUsize::new(0));
+        run.progress.begin(Phase {
+            name: "setting labels",
+            unit: "labels",
+            done: done.clone(),
+            all: Some(self.changes.len()),
+            moves: true,
+        });
+        let shower = Shower::new(run.style, &self.items, &answers, |number| self.shown(number));
+        let watch = SetWatch { changes: &self.changes, shower: &shower, done: &done };
+        let setting = Setting {
+            root: &run.root,
+            changes: &self.changes,
+            attribute: Attribute::Label,
+            threads: run.words.threads,
+            most_open: run.most_open,
+        };
+        let answer = set::set_all(&setting, &watch);
+        shower.finish();
+        drop(shower);
+        answer.or_else(|error| refuse(format!("/proc is needed: {}", reason(&error))))?;
+        let count = |which: u8| {
+            answers.iter().filter(|answer| answer.load(Ordering::Relaxed) == which).count()
+        };
+        run.totals.changed += count(DONE);
+        run.totals.unset += count(FAILED);
+        run.totals.left += count(WAITS);
+        run.totals.unread += self.unread;
+        let labels = self.changes.into_iter().zip(self.places).zip(answers);
+        let labels = labels.map(|((change, place), answer)| Labelled {
+            place,
+            label: change.value.into_owned(),
+            is_set: answer.into_inner() == DONE,
+        });
+        Ok(labels.collect())
+    }
+}
+
+/// Watches how labels are set.
+struct SetWatch<'a, 'b, F: Fn(usize) -> Shown<'a> + Sync> {
+    changes: &'b [Change<'a>],
+    shower: &'b Shower<'a, F>,
+    done: &'b AtomicUsize,
+}
+
+impl<'a, 'b, F: Fn(usize) -> Shown<'a> + Sync> Watch for SetWatch<'a, 'b, F> {
+    fn done(&self, number: usize, answer: Result<(), Unset>) {
+        self.done.fetch_add(1, Ordering::Relaxed);
+        let answers = self.shower.answers;
+        match answer {
+            Ok(()) => answers[number].store(DONE, Ordering::Release),
+            Err(unset) => {
+                answers[number].store(FAILED, Ordering::Release);
+                let path = &self.changes[number].path;
+                say(&format!("{}: {}", plain(path), unset.text()));
+                self.shower.style.tell_unset(path, unset.text());
+            }
+        }
+    }
+    fn pause(&self) {
+        self.shower.go_on();
+    }
+}
+
+/// The directories, by their numbers.
+fn directories_of(part: &Part) -> HashMap<u32, &Directory> {
+    part.listings.iter().map(|it| (it.directory.number, &*it.directory)).collect()
+}
+
+/// Notes where something isn't set: above each name of it, and at it.
+fn note_unset(part: &Part, labels: &[Labelled]) -> HashSet<Place> {
+    let mut unset: HashSet<Place> = HashSet::new();
+    for labelled in labels.iter().filter(|labelled| !labelled.is_set) {
+        unset.insert(labelled.place);
+    }
+    if !unset.is_empty() {
+        let inodes: HashSet<(u64, u64)> = unset
+            .iter()
+            .map(|place| part.entry(*place))
+            .map(|entry| (entry.device, entry.inode))
+            .collect();
+        for listing in &part.listings {
+            let is_unset = |place: Place| {
+                let entry = part.entry(place);
+                inodes.contains(&(entry.device, entry.inode))
+            };
+            if crate::tree::places_of(listing).any(is_unset) {
+                listing.directory.note_amiss();
+            }
+        }
+    }
+    unset
+}
+
+/// Sets the digests of directories at and below which all was read and set.
+pub fn set_digests(
+    run: &mut Run,
+    part: &Part,
+    answer: &Answer,
+    labels: &[Labelled],
+    unread: &HashSet<u32>,
+) -> Outcome<()> {
+    let unset = note_unset(part, labels);
+    let directories = directories_of(part);
+    let marks = Marks::of(part);
+    let mut changes = Vec::new();
+    for (place, section) in sections_of(part, answer)? {
+        let digest = match section.digest {
+            Some(digest) if !is_void(&digest) => digest,
+            _ => continue,
+        };
+        let entry = part.entry(place);
+        let is_amiss = directories.get(&entry.directory).map_or(false, |it| it.is_amiss())
+            || unread.contains(&entry.directory)
+            || unset.contains(&place);
+        if is_amiss {
+            continue;
+        }
+        let expected = Some(Expected {
+            device: entry.device,
+            inode: entry.inode,
+            kind: entry.kind,
+            birth: Some(entry.birth),
+            label: None,
+        });
+        let value = Cow::Owned(marks.value(part, place, &digest));
+        changes.push(Change { path: section.name, expected, value, others: Vec::new() });
+    }
+    let done = Arc::new(AtomicUsize::new(0));
+    run.progress.begin(Phase {
+        name: "setting digests",
+        unit: "digests",
+        done: done.clone(),
+        all: Some(changes.len()),
+        moves: true,
+    });
+    let unset = AtomicUsize::new(0);
+    let watch = DigestWatch { changes: &changes, done: &done, unset: &unset };
+    let setting = Setting {
+        root: &run.root,
+        changes: &changes,
+        attribute: Attribute::Digest,
+        threads: run.words.threads,
+        most_open: run.most_open,
+    };
+    let answer = set::set_all(&setting, &watch);
+    answer.or_else(|error| refuse(format!("/proc is needed: {}", reason(&error))))?;
+    run.totals.digests += done.load(Ordering::Relaxed) - unset.load(Ordering::Relaxed);
+    run.has_unset_digests |= unset.load(Ordering::Relaxed) > 0;
+    Ok(())
+}
+
+/// Watches how digests are set.
+struct DigestWatch<'a, 'b> {
+    changes: &'b [Change<'a>],
+    done: &'b AtomicUsize,
+    unset: &'b AtomicUsize,
+}
+
+impl<'a, 'b> Watch for DigestWatch<'a, 'b> {
+    fn done(&self, number: usize, answer: Result<(), Unset>) {
+        self.done.fetch_add(1, Ordering::Relaxed);
+        if let Err(unset) = answer {
+            self.unset.fetch_add(1, Ordering::Relaxed);
+            let path = plain(&self.changes[number].path);
+            say(&format!("{path}: its digest: {}", unset.text()));
+        }
+    }
+}

@@ -1,0 +1,476 @@
+//! A run of relabel-tree: reads, has relabel decide, sets, part after part.
+
+use crate::decide::{Answer, Decider, Running};
+use crate::digest;
+use crate::json::{self, Value};
+use crate::links::{Groups, Links};
+use crate::lock::Lock;
+use crate::mounts::{self, Asked, Cause, LeftOut, Special};
+use crate::part::Decided;
+use crate::paths::{without_nested, Root};
+use crate::policy;
+use crate::progress::{Phase, Progress};
+use crate::records::{self, Outlet};
+use crate::say::{is_all_written, plain, refusal, refuse, say, Outcome, Refusal};
+use crate::scan::{Scan, Settings};
+use crate::show::Style;
+use crate::sys::process::{is_root, raise_descriptors, set_up_signals, stopping};
+use crate::sys::reason;
+use crate::tree::{places_of, Part, Shelf};
+use crate::words::{Digests, Mode, Words};
+use std::fs::File;
+use std::io;
+use std::os::unix::io::OwnedFd;
+use std::sync::atomic::Ordering;
+use std::time::Instant;
+
+/// A part has at least so many entries, where the tree has as many; relabel takes 2,097,152.
+const PART: usize = 1_900_000;
+
+/// What a run counts.
+#[derive(Default)]
+pub struct Totals {
+    pub records: usize,
+    pub changed: usize,
+    pub unset: usize,
+    /// What was to be set when a signal came.
+    pub left: usize,
+    pub kept: usize,
+    pub undecided: usize,
+    /// Names of an inode beyond the first.
+    pub further: usize,
+    pub skipped: usize,
+    pub conflicts: usize,
+    /// Names of relabelled files that weren't read.
+    pub unread: usize,
+    pub digests: usize,
+}
+
+pub struct Run {
+    pub words: Words,
+    pub style: Style,
+    pub totals: Totals,
+    pub progress: Progress,
+    pub most_open: usize,
+    pub root: OwnedFd,
+    scan: Scan,
+    decider: Decider,
+    links: Links,
+    lock: Option<Lock>,
+    paths: Vec<Vec<u8>>,
+    is_partial: bool,
+    pub has_unset_digests: bool,
+    began: Instant,
+}
+
+/// Runs with these words, and gives the status.
+pub fn run(words: Words) -> Outcome<u8> {
+    let mut run = match Run::prepare(words)? {
+        Some(run) => run,
+        None => return Ok(stopped_status()),
+    };
+    let answer = run.run_parts();
+    run.progress.end();
+    if stopping().is_some() {
+        return Ok(run.tell_stopped());
+    }
+    answer?;
+    run.tell_end();
+    Ok(run.status())
+}
+
+fn stopped_status() -> u8 {
+    128u8.saturating_add(u8::try_from(stopping().unwrap_or_default()).unwrap_or_default())
+}
+
+/// What keeps a run from its first step.
+fn cannot(what: &str) -> impl Fn(io::Error) -> Refusal + '_ {
+    move |error| refusal(format!("{what}: {}", reason(&error)))
+}
+
+impl Run {
+    fn prepare(words: Words) -> Outcome<Option<Run>> {
+        let began = Instant::now();
+        let wakes = set_up_signals().map_err(cannot("signals"))?;
+        let root = Root::of(&words.root)?;
+        let program = policy::find_program()?;
+        let files = policy::find(&words.policy, &root)?;
+        let has_types = std::fs::metadata(crate::paths::as_path(&files.types)).is_ok();
+        if !words.forces && !has_types && !words.quiet {
+            let types = plain(&files.types);
+            say(&format!("{types}: not there, so no file counts as customized"));
+        }
+        if words.mode == Mode::Set && !is_root() {
+            return refuse("only root can set labels; -n shows what would be set");
+        }
+        let (paths, left_out, is_partial) = paths_of(&words, &root)?;
+        let at = crate::paths::as_path(if root.is_other() { &root.at } else { b"/" }).to_owned();
+        let opened = File::open(&at).map_err(cannot(&plain(&words.root)))?;
+        let status = crate::sys::files::status_of(&opened).map_err(cannot("statx"))?;
+        let mut lock = None;
+        if words.mode == Mode::Set {
+            lock = Lock::take(&status)?;
+            if lock.is_none() {
+                return Ok(None);
+            }
+        }
+        let threads = match words.threads {
+            1 => 1,
+            several if crate::sys::process::has_own_folders() => several,
+            _ => 1,
+        };
+        let keeps = words.digests != Digests::None;
+        let most_open = (raise_descriptors() / (4 * threads)).clamp(8, 4096);
+        let settings = Settings {
+            special: Special::tree(&left_out),
+            keeps,
+            threads,
+            most_open: most_open * threads,
+            most: part_size(),
+        };
+        let decider = Decider {
+            program,
+            spec: files.spec,
+            types: files.types,
+            forces: words.forces,
+            keeps,
+            workers: threads,
+            wakes,
+        };
+        let scanned = opened.try_clone().map_err(cannot("dup"))?;
+        Ok(Some(Run {
+            style: Style::of(&words),
+            totals: Totals::default(),
+            progress: Progress::new(words.quiet),
+            most_open,
+            root: opened.into(),
+            scan: Scan::new(scanned.into(), settings).map_err(cannot("statx"))?,
+            decider,
+            links: Links::default(),
+            lock,
+            paths,
+            is_partial,
+            has_unset_digests: false,
+            words: Words { threads, ..words },
+            began,
+        }))
+    }
+
+    fn run_parts(&mut self) -> Outcome<()> {
+        self.tell_resumed();
+        let mut is_first = true;
+        loop {
+            let mut running = None;
+            if !self.decider.keeps {
+                let (started, outlet) = self.decider.start(None)?;
+                self.scan.send_to(outlet);
+                running = Some(started);
+            }
+            let shelf = self.begin_part(is_first);
+            let mut part = Part::new(self.scan.read_part(shelf));
+            self.totals.records += part.count();
+            if stopping().is_some() {
+                running.map(Running::end);
+                return Ok(());
+            }
+            let has_more = self.scan.has_more();
+            self.scan.note_cut();
+            let groups = self.links.groups_of(&mut part, has_more);
+            self.decide(part, &groups, running)?;
+            if stopping().is_some() || !has_more {
+                break;
+            }
+            is_first = false;
+        }
+        while let Some(part) = self.links.next_part(part_size()) {
+            let mut part = part;
+            let groups = self.links.groups_of(&mut part, false);
+            self.decide(part, &groups, None)?;
+            if stopping().is_some() {
+                break;
+            }
+        }
+        if let Some(lock) = self.lock.as_mut().filter(|_| stopping().is_none()) {
+            lock.note_done();
+        }
+        Ok(())
+    }
+    fn begin_part(&mut self, is_first: bool) -> Shelf {
+        self.progress.begin(Phase {
+            name: "reading the tree",
+            unit: "records",
+            done: self.scan.count.clone(),
+            all: None,
+            moves: true,
+        });
+        if is_first {
+            return self.scan.begin(&self.paths);
+        }
+        self.scan.begin_part();
+        Shelf::default()
+    }
+    /// Has a part decided, and sets it.
+    fn decide(
+        &mut self,
+        mut part: Part,
+        groups: &Groups,
+        running: Option<Running>,
+    ) -> Outcome<()> {
+        self.progress.begin(Phase {
+            name: "deciding",
+            unit: "records",
+            done: self.scan.count.clone(),
+            all: None,
+            moves: false,
+        });
+        let (running, sent) = match running {
+            Some(running) => {
+                let mut sent = Ok(());
+                if let Some(outlet) = self.scan.take_outlet() {
+                    sent = send_linked(&part, groups, outlet);
+                }
+                (running, sent)
+            }
+            None => {
+                let known = (self.words.digests == Digests::Known).then(|| digest::known(&part));
+                let (running, outlet) = self.decider.start(known.as_deref())?;
+                let sent = send_all(&part, groups, outlet, self.decider.keeps);
+                (running, sent)
+            }
+        };
+        let is_lost = sent.is_err() || self.scan.is_lost();
+        let answer = match running.finish()? {
+            Some(answer) => answer,
+            None => return Ok(()),
+        };
+        answer.check(self.totals.changed > 0)?;
+        if is_lost {
+            return refuse("relabel ended before it had read all; nothing was set");
+        }
+        self.apply(&mut part, groups, &answer)
+    }
+    fn apply(&mut self, part: &mut Part, groups: &Groups, answer: &Answer) -> Outcome<()> {
+        let decided = Decided::of(part, groups, answer, &self.words)?;
+        self.totals.kept += decided.kept;
+        self.totals.undecided += decided.undecided;
+        self.totals.skipped += decided.skipped;
+        self.totals.conflicts += decided.conflicts;
+        self.totals.further += decided.further;
+        if self.words.mode != Mode::Set {
+            decided.show(self.style);
+            self.totals.changed += decided.changes.len();
+            return Ok(());
+        }
+        if !decided.changes.is_empty() {
+            if let Some(lock) = &mut self.lock {
+                lock.note_begun();
+            }
+        }
+        let labels = decided.set(self)?;
+        if self.decider.keeps && stopping().is_none() {
+            self.set_digests(part, groups, answer, &labels)?;
+        }
+        Ok(())
+    }
+    fn set_digests(
+        &mut self,
+        part: &mut Part,
+        groups: &Groups,
+        answer: &Answer,
+        labels: &[crate::part::Labelled],
+    ) -> Outcome<()> {
+        for labelled in labels.iter().filter(|labelled| labelled.is_set) {
+            let names = groups.names_of(part.entry(labelled.place));
+            for place in names.map(|linked| linked.place).chain([labelled.place]) {
+                part.set_label(place, &labelled.label);
+            }
+        }
+        let unread = self.scan.unread();
+        crate::part::set_digests(self, part, answer, labels, &unread)
+    }
+
+    fn tell_resumed(&mut self) {
+        if let Some(lock) = &mut self.lock {
+            if lock.was_stopped() && !self.words.quiet {
+                say("the last run here was stopped in its middle; this one does the rest");
+            }
+        }
+    }
+    fn tell_stopped(&self) -> u8 {
+        let (set, left) = (self.totals.changed, self.totals.left);
+        say(&format!(
+            "stopped; what was set stays ({set} labels, {left} more were to be set), and a \
+             further run does the rest"
+        ));
+        self.tell_json("stopped");
+        stopped_status()
+    }
+    fn status(&self) -> u8 {
+        let totals = &self.totals;
+        let is_amiss = self.is_partial
+            || self.has_unset_digests
+            || self.scan.errors.load(Ordering::Relaxed) > 0
+            || totals.unset > 0
+            || self.words.mode == Mode::Check && totals.changed > 0
+            || !is_all_written();
+        u8::from(is_amiss)
+    }
+    /// What neither changed nor was told otherwise.
+    fn right(&self) -> usize {
+        let totals = &self.totals;
+        let told = totals.changed + totals.unset + totals.kept + totals.undecided + totals.further;
+        totals.records.saturating_sub(told)
+    }
+    fn tell_end(&self) {
+        let totals = &self.totals;
+        if totals.unread > 0 {
+            say(&format!(
+                "{} names of files that were relabelled weren't read; they have the new label too",
+                totals.unread
+            ));
+        }
+        self.tell_json("done");
+        if self.words.quiet && self.status() == 0 {
+            return;
+        }
+        let what = match (self.words.mode, totals.unset) {
+            (Mode::Set, 0) => "changed".to_string(),
+            (Mode::Set, unset) => format!("changed, {unset} not set"),
+            _ => "would change".to_string(),
+        };
+        let seconds = self.began.elapsed().as_secs_f64();
+        say(&format!(
+            "{} records, {} {what}, {} right, {} kept as customized, {} without a specification, \
+             {} more names, {} skipped, {} conflicts, {seconds:.1} seconds",
+            totals.records,
+            totals.changed,
+            self.right(),
+            totals.kept,
+            totals.undecided,
+            totals.further,
+            totals.skipped,
+            totals.conflicts,
+        ));
+        if !is_all_written() {
+            say("not all that was told could be written");
+        }
+    }
+    fn tell_json(&self, end: &str) {
+        if !self.style.json {
+            return;
+        }
+        let totals = &self.totals;
+        let number = |number: usize| Value::Number(number as u64);
+        let fields = [
+            ("end", Value::Text(end)),
+            ("records", number(totals.records)),
+            ("changed", number(totals.changed)),
+            ("not set", number(totals.unset + totals.left)),
+            ("right", number(self.right())),
+            ("kept", number(totals.kept)),
+            ("without a specification", number(totals.undecided)),
+            ("more names", number(totals.further)),
+            ("skipped", number(totals.skipped)),
+            ("conflicts", number(totals.conflicts)),
+            ("not read", number(self.scan.errors.load(Ordering::Relaxed))),
+            ("digests", number(totals.digests)),
+            ("seconds", Value::Seconds(self.began.elapsed().as_secs_f64())),
+        ];
+        self.style.write(json::line(&fields).as_bytes());
+    }
+}
+
+/// So many entries a part, or what RELABEL_PART says, where a small part is wanted.
+fn part_size() -> usize {
+    let named = std::env::var("RELABEL_PART").ok().and_then(|text| text.parse().ok());
+    named.unwrap_or(PART).clamp(1, PART)
+}
+
+/// The paths that are read, what is left out, and whether a path is left out itself.
+fn paths_of(words: &Words, root: &Root) -> Outcome<(Vec<Vec<u8>>, LeftOut, bool)> {
+    let mut paths = Vec::new();
+    for word in &words.paths {
+        paths.push(root.path_of(word)?);
+    }
+    if paths.is_empty() {
+        paths.push(b"/".to_vec());
+    }
+    let paths = without_nested(paths);
+    let mut left_out = LeftOut::new();
+    for word in &words.excluded {
+        left_out.push((root.excluded(word)?, Cause::Word));
+    }
+    for listed in policy::listed_exclusions(root) {
+        let listed = root.excluded(&listed).unwrap_or(listed);
+        let is_below = |path: &Vec<u8>| *path != listed && mounts::is_at_or_below(&listed, path);
+        if paths.iter().any(is_below) {
+            left_out.push((listed, Cause::Listed));
+        }
+    }
+    let table = std::fs::read("/proc/self/mountinfo").map_err(cannot("/proc/self/mountinfo"))?;
+    let asked = Asked {
+        at: &root.at,
+        paths: &paths,
+        one_system: words.one_system,
+        sets: words.mode == Mode::Set,
+    };
+    left_out.extend(mounts::left_out_by(&mounts::parse(&table), &asked));
+    tell_left_out(words, &left_out);
+    let special = Special::tree(&left_out);
+    let mut is_partial = false;
+    let mut read = Vec::new();
+    for path in paths {
+        match special.cause_at(&path) {
+            None => read.push(path),
+            Some(cause) => {
+                is_partial |= !matches!(cause, Cause::Second(_));
+                say(&format!("{}: not read: {}", plain(&path), cause.text()));
+            }
+        }
+    }
+    Ok((read, left_out, is_partial))
+}
+
+fn tell_left_out(words: &Words, left_out: &LeftOut) {
+    for (path, cause) in left_out {
+        let is_told = matches!(cause, Cause::Listed | Cause::ReadOnly | Cause::Second(_));
+        if is_told && !words.quiet {
+            say(&format!("{}: left out: {}", plain(path), cause.text()));
+        }
+    }
+}
+
+fn push(to: &mut Vec<u8>, part: &Part, place: crate::tree::Place, links: bool, above: &[u8]) {
+    let entry = part.entry(place);
+    records::push(to, entry, links, part.label(place), above, part.name(place));
+}
+
+/// Sends the records of inodes with several names, which were held back until all are known.
+fn send_linked(part: &Part, groups: &Groups, mut outlet: Outlet) -> io::Result<()> {
+    let (mut text, mut above) = (Vec::new(), Vec::new());
+    for linked in groups.all() {
+        linked.directory.write_path(&mut above);
+        push(&mut text, part, linked.place, false, &above);
+        if text.len() >= records::AT_ONCE {
+            outlet.send(&mut text)?;
+        }
+    }
+    outlet.send(&mut text)?;
+    outlet.finish()
+}
+
+/// Sends all records but those of inodes that are decided later.
+fn send_all(part: &Part, groups: &Groups, mut outlet: Outlet, links: bool) -> io::Result<()> {
+    let (mut text, mut above) = (Vec::new(), Vec::new());
+    for listing in &part.listings {
+        listing.directory.write_path(&mut above);
+        for place in places_of(listing).filter(|place| !groups.is_later(*place)) {
+            push(&mut text, part, place, links, &above);
+        }
+        if text.len() >= records::AT_ONCE {
+            outlet.send(&mut text)?;
+        }
+    }
+    outlet.send(&mut text)?;
+    outlet.finish()
+}
