@@ -21,7 +21,7 @@ const DIGEST_LINE: &[u8] = b"security.sehash=";
 pub struct BadLine(pub usize);
 
 /// All sections, in their order.
-pub fn parse(text: &[u8]) -> Result<Vec<Section>, BadLine> {
+pub fn parse(text: &[u8]) -> Result<Vec<Section<'_>>, BadLine> {
     let mut sections = Vec::new();
     let mut rest = text;
     let mut number = 0;
@@ -64,7 +64,7 @@ fn read_line<'a>(line: &'a [u8], sections: &mut Vec<Section<'a>>) -> Option<()> 
 }
 
 /// A value is a text in quotes, or hexadecimal digits behind 0x.
-fn value_of(value: &[u8]) -> Option<Bytes> {
+fn value_of(value: &[u8]) -> Option<Bytes<'_>> {
     match value {
         [b'0', b'x' | b'X', digits @ ..] => bytes_of_hex(digits).map(Cow::Owned),
         [b'"', text @ .., b'"'] => unescaped(text),
@@ -84,7 +84,7 @@ fn bytes_of_hex(digits: &[u8]) -> Option<Vec<u8>> {
 }
 
 /// Undoes the escapes of a text.
-pub fn unescaped(text: &[u8]) -> Option<Bytes> {
+pub fn unescaped(text: &[u8]) -> Option<Bytes<'_>> {
     if !text.contains(&b'\\') {
         return Some(Cow::Borrowed(text));
     }

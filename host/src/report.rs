@@ -21,7 +21,7 @@ const KEPT: &[u8] = b" not reset as customized by admin to ";
 
 /// A line of the report, or none where it is none of the lines that are asked for. Names begin with
 /// a slash, so the first bytes of a line tell which it is.
-pub fn parse_line(line: &[u8]) -> Option<Line> {
+pub fn parse_line(line: &[u8]) -> Option<Line<'_>> {
     if line.first() == Some(&b'/') {
         let is_kept = line.windows(KEPT.len()).any(|window| window == KEPT);
         return is_kept.then(|| Line::Kept(line));

@@ -31,7 +31,6 @@ pub struct Shown<'a> {
 /// How it is shown.
 #[derive(Clone, Copy)]
 pub struct Style {
-    pub shows_changes: bool,
     pub json: bool,
     sets: bool,
     is_terminal: bool,
@@ -41,7 +40,6 @@ impl Style {
     pub fn of(words: &Words) -> Style {
         let sets = words.mode == Mode::Set;
         Style {
-            shows_changes: words.shows || !sets,
             json: words.json,
             sets,
             is_terminal: is_terminal(1),
