@@ -44,7 +44,8 @@ fn not_agreed(what: &str) -> crate::say::Refusal {
     refusal(format!("{what}; nothing of this part was set"))
 }
 
-/// The sections of a dump, each of an entry that was read, and of each one.
+/// The sections of a dump, each of an entry that was read, and of each one. Where the root stands
+/// in for what isn't asked for, its section is passed over.
 fn sections_of<'a>(part: &Part, answer: &'a Answer) -> Outcome<Vec<(Place, Section<'a>)>> {
     let sections = dump::parse(&answer.dump).map_err(|line| {
         not_agreed(&format!("the dump of relabel is none at line {}", line.0))
@@ -53,6 +54,9 @@ fn sections_of<'a>(part: &Part, answer: &'a Answer) -> Outcome<Vec<(Place, Secti
     let mut seen = HashSet::new();
     let mut placed = Vec::with_capacity(sections.len());
     for section in sections {
+        if &*section.name == b"/" && !part.has_root() {
+            continue;
+        }
         match finder.find(&section.name).filter(|place| seen.insert(*place)) {
             Some(place) => placed.push((place, section)),
             None => {
@@ -62,6 +66,13 @@ fn sections_of<'a>(part: &Part, answer: &'a Answer) -> Outcome<Vec<(Place, Secti
         }
     }
     Ok(placed)
+}
+
+/// Whether the first change is that of a root which stands in for what isn't asked for.
+fn changes_stand_in(part: &Part, answer: &Answer) -> Outcome<bool> {
+    let first = dump::parse(&answer.dump).ok().and_then(|all| all.into_iter().next());
+    let is_root = |section: &Section| &*section.name == b"/" && section.label.is_some();
+    Ok(!part.has_root() && first.as_ref().map_or(false, is_root))
 }
 
 impl<'a> Decided<'a> {
@@ -116,9 +127,12 @@ impl<'a> Decided<'a> {
         let mut finder = (groups.sizes().next().is_some()).then(|| Finder::new(part));
         let mut undecided: HashMap<(u64, u64), usize> = HashMap::new();
         let mut changed = 0;
+        let mut is_of_root = changes_stand_in(part, answer)?;
         for line in report::lines(&answer.report) {
             let line = line.ok_or_else(|| not_agreed("the report of relabel has no end"))?;
             let is_shown = match report::parse_line(line) {
+                Some(Line::Changed(_)) if std::mem::take(&mut is_of_root) => continue,
+                Some(Line::Undecided(b"/")) if !part.has_root() => continue,
                 Some(Line::Changed(rest)) => {
                     if !self.agrees(changed, rest) {
                         let line = plain(line);

@@ -162,7 +162,11 @@ impl Run {
         loop {
             let mut running = None;
             if !self.decider.keeps {
-                let (started, outlet) = self.decider.start(None)?;
+                let (started, mut outlet) = self.decider.start(None)?;
+                if !is_first || self.paths != [b"/"] {
+                    // Where relabel is gone, the next records can't be sent either.
+                    let _ = outlet.send(&mut self.scan.stand_in());
+                }
                 self.scan.send_to(outlet);
                 running = Some(started);
             }
@@ -233,7 +237,10 @@ impl Run {
             }
             None => {
                 let known = (self.words.digests == Digests::Known).then(|| digest::known(&part));
-                let (running, outlet) = self.decider.start(known.as_deref())?;
+                let (running, mut outlet) = self.decider.start(known.as_deref())?;
+                if !part.has_root() {
+                    let _ = outlet.send(&mut self.scan.stand_in());
+                }
                 let sent = send_all(&part, groups, outlet, self.decider.keeps);
                 (running, sent)
             }

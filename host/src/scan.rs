@@ -135,6 +135,14 @@ impl Scan {
         self.has_outlet.store(true, Ordering::Relaxed);
         self.is_lost.store(false, Ordering::Relaxed);
     }
+    /// A record of the root, for relabel begins there, also where the root isn't asked for.
+    pub fn stand_in(&self) -> Vec<u8> {
+        let mut shelf = Shelf::default();
+        let entry = shelf.add(b"", &self.root_status, Kind::Directory, NO_LABEL);
+        let mut record = Vec::new();
+        records::push(&mut record, &entry, self.keeps, b"", b"", b"");
+        record
+    }
     pub fn take_outlet(&self) -> Option<Outlet> {
         self.has_outlet.store(false, Ordering::Relaxed);
         locked(&self.outlet).take()

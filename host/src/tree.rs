@@ -275,6 +275,10 @@ impl Part {
     pub fn count(&self) -> usize {
         self.shelves.iter().map(|shelf| shelf.entries.len()).sum()
     }
+    /// Whether the root is an entry of it.
+    pub fn has_root(&self) -> bool {
+        !self.listings_of(ABOVE_ROOT).is_empty()
+    }
     pub fn listings_of(&self, number: u32) -> &[Listing] {
         let first = self.listings.partition_point(|it| it.directory.number < number);
         let rest = &self.listings[first..];
