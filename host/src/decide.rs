@@ -146,6 +146,12 @@ impl Running {
 }
 
 impl Answer {
+    /// Whether it refuses the records, since one path has two that differ.
+    pub fn tells_two(&self) -> bool {
+        self.status.code() == Some(255)
+            && self.report.starts_with(b"relabel: records ")
+            && self.report.ends_with(b": one path, two entries\n")
+    }
     /// Refuses the answer where relabel refused something; else says whether it met an error.
     pub fn check(&self, was_set: bool) -> Outcome<()> {
         let status = match (self.status.code(), self.status.signal()) {

@@ -235,18 +235,11 @@ impl Run {
                 }
                 (running, sent)
             }
-            None => {
-                let known = (self.words.digests == Digests::Known).then(|| digest::known(&part));
-                let (running, mut outlet) = self.decider.start(known.as_deref())?;
-                if !part.has_root() {
-                    let _ = outlet.send(&mut self.scan.stand_in());
-                }
-                let sent = send_all(&part, groups, outlet, self.decider.keeps);
-                (running, sent)
-            }
+            None => self.start_with_all(&part, groups)?,
         };
         let is_lost = sent.is_err() || self.scan.is_lost();
         let answer = match running.finish()? {
+            Some(answer) if answer.tells_two() => return self.decide_without_twice(part, groups),
             Some(answer) => answer,
             None => return Ok(()),
         };
@@ -255,6 +248,34 @@ impl Run {
             return refuse("relabel ended before it had read all; nothing was set");
         }
         self.apply(&mut part, groups, &answer)
+    }
+    fn start_with_all(
+        &mut self,
+        part: &Part,
+        groups: &Groups,
+    ) -> Outcome<(Running, io::Result<()>)> {
+        let known = (self.words.digests == Digests::Known).then(|| digest::known(part));
+        let (running, mut outlet) = self.decider.start(known.as_deref())?;
+        if !part.has_root() {
+            let _ = outlet.send(&mut self.scan.stand_in());
+        }
+        let sent = send_all(part, groups, outlet, self.decider.keeps);
+        Ok((running, sent))
+    }
+    /// Decides once more, with one entry of each name that came twice while its directory changed.
+    fn decide_without_twice(&mut self, mut part: Part, groups: &Groups) -> Outcome<()> {
+        let twice = part.take_twice();
+        if twice.is_empty() {
+            return refuse("relabel refuses the records: one path, two entries; nothing was set");
+        }
+        for (directory, name) in twice {
+            directory.note_amiss();
+            self.scan.errors.fetch_add(1, Ordering::Relaxed);
+            self.totals.records -= 1;
+            let path = plain(&digest::path_of(&directory, &name));
+            say(&format!("{path}: changed while it was read"));
+        }
+        self.decide(part, groups, None)
     }
     fn apply(&mut self, part: &mut Part, groups: &Groups, answer: &Answer) -> Outcome<()> {
         let decided = Decided::of(part, groups, answer, &self.words)?;

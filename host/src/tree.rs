@@ -3,7 +3,7 @@
 
 use crate::mounts::Special;
 use crate::sys::files::Status;
-use std::collections::HashMap;
+use std::collections::{HashMap, HashSet};
 use std::ffi::CString;
 use std::sync::atomic::{AtomicBool, Ordering};
 use std::sync::Arc;
@@ -285,6 +285,49 @@ impl Part {
         let count = rest.iter().take_while(|it| it.directory.number == number).count();
         &rest[..count]
     }
+    /// Leaves one entry of each name of a directory; gives the others, with the directory.
+    pub fn take_twice(&mut self) -> Vec<(Arc<Directory>, Vec<u8>)> {
+        let mut twice = HashSet::new();
+        let mut gone = HashSet::new();
+        let mut told = Vec::new();
+        for number in self.directory_numbers() {
+            let children = self.children(number);
+            for pair in children.windows(2).filter(|pair| self.name(pair[0]) == self.name(pair[1])) {
+                twice.insert(pair[1]);
+                gone.insert(self.entry(pair[1]).directory);
+                if let Some(listing) = self.listings_of(number).first() {
+                    told.push((listing.directory.clone(), self.name(pair[1]).to_vec()));
+                }
+            }
+        }
+        gone.remove(&NO_DIRECTORY);
+        let listings = std::mem::take(&mut self.listings);
+        for listing in listings {
+            let directory = &listing.directory;
+            let above = directory.parent.as_ref().map(|parent| parent.number);
+            if gone.contains(&directory.number) || above.map_or(false, |it| gone.contains(&it)) {
+                gone.insert(directory.number);
+                continue;
+            }
+            let mut first = listing.first;
+            for index in listing.first..=listing.end {
+                let place = Place { shelf: listing.shelf, index };
+                if index == listing.end || twice.contains(&place) {
+                    if index > first {
+                        let directory = directory.clone();
+                        self.listings.push(Listing { directory, first, end: index, ..listing });
+                    }
+                    first = index + 1;
+                }
+            }
+        }
+        told
+    }
+    fn directory_numbers(&self) -> Vec<u32> {
+        let mut numbers: Vec<u32> = self.listings.iter().map(|it| it.directory.number).collect();
+        numbers.dedup();
+        numbers
+    }
     /// The entries of a directory, in the order of their names.
     pub fn children(&self, number: u32) -> Vec<Place> {
         let mut places: Vec<Place> = self.listings_of(number).iter().flat_map(places_of).collect();
@@ -378,6 +421,23 @@ mod tests {
         for path in ["", "etc", "/etc/", "/etc/c", "/srv/a", "//", "/etc/a/b"] {
             assert_eq!(finder.find(path.as_bytes()), None, "{path}");
         }
+    }
+    #[test]
+    fn of_a_name_that_came_twice_one_stays() {
+        let mut part = part();
+        assert!(part.take_twice().is_empty());
+        assert_eq!(part.listings.len(), 3);
+        part.listings[2].end = 4;
+        let shelf = &mut part.shelves[0];
+        for name in [b"c", b"c", b"d"] {
+            shelf.add(name, &Status::default(), Kind::File, NO_LABEL);
+        }
+        part.listings[2].end = 7;
+        let told = part.take_twice();
+        assert_eq!(told.len(), 1);
+        assert_eq!(told[0].1, b"c");
+        let names: Vec<&[u8]> = part.children(2).into_iter().map(|it| part.name(it)).collect();
+        assert_eq!(names, [b"a", b"b", b"c", b"d"]);
     }
     #[test]
     fn labels_are_kept_once() {
