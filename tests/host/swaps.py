@@ -3,8 +3,8 @@
 
     swaps.py TREE ROOT SPEC SECONDS
 
-What a user owns lies in ROOT/home; victims lie in ROOT/secret, which isn't labelled by these runs,
-and beside the root. Status 1 where a victim gets a label, or a run ends with a status that is none
+What a user owns lies in ROOT/home, and three processes of that user exchange it; victims of root
+lie in ROOT/secret, which isn't labelled by these runs, and beside the root. Status 1 where a victim gets a label, or a run ends with a status that is none
 of its own.
 """
 
@@ -15,6 +15,7 @@ import subprocess
 import sys
 import time
 
+USER = 12345
 EXCHANGE, HERE, RENAMEAT2 = 2, -100, 316
 LIBC = ctypes.CDLL(None, use_errno=True)
 
@@ -49,6 +50,8 @@ def make(root):
 
 def user(pairs):
     """Never ends; each of several has a share of the pairs."""
+    os.setgid(USER)
+    os.setuid(USER)
     for one, other in itertools.cycle(pairs):
         exchange(one, other)
 
@@ -67,6 +70,7 @@ def main():
     linked = {os.stat(victim).st_ino for victim in victims if os.stat(victim).st_nlink > 1}
     for number in range(30):
         os.unlink(f"{root}/home/u{number}/hard")
+    subprocess.run(["chown", "-hR", f"{USER}:{USER}", root + "/home"], check=True)
     users = []
     for share in range(3):
         child = os.fork()
