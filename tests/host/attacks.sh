@@ -1,28 +1,6 @@
 # Attacks on a run: what a user of the tree, or whoever starts the program, can do to it.
 # shellcheck shell=bash
 
-many() { # COUNT: so many files in folders of fifty, and a policy that wants a label for each
-    python3 - "$root" "$1" << 'P'
-import os, sys
-root, count = sys.argv[1], int(sys.argv[2])
-for number in range(count):
-    folder = f"{root}/etc/d{number // 50}"
-    if number % 50 == 0:
-        os.makedirs(folder)
-    os.close(os.open(f"{folder}/f{number}", os.O_CREAT | os.O_WRONLY))
-P
-}
-count_labels() { getfattr -hRP --absolute-names -m '^security.selinux$' "$root" | grep -c '^security'; }
-changes() { # what a look finds
-    label -n -v "$@" 2> /dev/null | grep -a '^Would relabel'
-}
-digests_are_true() { # a look by digests finds what a look at all finds
-    cmp <(changes "$@") <(changes -D "$@") || { echo "    a digest lies" && false; }
-}
-is_done() { # all labelled, and by its digests too
-    ends 0 label -c && ends 0 label -c -D && digests_are_true && has_label "$root/etc/d0/f1" etc_t
-}
-
 # ---- children that are none of the program's
 
 test_inherited_child() {
