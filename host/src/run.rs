@@ -15,6 +15,7 @@ use crate::say::{is_all_written, plain, refusal, refuse, say, Outcome, Refusal};
 use crate::scan::{Scan, Settings};
 use crate::show::Style;
 use crate::sys::process::{is_root, raise_descriptors, set_up_signals, stopping};
+use crate::sys::files;
 use crate::sys::reason;
 use crate::tree::{places_of, Part, Shelf};
 use crate::words::{Digests, Mode, Words};
@@ -106,7 +107,7 @@ impl Run {
         let (paths, left_out, is_partial) = paths_of(&words, &root)?;
         let at = crate::paths::as_path(if root.is_other() { &root.at } else { b"/" }).to_owned();
         let opened = File::open(&at).map_err(cannot(&plain(&words.root)))?;
-        let status = crate::sys::files::status_of(&opened).map_err(cannot("statx"))?;
+        let status = files::status_of(&opened).map_err(cannot("statx"))?;
         let mut lock = None;
         if words.mode == Mode::Set {
             lock = Lock::take(&status)?;
@@ -134,7 +135,7 @@ impl Run {
             types: files.types,
             forces: words.forces,
             keeps,
-            workers: threads,
+            workers: workers_for(&opened, threads),
             wakes,
         };
         let scanned = opened.try_clone().map_err(cannot("dup"))?;
@@ -405,6 +406,18 @@ impl Run {
             ("seconds", Value::Seconds(self.began.elapsed().as_secs_f64())),
         ];
         self.style.write(json::line(&fields).as_bytes());
+    }
+}
+
+/// Several workers of relabel are slower than one on trees of fewer entries.
+const FEWEST_FOR_WORKERS: u64 = 100_000;
+
+/// How many workers relabel gets. How many entries there are isn't known when it starts, so the
+/// inodes in use on the root's file system stand for them.
+fn workers_for(root: &File, threads: usize) -> usize {
+    match files::inodes_in_use(root) {
+        Some(count) if count >= FEWEST_FOR_WORKERS => threads,
+        _ => 1,
     }
 }
 

@@ -66,6 +66,16 @@ pub fn status_of(file: &impl AsRawFd) -> io::Result<Status> {
     status_by(file.as_raw_fd(), EMPTY, libc::AT_EMPTY_PATH)
 }
 
+/// How many inodes are in use on the file system of a file, where it keeps count.
+pub fn inodes_in_use(file: &impl AsRawFd) -> Option<u64> {
+    let mut found = MaybeUninit::<libc::statvfs>::zeroed();
+    // SAFETY: the kernel fills the whole of `found`.
+    checked(unsafe { libc::fstatvfs(file.as_raw_fd(), found.as_mut_ptr()) }.into()).ok()?;
+    // SAFETY: it was zeroed, which is a value of this type, and then filled.
+    let found = unsafe { found.assume_init() };
+    found.f_files.checked_sub(found.f_ffree).filter(|_| found.f_files > 0)
+}
+
 /// The working folder, in place of a descriptor.
 pub const HERE: RawFd = libc::AT_FDCWD;
 
