@@ -329,6 +329,7 @@ fn and_above(path: &[u8], mut each: impl FnMut(&[u8])) {
 
 fn run(words: &Words) -> Outcome<u8> {
     set_up_signals().map_err(|error| refused(b"signals", &reason(&error)))?;
+    let folders = raise_descriptors();
     let records = content_of(&words.records)?;
     let records = parse_records(&records, words.links)
         .map_err(|number| refused(&words.records, &format!("{number}: not a record")))?;
@@ -373,6 +374,7 @@ fn run(words: &Words) -> Outcome<u8> {
     let by_path = paths.iter().enumerate().map(|(at, path)| (&path[..], at)).collect();
     let known = Known { records, by_path, by_inode };
     let applying = Applying {
+        folders,
         threads: words.threads,
         root: opened.into(),
         known: &known,
@@ -388,6 +390,7 @@ fn stopped(labels: usize) -> u8 {
 }
 
 struct Applying<'a> {
+    folders: usize,
     threads: usize,
     root: OwnedFd,
     known: &'a Known<'a>,
@@ -402,7 +405,7 @@ impl<'a> Applying<'a> {
             changes: counts.changes,
             attribute,
             threads: self.threads,
-            most_open: (raise_descriptors() / (4 * self.threads)).clamp(8, 4096),
+            most_open: (self.folders / self.threads).clamp(4, 4096),
         };
         let answer = set_all(&setting, counts);
         answer.or_else(|error| refuse(format!("/proc is needed: {}", reason(&error))))

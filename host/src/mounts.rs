@@ -1,7 +1,7 @@
 //! What is left out of a tree: by words, by files, and since a mount takes no labels, is read-only
 //! or shows what is seen elsewhere.
 
-use std::collections::{BTreeMap, HashMap};
+use std::collections::{BTreeMap, HashMap, HashSet};
 use std::os::unix::ffi::OsStrExt;
 use std::os::unix::fs::MetadataExt;
 use std::path::Path;
@@ -241,8 +241,9 @@ pub fn left_out_by(mounts: &[Mount], asked: &Asked) -> LeftOut {
     };
     let mut left_out = LeftOut::new();
     let mut views: Vec<View> = Vec::new();
+    let placed = |path: &[u8]| joined(asked.at, if path == b"/" { b"" } else { path });
     for (order, path) in asked.paths.iter().enumerate() {
-        let place = joined(asked.at, if path == b"/" { b"" } else { path });
+        let place = placed(path);
         let around = mounts
             .iter()
             .filter(|mount| is_at_or_below(&place, &mount.point))
@@ -264,13 +265,14 @@ pub fn left_out_by(mounts: &[Mount], asked: &Asked) -> LeftOut {
     }
     for (order, mount) in mounts.iter().enumerate() {
         let is_asked = |path: &Vec<u8>| {
-            let place = joined(asked.at, if path == b"/" { b"" } else { path });
+            let place = placed(path);
             mount.point != place && is_at_or_below(&mount.point, &place)
         };
         if !asked.paths.iter().any(is_asked) {
             continue;
         }
-        let cause = if asked.one_system {
+        let is_named = asked.paths.iter().any(|path| mount.point == placed(path));
+        let cause = if asked.one_system && !is_named {
             Some(Cause::OtherSystem)
         } else if !keeps(mount) {
             Some(Cause::NoLabels)
@@ -290,6 +292,8 @@ pub fn left_out_by(mounts: &[Mount], asked: &Asked) -> LeftOut {
         }
     }
     left_out.extend(second_views(views, asked.at));
+    let mut seen = HashSet::new();
+    left_out.retain(|(path, _)| seen.insert(path.clone()));
     left_out
 }
 

@@ -38,15 +38,16 @@ const TICK: Duration = Duration::from_secs(1);
 impl Progress {
     pub fn new(is_quiet: bool) -> Progress {
         let phase = Arc::new(Mutex::new((Phase::default(), Instant::now())));
-        let ticker = (!is_quiet && is_terminal(2)).then(|| {
+        let is_seen = !is_quiet && is_terminal(2);
+        let ticker = Some(phase.clone()).filter(|_| is_seen).and_then(|phase| {
             let (stop, stopped) = channel();
-            let phase = phase.clone();
-            let thread = std::thread::spawn(move || {
+            let tick = move || {
                 while stopped.recv_timeout(TICK) == Err(RecvTimeoutError::Timeout) {
                     show(&phase);
                 }
-            });
-            Ticker { thread, stop }
+            };
+            let thread = std::thread::Builder::new().spawn(tick).ok()?;
+            Some(Ticker { thread, stop })
         });
         Progress { phase, ticker }
     }

@@ -93,6 +93,7 @@ impl Run {
     fn prepare(words: Words) -> Outcome<Option<Run>> {
         let began = Instant::now();
         let wakes = set_up_signals().map_err(cannot("signals"))?;
+        let folders = raise_descriptors();
         let root = Root::of(&words.root)?;
         let program = policy::find_program()?;
         let files = policy::find(&words.policy, &root)?;
@@ -121,7 +122,7 @@ impl Run {
             _ => 1,
         };
         let keeps = words.digests != Digests::None;
-        let most_open = (raise_descriptors() / (4 * threads)).clamp(8, 4096);
+        let most_open = (folders / threads).clamp(4, 4096);
         let settings = Settings {
             special: Special::tree(&left_out),
             keeps,
@@ -436,7 +437,6 @@ fn paths_of(words: &Words, root: &Root) -> Outcome<(Vec<Vec<u8>>, LeftOut, bool)
     if paths.is_empty() {
         paths.push(b"/".to_vec());
     }
-    let paths = without_nested(paths);
     let mut left_out = LeftOut::new();
     for word in &words.excluded {
         left_out.push((root.excluded(word)?, Cause::Word));
@@ -469,7 +469,7 @@ fn paths_of(words: &Words, root: &Root) -> Outcome<(Vec<Vec<u8>>, LeftOut, bool)
             }
         }
     }
-    Ok((read, left_out, is_partial))
+    Ok((without_nested(read), left_out, is_partial))
 }
 
 fn tell_left_out(words: &Words, left_out: &LeftOut) {

@@ -206,6 +206,23 @@ impl Scan {
             queue.idle -= 1;
         }
     }
+    /// A thread that can't work is as good as one that waits.
+    fn leave_thread(&self) {
+        let mut queue = locked(&self.queue);
+        queue.idle += 1;
+        if queue.idle == self.threads {
+            self.wake.notify_all();
+        }
+    }
+    /// Whether jobs are left and the part isn't full.
+    fn has_unread(&self) -> bool {
+        let mut queue = locked(&self.queue);
+        let is_left = !queue.is_over && !queue.jobs.is_empty();
+        if is_left {
+            queue.idle = self.threads - 1;
+        }
+        is_left
+    }
     /// Ends the part, and leaves jobs for the next one.
     fn leave(&self, jobs: Vec<Job>) {
         let mut queue = locked(&self.queue);
@@ -262,18 +279,32 @@ impl Scan {
         let read = std::thread::scope(|scope| {
             let threads: Vec<_> = (1..=self.threads as u32)
                 .map(|number| {
-                    scope.spawn(move || {
+                    let read = move || {
                         let mut worker = Worker::new(self, number);
                         if files::part_from_others().is_ok() {
                             worker.work();
+                        } else {
+                            self.leave_thread();
                         }
                         worker.finish()
-                    })
+                    };
+                    let thread = std::thread::Builder::new().spawn_scoped(scope, read);
+                    thread.map_err(|_| self.leave_thread())
                 })
                 .collect();
-            threads.into_iter().map(|thread| thread.join().unwrap_or_default()).collect::<Vec<_>>()
+            let joined = threads.into_iter().map(|thread| match thread {
+                Ok(thread) => thread.join().unwrap_or_default(),
+                Err(()) => Shelf::default(),
+            });
+            joined.collect::<Vec<_>>()
         });
         shelves.extend(read);
+        if self.has_unread() {
+            // No thread could be made: this one reads.
+            let mut worker = Worker::new(self, shelves.len() as u32);
+            worker.work();
+            shelves.push(worker.finish());
+        }
         shelves
     }
 }

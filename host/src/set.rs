@@ -96,13 +96,16 @@ pub fn set_all(setting: &Setting, watch: &impl Watch) -> io::Result<()> {
     let failed = AtomicBool::new(false);
     std::thread::scope(|scope| {
         for _ in 0..threads {
-            scope.spawn(|| {
+            let set = || {
                 let entered = files::part_from_others().and_then(|()| files::enter(&descriptors));
                 match entered {
                     Ok(()) => work(setting, &next, watch),
                     Err(_) => failed.store(true, Ordering::Relaxed),
                 }
-            });
+            };
+            if std::thread::Builder::new().spawn_scoped(scope, set).is_err() {
+                failed.store(true, Ordering::Relaxed);
+            }
         }
     });
     if failed.load(Ordering::Relaxed) && next.load(Ordering::Relaxed) < setting.changes.len() {

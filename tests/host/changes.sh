@@ -48,8 +48,9 @@ test_the_attack_on_the_whole_run() { # a program that lets the user act before i
     attack
     cat > "$room/slow" << F
 #!/bin/sh
+cat > "$root.read"
 rm -rf "$root/home/ana/d" && ln -s ../../etc "$root/home/ana/d"
-exec "$RELABEL" "\$@"
+exec "$RELABEL" "\$@" < "$root.read"
 F
     chmod +x "$room/slow"
     RELABEL=$room/slow ends 1 label /home && says '/home/ana/d/shadow: not what was read' &&

@@ -116,27 +116,41 @@ pub fn wait_for(wakes: RawFd, other: &impl AsRawFd, writes: bool) -> io::Result<
     }
 }
 
-/// Lets the process have as many descriptors as it may, and says how many.
+/// Lets the process have as many descriptors as it may, and says how many may be used for folders.
+/// Room for them is made at once: later on, with several threads, each time that the kernel makes
+/// more it waits for all processors.
 pub fn raise_descriptors() -> usize {
     let mut limit = libc::rlimit { rlim_cur: 0, rlim_max: 0 };
     // SAFETY: the kernel fills and reads this one value.
     unsafe {
         if libc::getrlimit(libc::RLIMIT_NOFILE, &mut limit) != 0 {
-            return 256;
+            return FEW_FOLDERS;
         }
         let before = limit.rlim_cur;
-        limit.rlim_cur = limit.rlim_max.min(1 << 16).max(before);
+        limit.rlim_cur = limit.rlim_max.min(MOST_DESCRIPTORS).max(before);
         if libc::setrlimit(libc::RLIMIT_NOFILE, &limit) != 0 {
             limit.rlim_cur = before;
         }
     }
-    usize::try_from(limit.rlim_cur).unwrap_or(usize::MAX)
+    let folders = (limit.rlim_cur.min(MOST_DESCRIPTORS) / 2) as usize;
+    // SAFETY: these calls take numbers alone; what the first one opens nobody else knows of.
+    unsafe {
+        let last = libc::fcntl(WAKES.load(Ordering::SeqCst), libc::F_DUPFD_CLOEXEC, folders as i32);
+        if last >= 0 {
+            libc::close(last);
+        }
+    }
+    folders
 }
+
+const FEW_FOLDERS: usize = 64;
+const MOST_DESCRIPTORS: libc::rlim_t = 1 << 15;
 
 /// Whether threads may have working folders of their own here.
 pub fn has_own_folders() -> bool {
-    let tried = std::thread::spawn(|| super::files::part_from_others().is_ok());
-    tried.join().unwrap_or(false)
+    let thread = std::thread::Builder::new();
+    let tried = thread.spawn(|| super::files::part_from_others().is_ok());
+    tried.map_or(false, |tried| tried.join().unwrap_or(false))
 }
 
 pub fn is_root() -> bool {
