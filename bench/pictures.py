@@ -18,7 +18,7 @@ def rows():
 
 
 def picture(title, groups, count):
-    """Bars of each group, each group to its own scale of the whole picture."""
+    """Bars of each group, all to one scale."""
     top = max(value for _, values in groups for value in values[:count])
     lines, y = [], 40
     for label, values in groups:
