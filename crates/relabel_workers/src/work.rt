@@ -17,8 +17,9 @@ use std::alloc::Global;
 use std::sync::Wait;
 use std::thread::yield_now;
 
-/// How often in a row a worker takes nothing before it ends.
-const MOST_EMPTY_TAKES: u32 = 4096;
+/// How often in a row a worker takes nothing before it ends. Each time it gives its turn away, which
+/// on a busy machine takes as long as others' turns last: 64 of them some 50 ms, 4,096 three seconds.
+const MOST_EMPTY_TAKES: u32 = 64;
 
 // What makes the listings of directories, where digests count for the run.
 fn listings_for<'a>(
