@@ -186,7 +186,7 @@ fn hint(status: u8, line: &str) -> Option<&'static str> {
         255 if line.contains(": line ") => {
             Some("mend that line of the policy, or name another by -t or -p")
         }
-        252 => Some("relabel can't write what it decides: is memory full, or the size of files limited?"),
+        252 => Some("relabel can't write: is memory full, or the size of files limited?"),
         251 => Some("SPEC is not UTF-8; name the policy by another path"),
         _ => None,
     }

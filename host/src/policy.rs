@@ -115,8 +115,12 @@ pub fn listed_exclusions(root: &Root) -> Vec<Vec<u8>> {
     let file = [&root.at[..], b"/etc/selinux/fixfiles_exclude_dirs"].concat();
     let text = text_of(&file).unwrap_or_default();
     let lines = text.split(|&byte| byte == b'\n');
-    let fields = lines.filter_map(|line| line.split(u8::is_ascii_whitespace).find(|it| !it.is_empty()));
-    fields.filter(|field| field[0] == b'/').map(<[u8]>::to_vec).collect()
+    let first = |line: &'_ [u8]| {
+        let fields = line.split(u8::is_ascii_whitespace);
+        fields.map(<[u8]>::to_vec).find(|field| !field.is_empty())
+    };
+    let fields = lines.filter_map(first);
+    fields.filter(|field| field[0] == b'/').collect()
 }
 
 /// The program relabel, by an absolute path.

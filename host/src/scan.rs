@@ -718,7 +718,8 @@ mod tests {
     }
     #[test]
     fn names_are_taken_from_what_the_kernel_tells() {
-        let bytes = [entry(b"."), entry(b"a"), entry(b".."), entry(b"..."), entry(b"\xff")].concat();
+        let all = [&b"."[..], b"a", b"..", b"...", b"\xff"];
+        let bytes: Vec<u8> = all.into_iter().flat_map(entry).collect();
         let names: Vec<&[u8]> = names_in(&bytes).map(CStr::to_bytes).collect();
         assert_eq!(names, [&b"a"[..], b"...", b"\xff"]);
     }

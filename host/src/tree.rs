@@ -292,7 +292,8 @@ impl Part {
         let mut told = Vec::new();
         for number in self.directory_numbers() {
             let children = self.children(number);
-            for pair in children.windows(2).filter(|pair| self.name(pair[0]) == self.name(pair[1])) {
+            let is_twice = |pair: &&[Place]| self.name(pair[0]) == self.name(pair[1]);
+            for pair in children.windows(2).filter(is_twice) {
                 twice.insert(pair[1]);
                 gone.insert(self.entry(pair[1]).directory);
                 if let Some(listing) = self.listings_of(number).first() {
