@@ -81,8 +81,9 @@ test_directory_that_cannot_be_read() { # as root without the rights that go past
     chmod 755 "$room" "$root"
     ends 1 setpriv --bounding-set "$few" --inh-caps "$few" "$tree" -D -r "$root" -p "$spec" &&
         says '/home/shut: Permission denied' && has_label "$root/etc/shadow" shadow_t &&
-        [ -z "$(digest_of "$root/home")$(digest_of "$root")" ] && [ -n "$(digest_of "$root/etc")" ] &&
-        digests_are_true && ends 0 label -D && has_label "$root/home/shut/below/file" user_home_t
+        [ -z "$(digest_of "$root/home")$(digest_of "$root")" ] &&
+        [ -n "$(digest_of "$root/etc")" ] && digests_are_true &&
+        ends 0 label -D && has_label "$root/home/shut/below/file" user_home_t
 }
 
 # ---- labels that read as something else
@@ -176,7 +177,8 @@ test_other_name_outside() {
     other_policy
     # by this program, which knows the part alone that it labels
     ends 0 "$tree" -F -r "$root" -p "$room/policy/other" /srv && digests_are_true &&
-        digests_are_true /etc && ends 0 label -D /etc && has_label "$root/etc/passwd" etc_t || return
+        digests_are_true /etc && ends 0 label -D /etc &&
+        has_label "$root/etc/passwd" etc_t || return
     # by another
     ends 0 label -D && setfattr -n security.selinux -v "$(context tmp_t)" "$root/srv/a/passwd" &&
         digests_are_true && digests_are_true /etc && ends 0 label -D /etc &&
@@ -191,7 +193,8 @@ test_other_name_that_comes_later() {
 }
 test_other_name_by_a_bind_mount() {
     fresh
-    mkdir "$room/elsewhere" && ends 0 label -D && mount --bind "$root/etc" "$room/elsewhere" || return
+    mkdir "$room/elsewhere" && ends 0 label -D &&
+        mount --bind "$root/etc" "$room/elsewhere" || return
     other_policy
     mkdir "$room/elsewhere/new" && setfattr -n security.selinux -v "$(context tmp_t)" \
         "$room/elsewhere/ssh/config" && digests_are_true && ends 0 label -D &&
@@ -207,10 +210,11 @@ test_digest_of_another_directory() { # a user's copy of an attribute, or root's 
     many 200
     ends 0 label -D || return
     local digest
-    digest=$(getfattr --absolute-names --only-values -n security.sehash "$root/etc/d1" | od -An -tx1 | tr -d ' \n')
+    digest=$(digest_of "$root/etc/d1" | tr -d ' \n')
     setfattr -n security.selinux -v "$(context tmp_t)" "$root/etc/d0/f1"
     setfattr -n security.sehash -v "0x$digest" "$root/etc/d0" && digests_are_true || return
-    mkdir "$root/home" && cp -a "$root/etc/d1" "$root/home/d1" && digests_are_true && ends 0 label -D && ends 0 label -c
+    mkdir "$root/home" && cp -a "$root/etc/d1" "$root/home/d1" && digests_are_true &&
+        ends 0 label -D && ends 0 label -c
 }
 
 # ---- names and messages
@@ -243,7 +247,8 @@ P
 test_reader_of_messages_gone() {
     many 3000
     ("$tree" -v -D -j 4 -r "$root" -p "$spec" 2>&1; echo $? > "$root.status") | head -1 > /dev/null
-    [ "$(cat "$root.status")" -le 1 ] && is_done || { echo "    status $(cat "$root.status")"; false; }
+    [ "$(cat "$root.status")" -le 1 ] && is_done ||
+        { echo "    status $(cat "$root.status")" && false; }
 }
 test_reader_of_messages_gone_from_the_first() {
     many 3000
@@ -258,7 +263,8 @@ test_limit_of_file_size() { # all is set, or nothing is and that is said
         prlimit --fsize="$limit" "$tree" -v -D -j 4 -r "$root" -p "$spec" > "$root.out" \
             2> >(cat > "$root.err") || status=$?
         sleep .1
-        [ "$status" -lt 128 ] || [ "$status" -ge 250 ] || tell "limit $limit: status $status" || return
+        [ "$status" -lt 128 ] || [ "$status" -ge 250 ] ||
+            tell "limit $limit: status $status" || return
         digests_are_true || return
         if [ "$status" -gt 1 ]; then
             says 'nothing' && has_none "$root/etc/d0/f1" || return
@@ -344,8 +350,8 @@ test_label_changed_while_deciding() { # what root set meanwhile isn't what was d
 test_records_that_change_while_they_are_read() {
     many 500
     read_records
-    (cd "$root/etc" && find . -type f -printf '# file: /etc/%P\nsecurity.selinux="'"$(context etc_t)"'"\n\n') \
-        > "$root.dump"
+    local section='# file: /etc/%P\nsecurity.selinux="'"$(context etc_t)"'"\n\n'
+    (cd "$root/etc" && find . -type f -printf "$section") > "$root.dump"
     python3 - "$root.records" "$root.dump" << 'P' &
 import os, sys
 texts = [open(path, "rb").read() for path in sys.argv[1:]]
@@ -391,7 +397,8 @@ test_pipe_as_a_file_of_the_policy() {
         ends 2 timeout 5 "$tree" -r "$root" -t mine && has_none "$root/etc/passwd" ||
             { echo "    $name" && return 1; }
     done
-    rm -rf "$root" && fresh && mkdir -p "$root/etc/selinux" && mkfifo "$root/etc/selinux/fixfiles_exclude_dirs"
+    rm -rf "$root" && fresh && mkdir -p "$root/etc/selinux" &&
+        mkfifo "$root/etc/selinux/fixfiles_exclude_dirs"
     status=0
     timeout 5 "$tree" -r "$root" -p "$spec" 2> "$root.err" || status=$?
     [ "$status" -lt 3 ] || tell "status $status: a pipe in place of fixfiles_exclude_dirs"
@@ -423,7 +430,8 @@ test_dots_in_records() {
     : > "$root.outside"
     local line
     line=$(stat -c '%d %i' "$root.outside")
-    for name in "/../${root##*/}.outside" "/etc/../../${root##*/}.outside" "/.." "/etc/." "//etc/passwd"; do
+    for name in "/../${root##*/}.outside" "/etc/../../${root##*/}.outside" "/.." "/etc/." \
+        "//etc/passwd"; do
         printf 'f %s ? %s\0' "$line" "$name" > "$root.records"
         write_dump "$name" etc_t
         "$apply" -r "$root" "$root.records" "$root.dump" > "$root.out" 2> "$root.err"
@@ -435,7 +443,7 @@ test_numbers_beyond_64_bits() {
     local device inode
     read -r device inode < <(stat -c '%d %i' "$root/etc/passwd")
     write_dump /etc/passwd etc_t
-    for numbers in "$device $(echo "18446744073709551616 + $inode" | python3 -c 'print(eval(input()))')" \
+    for numbers in "$device $(python3 -c "print(2 ** 64 + $inode)")" \
         "99999999999999999999999 $inode" "-1 $inode" "+$device $inode" "0x10 $inode" " $inode"; do
         printf 'f %s  /etc/passwd\0' "$numbers" > "$root.records"
         ends 2 "$apply" -r "$root" "$root.records" "$root.dump" && has_none "$root/etc/passwd" ||

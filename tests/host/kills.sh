@@ -19,7 +19,7 @@ test_peer_finds_nothing_more_after_kills() { # setfiles, where it is there
 test_terminated_run_tells_what_is_set() { # as many as there are, and the rest is left
     many 20000
     "$tree" -v -r "$root" -p "$spec" > "$root.out" 2> "$root.err" &
-    local run=$! status=0 told
+    local run=$! status=0 told set shown
     for _ in {1..300}; do
         [ -z "$(label_of "$root/etc/d0/f1")" ] || break
         sleep .002
@@ -28,9 +28,9 @@ test_terminated_run_tells_what_is_set() { # as many as there are, and the rest i
     wait "$run" || status=$?
     [ "$status" -eq 143 ] || tell "status $status" || return
     told=$(sed -n 's/.*what was set stays (\([0-9]*\) labels.*/\1/p' "$root.err")
-    [ "$told" -eq "$(count_labels 2> /dev/null)" ] && [ "$told" -eq "$(grep -c ^Relabeled "$root.out")" ] ||
-        tell "told $told, set $(count_labels 2> /dev/null), shown $(grep -c ^Relabeled "$root.out")" ||
-        return
+    set=$(count_labels 2> /dev/null) shown=$(grep -c ^Relabeled "$root.out")
+    [ "$told" -eq "$set" ] && [ "$told" -eq "$shown" ] ||
+        tell "told $told, set $set, shown $shown" || return
     ends 0 label -D && says 'stopped in its middle' && is_done
 }
 test_hang_up_while_nobody_listens() { # nohup: a signal that is ignored stays so

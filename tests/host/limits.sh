@@ -7,8 +7,9 @@ test_full_disk() { # whose inodes have no room for labels, and no time of birth
     many 400
     dd if=/dev/zero of="$root/etc/d0/filler" bs=64k status=none 2> /dev/null
     dd if=/dev/zero of="$root/etc/d0/filler2" bs=512 status=none 2> /dev/null
-    ends 1 label -D -j 4 && says 'No space left on device' && says ' not set' && digests_are_true &&
-        [ -z "$(digest_of "$root")" ] && rm "$root"/etc/d0/filler* && ends 0 label -D -j 4 && is_done
+    ends 1 label -D -j 4 && says 'No space left on device' && says ' not set' &&
+        digests_are_true && [ -z "$(digest_of "$root")" ] && rm "$root"/etc/d0/filler* &&
+        ends 0 label -D -j 4 && is_done
     local status=$?
     umount "$root"
     return "$status"
@@ -96,7 +97,8 @@ test_read_only_mount() {
         mount -o remount,bind,ro "$root/etc/ssh" || return
     ends 0 label -D && says '/home/shut: left out: on a read-only mount' &&
         says '/etc/ssh: left out' && has_none "$root/etc/ssh/config" &&
-        has_none "$root/home/shut/file" && has_label "$root/etc/shadow" shadow_t && ends 0 label -c -D
+        has_none "$root/home/shut/file" && has_label "$root/etc/shadow" shadow_t &&
+        ends 0 label -c -D
     local status=$?
     umount "$root/home/shut" "$root/etc/ssh"
     [ "$status" -eq 0 ] && digests_are_true && ends 0 label -D && says ', 3 changed,' &&
@@ -116,8 +118,9 @@ test_many_immutable_files() {
     many 2000
     local status
     chattr +i "$root"/etc/d1/f* "$root/etc/d2" "$root/etc/d30/f1501"
-    ends 1 label -D -j 4 && says ', 52 not set' && [ "$(grep -c 'not permitted' "$root.err")" -eq 52 ] &&
-        digests_are_true && [ -n "$(digest_of "$root/etc/d3")" ] && [ -z "$(digest_of "$root/etc/d1")" ] &&
+    ends 1 label -D -j 4 && says ', 52 not set' &&
+        [ "$(grep -c 'not permitted' "$root.err")" -eq 52 ] && digests_are_true &&
+        [ -n "$(digest_of "$root/etc/d3")" ] && [ -z "$(digest_of "$root/etc/d1")" ] &&
         [ -z "$(digest_of "$root/etc/d30")" ] && has_label "$root/etc/d30/f1502" etc_t
     status=$?
     chattr -i "$root"/etc/d1/f* "$root/etc/d2" "$root/etc/d30/f1501"

@@ -90,8 +90,9 @@ test_one_file_system() {
 }
 test_fixfiles_exclude_dirs() {
     fresh
+    local list=$root/etc/selinux/fixfiles_exclude_dirs
     mkdir -p "$root/etc/selinux"
-    printf '# none\n/home/ana\n  /srv/none extra\nhome\n' > "$root/etc/selinux/fixfiles_exclude_dirs"
+    printf '# none\n/home/ana\n  /srv/none extra\nhome\n' > "$list"
     ends 0 label && says '/home/ana: left out: named in etc/selinux/fixfiles_exclude_dirs' &&
         has_none "$root/home/ana/notes" && has_label "$root/home" default_t &&
         ends 0 label /home/ana && has_label "$root/home/ana/notes" user_home_t

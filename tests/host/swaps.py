@@ -4,8 +4,8 @@
     swaps.py TREE ROOT SPEC SECONDS
 
 What a user owns lies in ROOT/home, and three processes of that user exchange it; victims of root
-lie in ROOT/secret, which isn't labelled by these runs, and beside the root. Status 1 where a victim gets a label, or a run ends with a status that is none
-of its own.
+lie in ROOT/secret, which isn't labelled by these runs, and beside the root. Status 1 where a victim
+gets a label, or a run ends with a status that is none of its own.
 """
 
 import ctypes
