@@ -105,9 +105,7 @@ pub fn known(part: &Part) -> Vec<u8> {
     let marks = Marks::of(part);
     for listing in &part.listings {
         for place in crate::tree::places_of(listing) {
-            let holds = |value: &&[u8]| {
-                value.get(DIGEST..) == Some(&marks.mark(part, place)[..])
-            };
+            let holds = |value: &&[u8]| value.get(DIGEST..) == Some(&marks.mark(part, place)[..]);
             let value = stored.get(&part.entry(place).directory).copied();
             if let Some(value) = value.filter(holds) {
                 let path = path_of(&listing.directory, part.name(place));

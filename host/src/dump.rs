@@ -27,14 +27,11 @@ pub fn parse(text: &[u8]) -> Result<Vec<Section<'_>>, BadLine> {
     let mut number = 0;
     while !rest.is_empty() {
         number += 1;
-        let line = rest
-            .iter()
-            .position(|&byte| byte == b'\n')
-            .and_then(|end| {
-                let line = &rest[..end];
-                rest = &rest[end + 1..];
-                read_line(line, &mut sections)
-            });
+        let line = rest.iter().position(|&byte| byte == b'\n').and_then(|end| {
+            let line = &rest[..end];
+            rest = &rest[end + 1..];
+            read_line(line, &mut sections)
+        });
         line.ok_or(BadLine(number))?;
     }
     Ok(sections)

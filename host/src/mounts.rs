@@ -174,8 +174,7 @@ fn parse_line(line: &[u8]) -> Option<Mount> {
 
 /// The mounts that a text tells and that are seen: not those that lie below a later one.
 pub fn parse(text: &[u8]) -> Vec<Mount> {
-    let all: Vec<Mount> =
-        text.split(|&byte| byte == b'\n').filter_map(parse_line).collect();
+    let all: Vec<Mount> = text.split(|&byte| byte == b'\n').filter_map(parse_line).collect();
     let top: HashMap<&[u8], u64> = all.iter().map(|it| (&it.point[..], it.id)).collect();
     let by_id: HashMap<u64, &Mount> = all.iter().map(|it| (it.id, it)).collect();
     let is_seen = |mount: &Mount| {
@@ -249,8 +248,8 @@ pub fn left_out_by(mounts: &[Mount], asked: &Asked) -> LeftOut {
             .filter(|mount| is_at_or_below(&place, &mount.point))
             .max_by_key(|mount| mount.point.len());
         if let Some(mount) = around {
-            let is_within = mount.point.len() > asked.at.len().max(1)
-                && is_at_or_below(&mount.point, asked.at);
+            let is_within =
+                mount.point.len() > asked.at.len().max(1) && is_at_or_below(&mount.point, asked.at);
             if is_within && !keeps(mount) {
                 left_out.push((path.clone(), Cause::NoLabels));
             } else if asked.sets && mount.is_read_only {
@@ -370,9 +369,8 @@ mod tests {
     }
     #[test]
     fn a_mount_that_is_covered_is_not_seen() {
-        let text = format!(
-            "{ROOT}2 1 8:2 / /a/b rw - ext4 /dev/b rw\n3 1 8:3 / /a rw - ext4 /dev/c rw\n"
-        );
+        let text =
+            format!("{ROOT}2 1 8:2 / /a/b rw - ext4 /dev/b rw\n3 1 8:3 / /a rw - ext4 /dev/c rw\n");
         let points: Vec<Vec<u8>> =
             parse(text.as_bytes()).into_iter().map(|mount| mount.point).collect();
         assert_eq!(points, [b"/".to_vec(), b"/a".to_vec()]);

@@ -47,9 +47,8 @@ fn not_agreed(what: &str) -> crate::say::Refusal {
 /// The sections of a dump, each of an entry that was read, and of each one. Where the root stands
 /// in for what isn't asked for, its section is passed over.
 fn sections_of<'a>(part: &Part, answer: &'a Answer) -> Outcome<Vec<(Place, Section<'a>)>> {
-    let sections = dump::parse(&answer.dump).map_err(|line| {
-        not_agreed(&format!("the dump of relabel is none at line {}", line.0))
-    })?;
+    let sections = dump::parse(&answer.dump)
+        .map_err(|line| not_agreed(&format!("the dump of relabel is none at line {}", line.0)))?;
     let mut finder = Finder::new(part);
     let mut seen = HashSet::new();
     let mut placed = Vec::with_capacity(sections.len());

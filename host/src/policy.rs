@@ -127,8 +127,11 @@ pub fn listed_exclusions(root: &Root) -> Vec<Vec<u8>> {
 pub fn find_program() -> Outcome<PathBuf> {
     let own = std::env::current_exe().unwrap_or_default();
     let named = std::env::var_os("RELABEL").filter(|name| !name.as_bytes().is_empty());
-    let beside = ["../lib/relabel/relabel", "../crates/relabel_program/out/relabel_program",
-        "../../../crates/relabel_program/out/relabel_program"];
+    let beside = [
+        "../lib/relabel/relabel",
+        "../crates/relabel_program/out/relabel_program",
+        "../../../crates/relabel_program/out/relabel_program",
+    ];
     let folder = own.parent().map(PathBuf::from).unwrap_or_default();
     let places = named.map(PathBuf::from).into_iter().chain(beside.map(|name| folder.join(name)));
     for place in places {

@@ -69,8 +69,10 @@ mod tests {
             (b"Warning no default label for /a b", Some(Line::Undecided(b"/a b"))),
             (b"Skipping restorecon on directory(/a)", Some(Line::Skipped(b"/a"))),
             (b"conflicting specifications for /a and /b, using c.", Some(Line::Conflict)),
-            (b"/a not reset as customized by admin to x",
-                Some(Line::Kept(b"/a not reset as customized by admin to x"))),
+            (
+                b"/a not reset as customized by admin to x",
+                Some(Line::Kept(b"/a not reset as customized by admin to x")),
+            ),
             (b"/a", None),
             (b"", None),
             (b"relabel: read failed", None),

@@ -14,8 +14,8 @@ use crate::records::{self, Outlet};
 use crate::say::{is_all_written, plain, refusal, refuse, say, Outcome, Refusal};
 use crate::scan::{Scan, Settings};
 use crate::show::Style;
-use crate::sys::process::{is_root, raise_descriptors, set_up_signals, stopping};
 use crate::sys::files;
+use crate::sys::process::{is_root, raise_descriptors, set_up_signals, stopping};
 use crate::sys::reason;
 use crate::tree::{places_of, Part, Shelf};
 use crate::words::{Digests, Mode, Words};
@@ -216,12 +216,7 @@ impl Run {
         Shelf::default()
     }
     /// Has a part decided, and sets it.
-    fn decide(
-        &mut self,
-        mut part: Part,
-        groups: &Groups,
-        running: Option<Running>,
-    ) -> Outcome<()> {
+    fn decide(&mut self, mut part: Part, groups: &Groups, running: Option<Running>) -> Outcome<()> {
         self.progress.begin(Phase {
             name: "deciding",
             unit: "records",

@@ -39,11 +39,7 @@ pub struct Style {
 impl Style {
     pub fn of(words: &Words) -> Style {
         let sets = words.mode == Mode::Set;
-        Style {
-            json: words.json,
-            sets,
-            is_terminal: is_terminal(1),
-        }
+        Style { json: words.json, sets, is_terminal: is_terminal(1) }
     }
     pub fn write(&self, text: &[u8]) {
         if text.is_empty() {

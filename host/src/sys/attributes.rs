@@ -52,12 +52,7 @@ impl Number {
 pub fn get_by_name(name: &CStr, which: Attribute, room: &mut [u8]) -> io::Result<usize> {
     // SAFETY: both names end with a NUL, and the kernel writes at most `room.len()` bytes there.
     checked(unsafe {
-        libc::lgetxattr(
-            name.as_ptr(),
-            which.name().as_ptr(),
-            room.as_mut_ptr().cast(),
-            room.len(),
-        )
+        libc::lgetxattr(name.as_ptr(), which.name().as_ptr(), room.as_mut_ptr().cast(), room.len())
     } as i64)
 }
 
@@ -106,10 +101,8 @@ pub fn set_at(place: &Number, which: Attribute, value: &[u8]) -> io::Result<()> 
 /// Removes the attribute of what a descriptor stands for; the working folder is `/proc/self/fd`.
 pub fn remove_at(place: &Number, which: Attribute) -> io::Result<()> {
     // SAFETY: both names end with a NUL.
-    checked(
-        unsafe { libc::removexattr(place.name().as_ptr(), which.name().as_ptr()) } as i64,
-    )
-    .map(|_| ())
+    checked(unsafe { libc::removexattr(place.name().as_ptr(), which.name().as_ptr()) } as i64)
+        .map(|_| ())
 }
 
 #[cfg(test)]

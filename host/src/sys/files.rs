@@ -90,9 +90,7 @@ fn status_by(folder: RawFd, name: &CStr, flags: i32) -> io::Result<Status> {
     let wanted = libc::STATX_TYPE | libc::STATX_NLINK | libc::STATX_INO | libc::STATX_BTIME;
     let mut found = MaybeUninit::<libc::statx>::zeroed();
     // SAFETY: the name ends with a NUL, and the kernel fills the whole of `found`.
-    let answer = unsafe {
-        libc::statx(folder, name.as_ptr(), flags, wanted, found.as_mut_ptr())
-    };
+    let answer = unsafe { libc::statx(folder, name.as_ptr(), flags, wanted, found.as_mut_ptr()) };
     checked(answer.into())?;
     // SAFETY: it was zeroed, which is a value of this type, and then filled.
     let found = unsafe { found.assume_init() };
@@ -158,12 +156,7 @@ fn hash_of(bytes: &[u8]) -> u64 {
 pub fn read_names(folder: &impl AsRawFd, room: &mut [u8]) -> io::Result<usize> {
     // SAFETY: the kernel writes at most `room.len()` bytes there.
     checked(unsafe {
-        libc::syscall(
-            libc::SYS_getdents64,
-            folder.as_raw_fd(),
-            room.as_mut_ptr(),
-            room.len(),
-        )
+        libc::syscall(libc::SYS_getdents64, folder.as_raw_fd(), room.as_mut_ptr(), room.len())
     })
 }
 
