@@ -1,6 +1,8 @@
 //! relabel-tree: reads a tree, has relabel decide, and sets the labels. Called as relabel-apply it
 //! sets a dump.
 
+#![deny(unsafe_code)]
+
 mod apply;
 mod decide;
 mod digest;
@@ -21,6 +23,7 @@ mod scan;
 mod set;
 mod sha256;
 mod show;
+#[allow(unsafe_code)]
 mod sys;
 mod tree;
 mod words;
