@@ -69,35 +69,39 @@ fn read_words(words: impl Iterator<Item = OsString>) -> Option<Asks> {
     let mut files = Vec::new();
     let mut is_option = true;
     while let Some(word) = words.next() {
-        let letters = match &word[..] {
-            b"--" if is_option => {
-                is_option = false;
-                continue;
-            }
+        match &word[..] {
+            b"--" if is_option => is_option = false,
             b"--help" | b"-h" if is_option => return Some(Asks::Help),
             b"--version" if is_option => return Some(Asks::Version),
-            [b'-', letters @ ..] if is_option && !letters.is_empty() => letters,
-            _ => {
-                files.push(word);
-                continue;
+            [b'-', letters @ ..] if is_option && !letters.is_empty() => {
+                read_letters(letters, &mut words, &mut read)?;
             }
-        };
-        let twos = letters.iter().take_while(|letter| **letter == b'2').count();
-        read.links |= twos > 0;
-        if let Some((letter, value)) = letters[twos..].split_first() {
-            let value = if value.is_empty() { words.next()? } else { value.to_vec() };
-            match letter {
-                b'j' => read.threads = number_up_to(&value, MOST_THREADS)?,
-                b'r' => read.root = value,
-                b'u' => read.unread = Some(value),
-                b'l' => read.list = Some(value),
-                _ => return None,
-            }
+            _ => files.push(word),
         }
     }
     read.dump = files.pop()?;
     read.records = files.pop()?;
-    files.is_empty().then(|| Asks::Run(read))
+    files.is_empty().then_some(Asks::Run(read))
+}
+
+fn read_letters(
+    letters: &[u8],
+    words: &mut impl Iterator<Item = Vec<u8>>,
+    read: &mut Words,
+) -> Option<()> {
+    let twos = letters.iter().take_while(|letter| **letter == b'2').count();
+    read.links |= twos > 0;
+    if let Some((letter, value)) = letters[twos..].split_first() {
+        let value = if value.is_empty() { words.next()? } else { value.to_vec() };
+        match letter {
+            b'j' => read.threads = number_up_to(&value, MOST_THREADS)?,
+            b'r' => read.root = value,
+            b'u' => read.unread = Some(value),
+            b'l' => read.list = Some(value),
+            _ => return None,
+        }
+    }
+    Some(())
 }
 
 pub fn apply(words: impl Iterator<Item = OsString>) -> Outcome<u8> {
@@ -128,7 +132,7 @@ fn content_of(name: &[u8]) -> Outcome<Vec<u8>> {
         let after = file.metadata()?;
         let moment = |it: &std::fs::Metadata| (it.len(), it.mtime(), it.mtime_nsec());
         let is_whole = moment(&before) == moment(&after) && after.len() == text.len() as u64;
-        Ok(is_whole.then(|| text))
+        Ok(is_whole.then_some(text))
     };
     match read() {
         Ok(Some(text)) => Ok(text),
@@ -327,6 +331,33 @@ fn and_above(path: &[u8], mut each: impl FnMut(&[u8])) {
     }
 }
 
+/// The sections of the dump, none twice.
+fn sections_of<'a>(words: &Words, dump: &'a [u8]) -> Outcome<Vec<Section<'a>>> {
+    let sections = dump::parse(dump).map_err(|BadLine(number)| {
+        refused(&words.dump, &format!("{number}: not a line of a dump"))
+    })?;
+    let mut seen = HashSet::new();
+    if let Some(twice) = sections.iter().find(|section| !seen.insert(&section.name[..])) {
+        return Err(refused(&words.dump, &format!("names {} twice", plain(&twice.name))));
+    }
+    Ok(sections)
+}
+
+/// The list of what isn't set, empty, if one is asked for.
+fn open_list(words: &Words) -> Outcome<Option<Mutex<File>>> {
+    let name = match &words.list {
+        Some(name) => name,
+        None => return Ok(None),
+    };
+    let mut options = OpenOptions::new();
+    options.append(true).create(true).mode(0o600);
+    let opened = options.open(as_path(name)).and_then(|file| {
+        file.set_len(0)?;
+        Ok(Mutex::new(file))
+    });
+    opened.map(Some).map_err(|error| refused(name, &reason(&error)))
+}
+
 fn run(words: &Words) -> Outcome<u8> {
     set_up_signals().map_err(|error| refused(b"signals", &reason(&error)))?;
     let folders = raise_descriptors();
@@ -334,33 +365,15 @@ fn run(words: &Words) -> Outcome<u8> {
     let records = parse_records(&records, words.links)
         .map_err(|number| refused(&words.records, &format!("{number}: not a record")))?;
     let dump = content_of(&words.dump)?;
-    let sections = dump::parse(&dump).map_err(|BadLine(number)| {
-        refused(&words.dump, &format!("{number}: not a line of a dump"))
-    })?;
-    let mut seen = HashSet::new();
-    if let Some(twice) = sections.iter().find(|section| !seen.insert(&section.name[..])) {
-        return Err(refused(&words.dump, &format!("names {} twice", plain(&twice.name))));
-    }
+    let sections = sections_of(words, &dump)?;
     let unread = match &words.unread {
         Some(name) => content_of(name)?,
         None => Vec::new(),
     };
-    let list = match &words.list {
-        Some(name) => {
-            let mut options = OpenOptions::new();
-            options.append(true).create(true).mode(0o600);
-            let opened = options.open(as_path(name)).and_then(|file| {
-                file.set_len(0)?;
-                Ok(Mutex::new(file))
-            });
-            Some(opened.map_err(|error| refused(name, &reason(&error)))?)
-        }
-        None => None,
-    };
+    let list = open_list(words)?;
     let root = Root::of(&words.root)?;
-    let root_path = if root.is_other() { &root.at[..] } else { b"/" };
     let failed = |error: io::Error| refused(&words.root, &reason(&error));
-    let opened = File::open(as_path(root_path)).map_err(failed)?;
+    let opened = root.open().map_err(failed)?;
     let mut lock = None;
     if crate::sys::process::is_root() {
         let status = status_of(&opened).map_err(failed)?;
@@ -411,14 +424,7 @@ impl<'a> Applying<'a> {
         answer.or_else(|error| refuse(format!("/proc is needed: {}", reason(&error))))
     }
     fn run(&self, unread: &[u8], mut lock: Option<Lock>) -> Outcome<u8> {
-        let labels: Vec<Change> = self
-            .sections
-            .iter()
-            .filter_map(|section| {
-                let label = section.label.as_ref()?;
-                Some(change_of(self.known, &section.name, label, true))
-            })
-            .collect();
+        let labels = self.labels();
         if let Some(lock) = &mut lock {
             lock.note_begun();
         }
@@ -429,15 +435,7 @@ impl<'a> Applying<'a> {
             return Ok(stopped(count(&counts.set)));
         }
         let amiss = self.amiss(&counts, unread);
-        let digests: Vec<Change> = self
-            .sections
-            .iter()
-            .filter(|section| !amiss.contains(&section.name[..]))
-            .filter_map(|section| {
-                let digest = section.digest.as_ref()?;
-                Some(change_of(self.known, &section.name, digest, false))
-            })
-            .collect();
+        let digests = self.digests_without(&amiss);
         let digest_counts = Counts::of(&digests, ": its digest", self.list);
         self.set(&digest_counts, Attribute::Digest)?;
         if let Some(lock) = lock.as_mut().filter(|_| stopping().is_none()) {
@@ -456,6 +454,21 @@ impl<'a> Applying<'a> {
         ));
         let is_all = gone + replaced + refused == 0 && is_all_written();
         Ok(status.max(u8::from(!is_all)))
+    }
+    fn labels(&self) -> Vec<Change<'a>> {
+        let labelled = self.sections.iter().filter_map(|section| {
+            let label = section.label.as_ref()?;
+            Some(change_of(self.known, &section.name, label, true))
+        });
+        labelled.collect()
+    }
+    fn digests_without(&self, amiss: &HashSet<Vec<u8>>) -> Vec<Change<'a>> {
+        let sections = self.sections.iter().filter(|section| !amiss.contains(&section.name[..]));
+        let with_digest = sections.filter_map(|section| {
+            let digest = section.digest.as_ref()?;
+            Some(change_of(self.known, &section.name, digest, false))
+        });
+        with_digest.collect()
     }
     /// The paths of what isn't done, and of all above it.
     fn amiss(&self, counts: &Counts, unread: &[u8]) -> HashSet<Vec<u8>> {

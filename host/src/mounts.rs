@@ -233,56 +233,79 @@ fn is_whole(mount: &Mount) -> bool {
 
 /// What the mounts have left out of the tree.
 pub fn left_out_by(mounts: &[Mount], asked: &Asked) -> LeftOut {
-    let is_at_work = mounts.iter().any(|mount| mount.is_sealed);
-    let keeps = |mount: &Mount| match is_at_work {
-        true => mount.is_sealed,
-        false => KEEP_LABELS.iter().any(|kind| kind.as_bytes() == mount.kind),
+    let mut sorting = Sorting {
+        asked,
+        is_at_work: mounts.iter().any(|mount| mount.is_sealed),
+        left_out: LeftOut::new(),
+        views: Vec::new(),
     };
-    let mut left_out = LeftOut::new();
-    let mut views: Vec<View> = Vec::new();
-    let placed = |path: &[u8]| joined(asked.at, if path == b"/" { b"" } else { path });
     for (order, path) in asked.paths.iter().enumerate() {
-        let place = placed(path);
+        sorting.add_path(mounts, order, path);
+    }
+    for (order, mount) in mounts.iter().enumerate() {
+        sorting.add_mount(order, mount);
+    }
+    let mut left_out = sorting.left_out;
+    left_out.extend(second_views(sorting.views, asked.at));
+    let mut seen = HashSet::new();
+    left_out.retain(|(path, _)| seen.insert(path.clone()));
+    left_out
+}
+
+/// Sorts paths and mounts into those that are left out and those that are read.
+struct Sorting<'a> {
+    asked: &'a Asked<'a>,
+    is_at_work: bool,
+    left_out: LeftOut,
+    views: Vec<View<'a>>,
+}
+
+impl<'a> Sorting<'a> {
+    fn keeps(&self, mount: &Mount) -> bool {
+        match self.is_at_work {
+            true => mount.is_sealed,
+            false => KEEP_LABELS.iter().any(|kind| kind.as_bytes() == mount.kind),
+        }
+    }
+    fn placed(&self, path: &[u8]) -> Vec<u8> {
+        joined(self.asked.at, if path == b"/" { b"" } else { path })
+    }
+    /// A path, by the mount that it lies on.
+    fn add_path(&mut self, mounts: &'a [Mount], order: usize, path: &[u8]) {
+        let place = self.placed(path);
         let around = mounts
             .iter()
             .filter(|mount| is_at_or_below(&place, &mount.point))
             .max_by_key(|mount| mount.point.len());
-        if let Some(mount) = around {
-            let is_within =
-                mount.point.len() > asked.at.len().max(1) && is_at_or_below(&mount.point, asked.at);
-            if is_within && !keeps(mount) {
-                left_out.push((path.clone(), Cause::NoLabels));
-            } else if asked.sets && mount.is_read_only {
-                left_out.push((path.clone(), Cause::ReadOnly));
-            } else {
-                let rest = rest_below(&mount.point, &place).unwrap_or_default();
-                let rank = (0, names(&place).count(), order);
-                let root = joined(&mount.root, rest);
-                views.push(View { device: &mount.device, root, place, rank });
-            }
+        let mount = match around {
+            Some(mount) => mount,
+            None => return,
+        };
+        let at = self.asked.at;
+        let is_within = mount.point.len() > at.len().max(1) && is_at_or_below(&mount.point, at);
+        if is_within && !self.keeps(mount) {
+            self.left_out.push((path.to_vec(), Cause::NoLabels));
+        } else if self.asked.sets && mount.is_read_only {
+            self.left_out.push((path.to_vec(), Cause::ReadOnly));
+        } else {
+            let rest = rest_below(&mount.point, &place).unwrap_or_default();
+            let rank = (0, names(&place).count(), order);
+            let root = joined(&mount.root, rest);
+            self.views.push(View { device: &mount.device, root, place, rank });
         }
     }
-    for (order, mount) in mounts.iter().enumerate() {
+    /// A mount below a path.
+    fn add_mount(&mut self, order: usize, mount: &'a Mount) {
         let is_asked = |path: &Vec<u8>| {
-            let place = placed(path);
+            let place = self.placed(path);
             mount.point != place && is_at_or_below(&mount.point, &place)
         };
-        if !asked.paths.iter().any(is_asked) {
-            continue;
+        if !self.asked.paths.iter().any(is_asked) {
+            return;
         }
-        let is_named = asked.paths.iter().any(|path| mount.point == placed(path));
-        let cause = if asked.one_system && !is_named {
-            Some(Cause::OtherSystem)
-        } else if !keeps(mount) {
-            Some(Cause::NoLabels)
-        } else if mount.is_read_only {
-            Some(Cause::ReadOnly)
-        } else {
-            None
-        };
-        match cause {
-            Some(cause) => left_out.push((within(asked.at, &mount.point), cause)),
-            None => views.push(View {
+        match self.cause_of(mount) {
+            Some(cause) => self.left_out.push((within(self.asked.at, &mount.point), cause)),
+            None => self.views.push(View {
                 device: &mount.device,
                 root: mount.root.clone(),
                 place: mount.point.clone(),
@@ -290,10 +313,19 @@ pub fn left_out_by(mounts: &[Mount], asked: &Asked) -> LeftOut {
             }),
         }
     }
-    left_out.extend(second_views(views, asked.at));
-    let mut seen = HashSet::new();
-    left_out.retain(|(path, _)| seen.insert(path.clone()));
-    left_out
+    /// Why a mount is left out, if it is.
+    fn cause_of(&self, mount: &Mount) -> Option<Cause> {
+        let is_named = self.asked.paths.iter().any(|path| mount.point == self.placed(path));
+        if self.asked.one_system && !is_named {
+            Some(Cause::OtherSystem)
+        } else if !self.keeps(mount) {
+            Some(Cause::NoLabels)
+        } else if mount.is_read_only {
+            Some(Cause::ReadOnly)
+        } else {
+            None
+        }
+    }
 }
 
 /// A path as seen from within a root.

@@ -44,34 +44,64 @@ fn not_agreed(what: &str) -> crate::say::Refusal {
     refusal(format!("{what}; nothing of this part was set"))
 }
 
+fn not_known(line: &[u8]) -> crate::say::Refusal {
+    not_agreed(&format!("relabel reports what isn't known: {}", plain(line)))
+}
+
+/// What a dump says of entries that were read.
+struct Sections<'a> {
+    placed: Vec<(Place, Section<'a>)>,
+    /// A root that stands in for what isn't asked for would get a label.
+    changes_root: bool,
+}
+
 /// The sections of a dump, each of an entry that was read, and of each one. Where the root stands
 /// in for what isn't asked for, its section is passed over.
-fn sections_of<'a>(part: &Part, answer: &'a Answer) -> Outcome<Vec<(Place, Section<'a>)>> {
+fn sections_of<'a>(part: &Part, answer: &'a Answer) -> Outcome<Sections<'a>> {
     let sections = dump::parse(&answer.dump)
         .map_err(|line| not_agreed(&format!("the dump of relabel is none at line {}", line.0)))?;
+    let mut of = Sections { placed: Vec::with_capacity(sections.len()), changes_root: false };
+    if sections.is_empty() {
+        return Ok(of);
+    }
     let mut finder = Finder::new(part);
-    let mut seen = HashSet::new();
-    let mut placed = Vec::with_capacity(sections.len());
+    let mut seen = HashSet::with_capacity(sections.len());
     for section in sections {
         if &*section.name == b"/" && !part.has_root() {
+            of.changes_root = section.label.is_some();
             continue;
         }
         match finder.find(&section.name).filter(|place| seen.insert(*place)) {
-            Some(place) => placed.push((place, section)),
+            Some(place) => of.placed.push((place, section)),
             None => {
                 let name = plain(&section.name);
                 return Err(not_agreed(&format!("relabel decided on {name}, which wasn't read")));
             }
         }
     }
-    Ok(placed)
+    Ok(of)
 }
 
-/// Whether the first change is that of a root which stands in for what isn't asked for.
-fn changes_stand_in(part: &Part, answer: &Answer) -> Outcome<bool> {
-    let first = dump::parse(&answer.dump).ok().and_then(|all| all.into_iter().next());
-    let is_root = |section: &Section| &*section.name == b"/" && section.label.is_some();
-    Ok(!part.has_root() && first.as_ref().map_or(false, is_root))
+/// How many names of an inode with several no specification decided.
+struct Undecided<'a> {
+    part: &'a Part,
+    finder: Option<Finder<'a>>,
+    counts: HashMap<(u64, u64), usize>,
+}
+
+impl<'a> Undecided<'a> {
+    fn of(part: &'a Part, groups: &Groups) -> Undecided<'a> {
+        let finder = groups.sizes().next().map(|_| Finder::new(part));
+        Undecided { part, finder, counts: HashMap::new() }
+    }
+    fn add(&mut self, name: &[u8]) {
+        let name = dump::unescaped(name);
+        let found = self.finder.as_mut().zip(name).and_then(|(finder, name)| finder.find(&name));
+        if let Some(place) = found {
+            let entry = self.part.entry(place);
+            *self.counts.entry((entry.device, entry.inode)).or_default() += 1;
+        }
+    }
 }
 
 impl<'a> Decided<'a> {
@@ -82,12 +112,19 @@ impl<'a> Decided<'a> {
         words: &Words,
     ) -> Outcome<Decided<'a>> {
         let mut decided = Decided::default();
-        for (place, section) in sections_of(part, answer)? {
+        let sections = sections_of(part, answer)?;
+        for (place, section) in sections.placed {
             if let Some(label) = section.label {
                 decided.add(part, groups, place, section.name, label);
             }
         }
-        decided.read_report(part, groups, answer, words)?;
+        let mut undecided = Undecided::of(part, groups);
+        decided.read_report(&mut undecided, answer, words, sections.changes_root)?;
+        let further = groups.sizes().map(|(inode, size)| {
+            let undecided = undecided.counts.get(&inode).copied().unwrap_or_default();
+            size.saturating_sub(1 + undecided)
+        });
+        decided.further = further.sum();
         Ok(decided)
     }
     fn add(
@@ -117,60 +154,34 @@ impl<'a> Decided<'a> {
     }
     fn read_report(
         &mut self,
-        part: &'a Part,
-        groups: &Groups,
+        undecided: &mut Undecided,
         answer: &'a Answer,
         words: &Words,
+        mut is_of_root: bool,
     ) -> Outcome<()> {
         let shows = words.shows || words.mode != Mode::Set;
-        let mut finder = (groups.sizes().next().is_some()).then(|| Finder::new(part));
-        let mut undecided: HashMap<(u64, u64), usize> = HashMap::new();
         let mut changed = 0;
-        let mut is_of_root = changes_stand_in(part, answer)?;
         for line in report::lines(&answer.report) {
             let line = line.ok_or_else(|| not_agreed("the report of relabel has no end"))?;
             let is_shown = match report::parse_line(line) {
-                Some(Line::Changed(_)) if std::mem::take(&mut is_of_root) => continue,
-                Some(Line::Undecided(b"/")) if !part.has_root() => continue,
+                Some(Line::Changed(_)) if std::mem::take(&mut is_of_root) => false,
+                Some(Line::Undecided(b"/")) if !undecided.part.has_root() => false,
                 Some(Line::Changed(rest)) => {
-                    if !self.agrees(changed, rest) {
-                        let line = plain(line);
-                        let told = format!("report and dump of relabel differ: {line}");
-                        return Err(not_agreed(&told));
-                    }
+                    self.check_agrees(changed, rest, line)?;
                     if shows {
                         self.items.push(Item::Change(changed));
                     }
                     changed += 1;
-                    continue;
-                }
-                Some(Line::Kept(_)) => {
-                    self.kept += 1;
-                    shows
-                }
-                Some(Line::Undecided(name)) => {
-                    self.undecided += 1;
-                    let finder = finder.as_mut();
-                    if let Some(place) = finder.and_then(|finder| {
-                        dump::unescaped(name).and_then(|name| finder.find(&name))
-                    }) {
-                        let entry = part.entry(place);
-                        *undecided.entry((entry.device, entry.inode)).or_default() += 1;
-                    }
-                    shows
-                }
-                Some(Line::Skipped(_)) => {
-                    self.skipped += 1;
                     false
                 }
-                Some(Line::Conflict) => {
-                    self.conflicts += 1;
-                    shows || !words.quiet
+                Some(told) => {
+                    if let Line::Undecided(name) = told {
+                        undecided.add(name);
+                    }
+                    let is_conflict = matches!(told, Line::Conflict);
+                    self.count(&told) && (shows || is_conflict && !words.quiet)
                 }
-                None => {
-                    let line = plain(line);
-                    return Err(not_agreed(&format!("relabel reports what isn't known: {line}")));
-                }
+                None => return Err(not_known(line)),
             };
             if is_shown {
                 self.items.push(Item::Line(line));
@@ -179,23 +190,31 @@ impl<'a> Decided<'a> {
         if changed != self.changes.len() {
             return Err(not_agreed("report and dump of relabel differ at their end"));
         }
-        self.further = groups
-            .sizes()
-            .map(|(inode, size)| {
-                let undecided = undecided.get(&inode).copied().unwrap_or_default();
-                size.saturating_sub(1 + undecided)
-            })
-            .sum();
         Ok(())
     }
-    /// Whether a line of the report is that of the change.
-    fn agrees(&self, number: usize, line: &[u8]) -> bool {
-        let mut name = Vec::new();
-        let change = self.changes.get(number);
-        change.map_or(false, |change| {
+    /// Counts a line that changes nothing; whether it may be shown.
+    fn count(&mut self, line: &Line) -> bool {
+        let counter = match line {
+            Line::Changed(_) => return true,
+            Line::Kept(_) => &mut self.kept,
+            Line::Undecided(_) => &mut self.undecided,
+            Line::Skipped(_) => &mut self.skipped,
+            Line::Conflict => &mut self.conflicts,
+        };
+        *counter += 1;
+        !matches!(line, Line::Skipped(_))
+    }
+    /// A line of the report has to be that of the change.
+    fn check_agrees(&self, number: usize, rest: &[u8], line: &[u8]) -> Outcome<()> {
+        let agrees = self.changes.get(number).map_or(false, |change| {
+            let mut name = Vec::new();
             push_reported(&mut name, &change.path);
-            line.strip_prefix(&name[..]).map_or(false, |rest| rest.starts_with(b" from "))
-        })
+            rest.strip_prefix(&name[..]).map_or(false, |rest| rest.starts_with(b" from "))
+        });
+        if agrees {
+            return Ok(());
+        }
+        Err(not_agreed(&format!("report and dump of relabel differ: {}", plain(line))))
     }
     fn shown(&self, number: usize) -> Shown<'_> {
         let change = &self.changes[number];
@@ -229,7 +248,6 @@ impl<'a> Decided<'a> {
         };
         let answer = set::set_all(&setting, &watch);
         shower.finish();
-        drop(shower);
         answer.or_else(|error| refuse(format!("/proc is needed: {}", reason(&error))))?;
         let count = |which: u8| {
             answers.iter().filter(|answer| answer.load(Ordering::Relaxed) == which).count()
@@ -304,19 +322,18 @@ fn note_unset(part: &Part, labels: &[Labelled]) -> HashSet<Place> {
     unset
 }
 
-/// Sets the digests of directories at and below which all was read and set.
-pub fn set_digests(
-    run: &mut Run,
+/// The digests of directories at and below which all was read and set.
+fn digests_to_set<'a>(
     part: &Part,
-    answer: &Answer,
+    answer: &'a Answer,
     labels: &[Labelled],
     unread: &HashSet<u32>,
-) -> Outcome<()> {
+) -> Outcome<Vec<Change<'a>>> {
     let unset = note_unset(part, labels);
     let directories = directories_of(part);
     let marks = Marks::of(part);
     let mut changes = Vec::new();
-    for (place, section) in sections_of(part, answer)? {
+    for (place, section) in sections_of(part, answer)?.placed {
         let digest = match section.digest {
             Some(digest) if !is_void(&digest) => digest,
             _ => continue,
@@ -338,6 +355,18 @@ pub fn set_digests(
         let value = Cow::Owned(marks.value(part, place, &digest));
         changes.push(Change { path: section.name, expected, value, others: Vec::new() });
     }
+    Ok(changes)
+}
+
+/// Sets the digests of directories at and below which all was read and set.
+pub fn set_digests(
+    run: &mut Run,
+    part: &Part,
+    answer: &Answer,
+    labels: &[Labelled],
+    unread: &HashSet<u32>,
+) -> Outcome<()> {
+    let changes = digests_to_set(part, answer, labels, unread)?;
     let done = Arc::new(AtomicUsize::new(0));
     run.progress.begin(Phase {
         name: "setting digests",

@@ -4,6 +4,7 @@
 use crate::mounts::names;
 use crate::say::{plain, refuse, Outcome};
 use std::ffi::OsStr;
+use std::fs::File;
 use std::io;
 use std::os::unix::ffi::{OsStrExt, OsStringExt};
 use std::path::{Path, PathBuf};
@@ -32,6 +33,9 @@ impl Root {
     }
     pub fn is_other(&self) -> bool {
         !self.at.is_empty()
+    }
+    pub fn open(&self) -> io::Result<File> {
+        File::open(as_path(if self.is_other() { &self.at } else { b"/" }))
     }
     /// The same path as seen from here.
     pub fn outside(&self, path: &[u8]) -> Vec<u8> {

@@ -107,7 +107,10 @@ fn type_in(text: &[u8]) -> Option<Vec<u8>> {
         let end = value.iter().position(|byte| is_blank(byte) || *byte == b'#');
         Some(value[..end.unwrap_or(value.len())].to_vec())
     };
-    text.split(|&byte| byte == b'\n').filter_map(of_line).last().filter(|name| !name.is_empty())
+    text.split(|&byte| byte == b'\n')
+        .filter_map(of_line)
+        .next_back()
+        .filter(|name| !name.is_empty())
 }
 
 /// The folders of etc/selinux/fixfiles_exclude_dirs: its lines that begin with a slash.

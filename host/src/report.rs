@@ -24,7 +24,7 @@ const KEPT: &[u8] = b" not reset as customized by admin to ";
 pub fn parse_line(line: &[u8]) -> Option<Line<'_>> {
     if line.first() == Some(&b'/') {
         let is_kept = line.windows(KEPT.len()).any(|window| window == KEPT);
-        return is_kept.then(|| Line::Kept(line));
+        return is_kept.then_some(Line::Kept(line));
     }
     if let Some(rest) = line.strip_prefix(CHANGED) {
         Some(Line::Changed(rest))
@@ -33,7 +33,7 @@ pub fn parse_line(line: &[u8]) -> Option<Line<'_>> {
     } else if let Some(name) = line.strip_prefix(SKIPPED) {
         name.strip_suffix(b")").map(Line::Skipped)
     } else {
-        line.starts_with(CONFLICT).then(|| Line::Conflict)
+        line.starts_with(CONFLICT).then_some(Line::Conflict)
     }
 }
 

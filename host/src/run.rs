@@ -21,7 +21,7 @@ use crate::tree::{places_of, Part, Shelf};
 use crate::words::{Digests, Mode, Words};
 use std::fs::File;
 use std::io;
-use std::os::unix::io::OwnedFd;
+use std::os::unix::io::{OwnedFd, RawFd};
 use std::sync::atomic::Ordering;
 use std::time::Instant;
 
@@ -95,58 +95,28 @@ impl Run {
         let wakes = set_up_signals().map_err(cannot("signals"))?;
         let folders = raise_descriptors();
         let root = Root::of(&words.root)?;
-        let program = policy::find_program()?;
-        let files = policy::find(&words.policy, &root)?;
-        let has_types = std::fs::metadata(crate::paths::as_path(&files.types)).is_ok();
-        if !words.forces && !has_types && !words.quiet {
-            let types = plain(&files.types);
-            say(&format!("{types}: not there, so no file counts as customized"));
-        }
+        let mut decider = decider_for(&words, &root, wakes)?;
         if words.mode == Mode::Set && !is_root() {
             return refuse("only root can set labels; -n shows what would be set");
         }
         let (paths, left_out, is_partial) = paths_of(&words, &root)?;
-        let at = crate::paths::as_path(if root.is_other() { &root.at } else { b"/" }).to_owned();
-        let opened = File::open(&at).map_err(cannot(&plain(&words.root)))?;
-        let status = files::status_of(&opened).map_err(cannot("statx"))?;
-        let mut lock = None;
-        if words.mode == Mode::Set {
-            lock = Lock::take(&status)?;
-            if lock.is_none() {
-                return Ok(None);
-            }
+        let opened = root.open().map_err(cannot(&plain(&words.root)))?;
+        let lock = if words.mode == Mode::Set { lock_for(&opened)? } else { None };
+        if words.mode == Mode::Set && lock.is_none() {
+            return Ok(None);
         }
-        let threads = match words.threads {
-            1 => 1,
-            several if crate::sys::process::has_own_folders() => several,
-            _ => 1,
-        };
-        let keeps = words.digests != Digests::None;
+        let threads = threads_for(words.threads);
+        decider.workers = workers_for(&opened, threads);
         let most_open = (folders / threads).clamp(4, 4096);
-        let settings = Settings {
-            special: Special::tree(&left_out),
-            keeps,
-            threads,
-            most_open: most_open * threads,
-            most: part_size(),
-        };
-        let decider = Decider {
-            program,
-            spec: files.spec,
-            types: files.types,
-            forces: words.forces,
-            keeps,
-            workers: workers_for(&opened, threads),
-            wakes,
-        };
-        let scanned = opened.try_clone().map_err(cannot("dup"))?;
+        let scan = scan_of(&opened, &left_out, decider.keeps, threads, most_open)
+            .map_err(cannot("the root"))?;
         Ok(Some(Run {
             style: Style::of(&words),
             totals: Totals::default(),
             progress: Progress::new(words.quiet),
             most_open,
             root: opened.into(),
-            scan: Scan::new(scanned.into(), settings).map_err(cannot("statx"))?,
+            scan,
             decider,
             links: Links::default(),
             lock,
@@ -162,21 +132,14 @@ impl Run {
         self.tell_resumed();
         let mut is_first = true;
         loop {
-            let mut running = None;
-            if !self.decider.keeps {
-                let (started, mut outlet) = self.decider.start(None)?;
-                if !is_first || self.paths != [b"/"] {
-                    // Where relabel is gone, the next records can't be sent either.
-                    let _ = outlet.send(&mut self.scan.stand_in());
-                }
-                self.scan.send_to(outlet);
-                running = Some(started);
-            }
+            let running = self.start_part(is_first)?;
             let shelf = self.begin_part(is_first);
             let mut part = Part::new(self.scan.read_part(shelf));
             self.totals.records += part.count();
             if stopping().is_some() {
-                running.map(Running::end);
+                if let Some(running) = running {
+                    running.end();
+                }
                 return Ok(());
             }
             let has_more = self.scan.has_more();
@@ -188,8 +151,7 @@ impl Run {
             }
             is_first = false;
         }
-        while let Some(part) = self.links.next_part(part_size()) {
-            let mut part = part;
+        while let Some(mut part) = self.links.next_part(part_size()) {
             let groups = self.links.groups_of(&mut part, false);
             self.decide(part, &groups, None)?;
             if stopping().is_some() {
@@ -200,6 +162,19 @@ impl Run {
             lock.note_done();
         }
         Ok(())
+    }
+    /// Without digests relabel reads the records while the tree is read.
+    fn start_part(&self, is_first: bool) -> Outcome<Option<Running>> {
+        if self.decider.keeps {
+            return Ok(None);
+        }
+        let (running, mut outlet) = self.decider.start(None)?;
+        if !is_first || self.paths != [b"/"] {
+            // Where relabel is gone, the next records can't be sent either.
+            let _ = outlet.send(&mut self.scan.stand_in());
+        }
+        self.scan.send_to(outlet);
+        Ok(Some(running))
     }
     fn begin_part(&mut self, is_first: bool) -> Shelf {
         self.progress.begin(Phase {
@@ -405,6 +380,53 @@ impl Run {
     }
 }
 
+/// How relabel is asked, by one worker.
+fn decider_for(words: &Words, root: &Root, wakes: RawFd) -> Outcome<Decider> {
+    let program = policy::find_program()?;
+    let files = policy::find(&words.policy, root)?;
+    let has_types = std::fs::metadata(crate::paths::as_path(&files.types)).is_ok();
+    if !words.forces && !has_types && !words.quiet {
+        let types = plain(&files.types);
+        say(&format!("{types}: not there, so no file counts as customized"));
+    }
+    Ok(Decider {
+        program,
+        spec: files.spec,
+        types: files.types,
+        forces: words.forces,
+        keeps: words.digests != Digests::None,
+        workers: 1,
+        wakes,
+    })
+}
+
+/// The lock of a root; none where a signal asks to stop.
+fn lock_for(root: &File) -> Outcome<Option<Lock>> {
+    Lock::take(&files::status_of(root).map_err(cannot("statx"))?)
+}
+
+fn scan_of(
+    root: &File,
+    left_out: &LeftOut,
+    keeps: bool,
+    threads: usize,
+    most_open: usize,
+) -> io::Result<Scan> {
+    let special = Special::tree(left_out);
+    let most_open = most_open * threads;
+    let settings = Settings { special, keeps, threads, most_open, most: part_size() };
+    Scan::new(root.try_clone()?.into(), settings)
+}
+
+/// As many threads as are asked for, or one where they can't have working folders of their own.
+fn threads_for(asked: usize) -> usize {
+    match asked {
+        1 => 1,
+        several if crate::sys::process::has_own_folders() => several,
+        _ => 1,
+    }
+}
+
 /// Several workers of relabel are slower than one on trees of fewer entries.
 const FEWEST_FOR_WORKERS: u64 = 100_000;
 
@@ -423,15 +445,8 @@ fn part_size() -> usize {
     named.unwrap_or(PART).clamp(1, PART)
 }
 
-/// The paths that are read, what is left out, and whether a path is left out itself.
-fn paths_of(words: &Words, root: &Root) -> Outcome<(Vec<Vec<u8>>, LeftOut, bool)> {
-    let mut paths = Vec::new();
-    for word in &words.paths {
-        paths.push(root.path_of(word)?);
-    }
-    if paths.is_empty() {
-        paths.push(b"/".to_vec());
-    }
+/// What is left out by words and by the list of fixfiles.
+fn excluded(words: &Words, root: &Root, paths: &[Vec<u8>]) -> Outcome<LeftOut> {
     let mut left_out = LeftOut::new();
     for word in &words.excluded {
         left_out.push((root.excluded(word)?, Cause::Word));
@@ -443,6 +458,19 @@ fn paths_of(words: &Words, root: &Root) -> Outcome<(Vec<Vec<u8>>, LeftOut, bool)
             left_out.push((listed, Cause::Listed));
         }
     }
+    Ok(left_out)
+}
+
+/// The paths that are read, what is left out, and whether a path is left out itself.
+fn paths_of(words: &Words, root: &Root) -> Outcome<(Vec<Vec<u8>>, LeftOut, bool)> {
+    let mut paths = Vec::new();
+    for word in &words.paths {
+        paths.push(root.path_of(word)?);
+    }
+    if paths.is_empty() {
+        paths.push(b"/".to_vec());
+    }
+    let mut left_out = excluded(words, root, &paths)?;
     let table = std::fs::read("/proc/self/mountinfo").map_err(cannot("/proc/self/mountinfo"))?;
     let asked = Asked {
         at: &root.at,

@@ -269,36 +269,14 @@ impl Scan {
             queue.is_over = false;
             queue.idle = 0;
         }
-        let mut shelves = vec![first];
         if self.threads == 1 {
             let mut worker = Worker::new(self, 0);
-            worker.shelf = shelves.remove(0);
+            worker.shelf = first;
             worker.work();
             return vec![worker.finish()];
         }
-        let read = std::thread::scope(|scope| {
-            let threads: Vec<_> = (1..=self.threads as u32)
-                .map(|number| {
-                    let read = move || {
-                        let mut worker = Worker::new(self, number);
-                        if files::part_from_others().is_ok() {
-                            worker.work();
-                        } else {
-                            self.leave_thread();
-                        }
-                        worker.finish()
-                    };
-                    let thread = std::thread::Builder::new().spawn_scoped(scope, read);
-                    thread.map_err(|_| self.leave_thread())
-                })
-                .collect();
-            let joined = threads.into_iter().map(|thread| match thread {
-                Ok(thread) => thread.join().unwrap_or_default(),
-                Err(()) => Shelf::default(),
-            });
-            joined.collect::<Vec<_>>()
-        });
-        shelves.extend(read);
+        let mut shelves = vec![first];
+        shelves.extend(self.read_by_threads());
         if self.has_unread() {
             // No thread could be made: this one reads.
             let mut worker = Worker::new(self, shelves.len() as u32);
@@ -306,6 +284,32 @@ impl Scan {
             shelves.push(worker.finish());
         }
         shelves
+    }
+    fn read_by_threads(&self) -> Vec<Shelf> {
+        let read = |number| {
+            let mut worker = Worker::new(self, number);
+            if files::part_from_others().is_ok() {
+                worker.work();
+            } else {
+                self.leave_thread();
+            }
+            worker.finish()
+        };
+        let read = &read;
+        std::thread::scope(|scope| {
+            let threads: Vec<_> = (1..=self.threads as u32)
+                .map(|number| {
+                    let thread = std::thread::Builder::new();
+                    let started = thread.spawn_scoped(scope, move || read(number));
+                    started.map_err(|_| self.leave_thread())
+                })
+                .collect();
+            let joined = threads.into_iter().map(|thread| match thread {
+                Ok(thread) => thread.join().unwrap_or_default(),
+                Err(()) => Shelf::default(),
+            });
+            joined.collect()
+        })
     }
 }
 

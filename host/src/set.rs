@@ -151,9 +151,8 @@ fn set(
         return Err(Unset::Stuck);
     }
     for other in &change.others {
-        match other_way.folder_of(other) {
-            Ok((_, _, true)) => return Err(Unset::Stuck),
-            Ok(_) | Err(_) => {}
+        if let Ok((_, _, true)) = other_way.folder_of(other) {
+            return Err(Unset::Stuck);
         }
     }
     set_at(&place, attribute, &change.value).map_err(|error| Unset::of(&error))
