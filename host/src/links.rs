@@ -82,6 +82,10 @@ impl Links {
         }
         Groups { groups, later }
     }
+    /// How many names are kept for later.
+    pub fn count(&self) -> usize {
+        self.later.values().map(Vec::len).sum()
+    }
     /// The next part of those that were kept for later, with all names of each inode.
     pub fn next_part(&mut self, most: usize) -> Option<Part> {
         self.is_behind = true;

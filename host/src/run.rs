@@ -45,6 +45,16 @@ pub struct Totals {
     /// Names of relabelled files that weren't read.
     pub unread: usize,
     pub digests: usize,
+    /// Records that aren't decided yet.
+    pub waiting: usize,
+}
+
+impl Totals {
+    /// What neither changed nor was told otherwise.
+    fn right(&self) -> usize {
+        let told = self.changed + self.unset + self.kept + self.undecided + self.further;
+        self.records.saturating_sub(told + self.left + self.waiting)
+    }
 }
 
 pub struct Run {
@@ -136,6 +146,7 @@ impl Run {
             let shelf = self.begin_part(is_first);
             let mut part = Part::new(self.scan.read_part(shelf));
             self.totals.records += part.count();
+            self.totals.waiting += part.count();
             if stopping().is_some() {
                 if let Some(running) = running {
                     running.end();
@@ -256,6 +267,7 @@ impl Run {
         self.totals.skipped += decided.skipped;
         self.totals.conflicts += decided.conflicts;
         self.totals.further += decided.further;
+        self.totals.waiting = self.links.count();
         if self.words.mode != Mode::Set {
             decided.show(self.style);
             self.totals.changed += decided.changes.len();
@@ -315,12 +327,6 @@ impl Run {
             || !is_all_written();
         u8::from(is_amiss)
     }
-    /// What neither changed nor was told otherwise.
-    fn right(&self) -> usize {
-        let totals = &self.totals;
-        let told = totals.changed + totals.unset + totals.kept + totals.undecided + totals.further;
-        totals.records.saturating_sub(told)
-    }
     fn tell_end(&self) {
         let totals = &self.totals;
         if totals.unread > 0 {
@@ -344,7 +350,7 @@ impl Run {
              {} more names, {} skipped, {} conflicts, {seconds:.1} seconds",
             totals.records,
             totals.changed,
-            self.right(),
+            totals.right(),
             totals.kept,
             totals.undecided,
             totals.further,
@@ -366,7 +372,7 @@ impl Run {
             ("records", number(totals.records)),
             ("changed", number(totals.changed)),
             ("not set", number(totals.unset + totals.left)),
-            ("right", number(self.right())),
+            ("right", number(totals.right())),
             ("kept", number(totals.kept)),
             ("without a specification", number(totals.undecided)),
             ("more names", number(totals.further)),
@@ -537,4 +543,15 @@ fn send_all(part: &Part, groups: &Groups, mut outlet: Outlet, links: bool) -> io
     }
     outlet.send(&mut text)?;
     outlet.finish()
+}
+
+#[cfg(test)]
+mod tests {
+    use super::*;
+
+    #[test]
+    fn what_is_neither_decided_nor_set_is_not_right() {
+        let totals = Totals { records: 10, changed: 3, left: 4, waiting: 2, ..Totals::default() };
+        assert_eq!(totals.right(), 1);
+    }
 }
