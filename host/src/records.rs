@@ -63,16 +63,21 @@ pub struct Outlet {
     /// How much of the first is written.
     written: usize,
     bytes: usize,
+    /// A buffer that was written, for the next records.
+    spare: Vec<u8>,
 }
 
 impl Outlet {
     /// The pipe doesn't block.
     pub fn new(pipe: File, wakes: RawFd) -> Outlet {
-        Outlet { pipe, wakes, waiting: VecDeque::new(), written: 0, bytes: 0 }
+        let (waiting, spare) = (VecDeque::new(), Vec::new());
+        Outlet { pipe, wakes, waiting, written: 0, bytes: 0, spare }
     }
     /// Hands over whole records, and leaves a buffer for the next ones.
     pub fn send(&mut self, records: &mut Vec<u8>) -> Result<()> {
-        let room = Vec::with_capacity(AT_ONCE + 2 * LONGEST_PATH);
+        let mut room = std::mem::take(&mut self.spare);
+        room.clear();
+        room.reserve(AT_ONCE + 2 * LONGEST_PATH);
         let records = std::mem::replace(records, room);
         self.bytes += records.len();
         self.waiting.push_back(records);
@@ -86,7 +91,7 @@ impl Outlet {
     fn write(&mut self, left: usize) -> Result<()> {
         while let Some(first) = self.waiting.front() {
             if self.written == first.len() {
-                self.waiting.pop_front();
+                self.spare = self.waiting.pop_front().unwrap_or_default();
                 self.written = 0;
                 continue;
             }

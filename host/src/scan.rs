@@ -398,7 +398,6 @@ impl<'a> Worker<'a> {
                     let links = self.scan.keeps;
                     records::push(&mut self.records, &entry, links, label, b"", b"");
                 }
-                self.count(1);
                 self.jobs.push(Job { directory: root, work: Work::Open(None) });
             }
             Look::Gone => self.tell(&above, b"", "not found"),
@@ -577,6 +576,7 @@ impl<'a> Worker<'a> {
             let directory = directory.clone();
             let (first, end) = (first as u32, end as u32);
             self.shelf.listings.push(Listing { directory, shelf: self.number, first, end });
+            self.count((end - first) as usize);
             if self.records.len() >= records::AT_ONCE {
                 self.send();
             }
@@ -622,7 +622,6 @@ impl<'a> Worker<'a> {
         (status, kind, label): (Status, Kind, u32),
     ) {
         let mut entry = self.shelf.add(name.to_bytes(), &status, kind, label);
-        self.count(1);
         let index = self.shelf.entries.len() - 1;
         if kind == Kind::Directory {
             let number = self.scan.number();

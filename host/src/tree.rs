@@ -353,6 +353,8 @@ pub struct Finder<'a> {
     /// The directory that was looked for last.
     path: Vec<u8>,
     number: Option<u32>,
+    /// Where among its children the next name stands, if names come in their order.
+    next: usize,
 }
 
 impl<'a> Finder<'a> {
@@ -366,7 +368,8 @@ impl<'a> Finder<'a> {
             }
         }
         let number = directories.get(&b""[..]).copied();
-        Finder { part, directories, children: HashMap::new(), path: Vec::new(), number }
+        let (children, path) = (HashMap::new(), Vec::new());
+        Finder { part, directories, children, path, number, next: 0 }
     }
     /// The place of an absolute path that was read.
     pub fn find(&mut self, path: &[u8]) -> Option<Place> {
@@ -379,11 +382,16 @@ impl<'a> Finder<'a> {
             self.path.clear();
             self.path.extend_from_slice(above);
             self.number = self.directories.get(above).copied();
+            self.next = 0;
         }
         let number = self.number?;
         let part = self.part;
         let children = self.children.entry(number).or_insert_with(|| part.children(number));
-        let at = children.binary_search_by(|place| part.name(*place).cmp(name)).ok()?;
+        let at = match children.get(self.next) {
+            Some(place) if part.name(*place) == name => self.next,
+            _ => children.binary_search_by(|place| part.name(*place).cmp(name)).ok()?,
+        };
+        self.next = at + 1;
         Some(children[at])
     }
 }

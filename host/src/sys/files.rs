@@ -14,14 +14,22 @@ pub enum Open {
     Place,
 }
 
-/// Opens a name within a folder, never through a link.
+/// Opens a name within a folder, never through a link. To read a folder leaves its access time,
+/// where this process may ask for that.
 pub fn open_in(folder: &impl AsRawFd, name: &CStr, how: Open) -> io::Result<OwnedFd> {
-    let kind = match how {
-        Open::Folder => libc::O_RDONLY | libc::O_DIRECTORY | libc::O_NONBLOCK,
-        Open::FolderPlace => libc::O_PATH | libc::O_DIRECTORY,
-        Open::Place => libc::O_PATH,
-    };
-    let flags = kind | libc::O_NOFOLLOW | libc::O_CLOEXEC;
+    const FOLDER: i32 = libc::O_RDONLY | libc::O_DIRECTORY | libc::O_NONBLOCK;
+    match how {
+        Open::Folder => match open_by(folder, name, FOLDER | libc::O_NOATIME) {
+            Err(error) if is(&error, libc::EPERM) => open_by(folder, name, FOLDER),
+            opened => opened,
+        },
+        Open::FolderPlace => open_by(folder, name, libc::O_PATH | libc::O_DIRECTORY),
+        Open::Place => open_by(folder, name, libc::O_PATH),
+    }
+}
+
+fn open_by(folder: &impl AsRawFd, name: &CStr, flags: i32) -> io::Result<OwnedFd> {
+    let flags = flags | libc::O_NOFOLLOW | libc::O_CLOEXEC;
     // SAFETY: the name ends with a NUL.
     let opened = unsafe { libc::openat(folder.as_raw_fd(), name.as_ptr(), flags) };
     checked(opened.into())?;
