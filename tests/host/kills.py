@@ -1,28 +1,34 @@
 #!/usr/bin/env python3
-"""Kills runs of relabel-tree -D at random moments, and looks whether a digest lies afterwards.
+"""Kills runs of relabel-tree -D at random moments, and checks the digests afterwards.
 
     kills.py TREE ROOT SPEC MOMENTS [SEED]
 
-TREE is the program, ROOT a folder in which the tree is made. Each turn some labels are spoiled, in
-half of the turns by another policy's run, and a run with -D is started, and killed behind a random
-time, by -9 or TERM. Then a look by digests has to find what a look at everything finds, and after
-each tenth turn a whole run has to leave nothing to change. Status 1 where one of these fails.
+TREE is the program, ROOT a folder in which the tree is made. Each turn spoils some labels, starts a
+run with -D and kills it after a random time, by KILL or TERM, until MOMENTS runs were killed. After
+each turn a check by digests has to find what a check of everything finds. After each tenth turn
+setfiles, where it is installed, has to find nothing more, and a whole run has to leave nothing to
+change. The exit status is 1 if one of these fails.
 """
 
+import collections
 import os
 import random
+import shutil
 import signal
 import subprocess
 import sys
 import time
 
 CONTEXT = b"system_u:object_r:%s:s0"
+CHANGE = b"Would relabel "
 
 
 class Tree:
     def __init__(self, program, root, spec):
         self.program, self.root, self.spec = program, root, spec
         self.files = []
+        self.peer = shutil.which("setfiles")
+        self.compared = 0
 
     def make(self, folders, each):
         for number in range(folders):
@@ -44,11 +50,32 @@ class Tree:
                        stderr=subprocess.DEVNULL)
 
     def changes(self, *words):
+        """What a check finds, as lines."""
         told = subprocess.run(self.words("-n", "-v", *words), stdout=subprocess.PIPE,
                               stderr=subprocess.PIPE)
         if told.returncode != 0:
-            raise SystemExit(f"a look ends with {told.returncode}: {told.stderr.decode()}")
-        return [line for line in told.stdout.split(b"\n") if line.startswith(b"Would relabel ")]
+            raise SystemExit(f"a check ends with {told.returncode}: {told.stderr.decode()}")
+        return [line for line in told.stdout.split(b"\n") if line.startswith(CHANGE)]
+
+    def inodes_in(self, lines, root):
+        """The inodes that the lines name, and how many of their names stand there."""
+        paths = [root + line[len(CHANGE):].split(b" from ")[0] for line in lines]
+        return collections.Counter(os.lstat(path).st_ino for path in paths)
+
+    def missed(self, found):
+        """The inodes that setfiles finds under each of their names, and a check doesn't."""
+        if not self.peer:
+            return []
+        words = [self.peer, "-n", "-v", "-r", self.root, self.spec, self.root]
+        told = subprocess.run(words, stdout=subprocess.PIPE, stderr=subprocess.DEVNULL)
+        if told.returncode not in (0, 1):
+            raise SystemExit(f"setfiles ends with {told.returncode}")
+        lines = [line for line in told.stdout.split(b"\n") if line.startswith(CHANGE)]
+        known = self.inodes_in(found, os.fsencode(self.root))
+        self.compared += len(lines)
+        links = {os.lstat(path).st_ino: os.lstat(path).st_nlink for path in self.files}
+        return [inode for inode, names in self.inodes_in(lines, b"").items()
+                if inode not in known and names == links.get(inode, names)]
 
     def spoil(self, chance, count):
         for path in chance.sample(self.files, count):
@@ -64,6 +91,19 @@ class Tree:
         return run.wait()
 
 
+def faults_after(tree, is_tenth):
+    """What is wrong after a run that was killed."""
+    found = tree.changes()
+    if tree.changes("-D") != found:
+        yield "a digest lies"
+    if is_tenth:
+        if tree.missed(found):
+            yield "setfiles finds more"
+        tree.run("-D")
+        if tree.changes():
+            yield "a whole run left something to change"
+
+
 def main():
     program, root, spec, moments = *sys.argv[1:4], int(sys.argv[4])
     seed = int(sys.argv[5]) if len(sys.argv) > 5 else random.randrange(1 << 30)
@@ -72,24 +112,24 @@ def main():
     tree.make(60, 40)
     began = time.monotonic()
     tree.run("-D")
-    longest = 1.3 * (time.monotonic() - began)
-    ends, lies, left = {}, 0, 0
-    for turn in range(moments):
+    longest = time.monotonic() - began
+    ends, turn, killed, faults = collections.Counter(), 0, 0, 0
+    while killed < moments:
         tree.spoil(chance, chance.choice([1, 5, 300, 1500]))
         number = chance.choice([signal.SIGKILL, signal.SIGTERM])
         status = tree.killed(chance.uniform(0, longest), number, chance.choice([1, 4]))
-        ends[status] = ends.get(status, 0) + 1
-        if tree.changes("-D") != tree.changes():
-            lies += 1
-            print(f"    seed {seed}, turn {turn}: a digest lies after status {status}")
-        if turn % 10 == 9:
-            tree.run("-D")
-            if tree.changes():
-                left += 1
-                print(f"    seed {seed}, turn {turn}: a whole run left something to change")
+        ends[status] += 1
+        # About a third of the runs ends by itself, so that each phase is met.
+        longest *= 0.98 if status == 0 else 1.01
+        killed += status != 0
+        for fault in faults_after(tree, turn % 10 == 9):
+            faults += 1
+            print(f"    seed {seed}, turn {turn}, status {status}: {fault}")
+        turn += 1
     told = ", ".join(f"{count} ended with {status}" for status, count in sorted(ends.items()))
-    print(f"    {moments} moments: {told}; {lies} with digests that lie", file=sys.stderr)
-    sys.exit(1 if lies or left else 0)
+    told += f"; setfiles found {tree.compared} names" if tree.peer else "; no setfiles here"
+    print(f"    {killed} killed of {turn} runs: {told}; {faults} faults", file=sys.stderr)
+    sys.exit(1 if faults else 0)
 
 
 main()
