@@ -1,6 +1,7 @@
 //! What is left out of a tree: by words, by files, and since a mount takes no labels, is read-only
 //! or shows what is seen elsewhere.
 
+use crate::tree::LONGEST_PATH;
 use std::collections::{BTreeMap, HashMap, HashSet};
 use std::os::unix::ffi::OsStrExt;
 use std::os::unix::fs::MetadataExt;
@@ -46,10 +47,14 @@ pub struct Special {
 pub type LeftOut = Vec<(Vec<u8>, Cause)>;
 
 impl Special {
-    /// The tree of some paths.
+    /// The tree of some paths, but for those that are too long to be read: each level of the tree
+    /// takes room on the stack.
     pub fn tree(left_out: &LeftOut) -> Special {
-        let mut sorted: Vec<(Vec<&[u8]>, &Cause)> =
-            left_out.iter().map(|(path, cause)| (names(path).collect(), cause)).collect();
+        let mut sorted: Vec<(Vec<&[u8]>, &Cause)> = left_out
+            .iter()
+            .filter(|(path, _)| path.len() <= LONGEST_PATH)
+            .map(|(path, cause)| (names(path).collect(), cause))
+            .collect();
         sorted.sort_by(|a, b| a.0.cmp(&b.0));
         Special::grow(&sorted, 0)
     }
@@ -179,8 +184,12 @@ pub fn parse(text: &[u8]) -> Vec<Mount> {
     let by_id: HashMap<u64, &Mount> = all.iter().map(|it| (it.id, it)).collect();
     let is_seen = |mount: &Mount| {
         let mut above = by_id.get(&mount.parent);
-        while let Some(stacked) = above.filter(|it| it.point == mount.point && it.id != it.parent) {
-            above = by_id.get(&stacked.parent);
+        // No more steps than mounts: a text that is no table can have a circle.
+        for _ in &all {
+            match above.filter(|it| it.point == mount.point && it.id != it.parent) {
+                Some(stacked) => above = by_id.get(&stacked.parent),
+                None => break,
+            }
         }
         let mut nearest = &mount.point[..];
         let around = loop {
@@ -408,6 +417,11 @@ mod tests {
         assert_eq!(points, [b"/".to_vec(), b"/a".to_vec()]);
     }
     #[test]
+    fn a_circle_of_parents_has_an_end() {
+        let text = b"1 2 8:1 / / rw - ext4 a rw\n2 1 8:1 / / rw - ext4 a rw\n";
+        assert_eq!(parse(text).len(), 1);
+    }
+    #[test]
     fn lines_that_are_none_are_passed_over() {
         assert_eq!(parse(b"x\n1 2 3\n1 0 8:1 / / rw -\n\n"), []);
     }
@@ -419,5 +433,12 @@ mod tests {
         assert_eq!(special.cause_at(b"/a"), None);
         assert_eq!(special.cause_at(b"/c"), Some(Cause::Listed));
         assert_eq!(special.cause_at(b"/"), None);
+    }
+    #[test]
+    fn a_path_that_is_too_long_is_no_part_of_the_tree() {
+        let left_out = vec![(b"/a".repeat(500_000), Cause::Listed), (b"/b".to_vec(), Cause::Word)];
+        let special = Special::tree(&left_out);
+        assert_eq!(special.below.len(), 1);
+        assert_eq!(special.cause_at(b"/b"), Some(Cause::Word));
     }
 }
