@@ -7,7 +7,7 @@ TREE is the program, ROOT a folder in which the tree is made. Each turn spoils s
 run with -D and kills it after a random time, by KILL or TERM, until MOMENTS runs were killed. After
 each turn a check by digests has to find what a check of everything finds. After each tenth turn
 setfiles, where it is installed, has to find nothing more, and a whole run has to leave nothing to
-change. The exit status is 1 if one of these fails.
+change. The exit status is 1 if one of these fails. TERM ends the test after the turn in hand.
 """
 
 import collections
@@ -29,6 +29,10 @@ class Tree:
         self.files = []
         self.peer = shutil.which("setfiles")
         self.compared = 0
+        self.is_stopping = False
+
+    def stop(self, *_):
+        self.is_stopping = True
 
     def make(self, folders, each):
         for number in range(folders):
@@ -109,13 +113,14 @@ def main():
     seed = int(sys.argv[5]) if len(sys.argv) > 5 else random.randrange(1 << 30)
     chance = random.Random(seed)
     tree = Tree(program, root, spec)
-    tree.make(60, 40)
+    tree.make(24, 40)
+    signal.signal(signal.SIGTERM, tree.stop)
     began = time.monotonic()
     tree.run("-D")
     longest = time.monotonic() - began
     ends, turn, killed, faults = collections.Counter(), 0, 0, 0
-    while killed < moments:
-        tree.spoil(chance, chance.choice([1, 5, 300, 1500]))
+    while killed < moments and not tree.is_stopping:
+        tree.spoil(chance, chance.choice([1, 5, 150, 600]))
         number = chance.choice([signal.SIGKILL, signal.SIGTERM])
         status = tree.killed(chance.uniform(0, longest), number, chance.choice([1, 4]))
         ends[status] += 1
@@ -124,12 +129,12 @@ def main():
         killed += status != 0
         for fault in faults_after(tree, turn % 10 == 9):
             faults += 1
-            print(f"    seed {seed}, turn {turn}, status {status}: {fault}")
+            print(f"    seed {seed}, turn {turn}, status {status}: {fault}", flush=True)
         turn += 1
     told = ", ".join(f"{count} ended with {status}" for status, count in sorted(ends.items()))
     told += f"; setfiles found {tree.compared} names" if tree.peer else "; no setfiles here"
     print(f"    {killed} killed of {turn} runs: {told}; {faults} faults", file=sys.stderr)
-    sys.exit(1 if faults else 0)
+    sys.exit(1 if faults or killed < moments else 0)
 
 
 main()
