@@ -1,0 +1,4 @@
+pub mod ListLemmas
+pub mod RouteLemmas
+pub mod MemberLemmas
+pub mod LawLemmas

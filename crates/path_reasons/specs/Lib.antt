@@ -1,0 +1,13 @@
+pub mod SubLines
+pub mod Routes
+pub mod Members
+pub mod Kinds
+pub mod Texts
+pub mod Blocks
+pub mod Policy
+pub mod Letters
+pub mod Words
+pub mod Answer
+pub mod Plan
+pub mod Laws
+pub mod Constants
