@@ -1,0 +1,5 @@
+//! Tests of whole runs of relabel-policy.
+#![tactic(auto)]
+
+#[cfg(test)]
+mod explain_tests;
