@@ -6,7 +6,8 @@ ghost use Rattle.dir_queue.specs.Passes.{HoldsEachOnce};
 ghost use Rattle.walk_steps.specs.Sound.{Sound};
 
 use crate::rule::{
-    CutOne, Job, Joining, NothingLostOrDoubled, Offering, Plan, QueueView, SettingUp, Taking,
+    Job, NothingLostOrDoubled, Offering, QueueJoin, QueuePlan, QueueSplit, QueueView, SettingUp,
+    Taking,
 };
 use crossbeam_queue::{Pass, RuledArrayQueue};
 use label_base::{OutOfMemory, Row};
@@ -28,7 +29,7 @@ pub struct QueuePass {
 #[derive(Drop)]
 pub struct DirQueue {
     queue: RuledArrayQueue<Job, QueueView, NothingLostOrDoubled>,
-    plan: Plan,
+    plan: QueuePlan,
     pub ghost roomy: { ruled_capacity queue ≡ length plan.shape.value.parents + 1 },
 }
 
@@ -75,7 +76,7 @@ impl DirQueue {
         ensures pass { IfOk result
             (λ made. IsPassOf made.0.queue made.1 × (view made.1 ≡ not_set_up)) }
     {
-        let plan = Plan {
+        let plan = QueuePlan {
             shape: Snapshot::of(shape),
             passes,
         };
@@ -119,7 +120,7 @@ impl DirQueue {
             × (queue_view result ≡ fresh_queue (queue_shape self.now).parents
             (passes_of_queue self.now) 1) }
     {
-        let pass = self.queue.another::<CutOne>(&mut pass.pass);
+        let pass = self.queue.another::<QueueSplit>(&mut pass.pass);
         QueuePass { pass }
     }
 
@@ -194,7 +195,7 @@ impl DirQueue {
             → HoldsEachOnce (queue_view into.new) }
     {
         let QueuePass { pass } = from;
-        self.queue.absorb::<Joining>(&mut into.pass, pass);
+        self.queue.absorb::<QueueJoin>(&mut into.pass, pass);
         self.queue.learn_as::<Taking>(&mut into.pass);
     }
 

@@ -6,7 +6,7 @@ use walk_steps::Shape;
 /// What a queue was made for. The first job brings it to the rule, which has no other way to know
 /// it.
 #[derive(Drop)]
-pub struct Plan {
+pub struct QueuePlan {
     pub shape: Snapshot<Shape>,
     pub passes: u32,
 }
@@ -15,7 +15,7 @@ pub struct Plan {
 #[derive(Drop)]
 pub struct Job {
     pub number: u32,
-    pub plan: Snapshot<Plan>,
+    pub plan: Snapshot<QueuePlan>,
 }
 
 /// What a pass shows: the jobs that it took and those that it gave, and how many passes it stands
@@ -88,9 +88,9 @@ impl Lesson<Job, QueueView> for Taking {
 }
 
 /// One pass more, cut from a pass that stands for several.
-pub(crate) struct CutOne;
+pub(crate) struct QueueSplit;
 
-impl Split<QueueView> for CutOne {
+impl Split<QueueView> for QueueSplit {
     ghost use Rattle.dir_queue.specs.Passes.{queue_for_one_less, for_one};
 
     ghost left = { queue_for_one_less };
@@ -99,9 +99,9 @@ impl Split<QueueView> for CutOne {
 }
 
 /// Two passes made one.
-pub(crate) struct Joining;
+pub(crate) struct QueueJoin;
 
-impl Join<QueueView> for Joining {
+impl Join<QueueView> for QueueJoin {
     ghost use Rattle.dir_queue.specs.Passes.{queues_joined, spent};
 
     ghost both = { queues_joined };

@@ -85,18 +85,18 @@ fn work_once<R: Wait>(rt: &R, queue: &DirQueue, shape: &Shape, pass: &mut QueueP
 
 // A pass, and the jobs that it took, for which there is room.
 #[derive(Drop)]
-struct Worker {
+struct QueueWorker {
     pass: QueuePass,
     jobs: Vec<u32>,
 }
 
 // Takes and offers for a number of turns.
-fn work<R: Wait>(rt: &R, queue: &DirQueue, shape: &Shape, worker: Worker) -> Worker
+fn work<R: Wait>(rt: &R, queue: &DirQueue, shape: &Shape, worker: QueueWorker) -> QueueWorker
     requires { IsQueuePassOf queue.now worker.pass × (queue_shape queue.now ≡ shape.now) }
     ensures pass { IsQueuePassOf queue.now result.pass }
     ensures stands { (queue_view result.pass).stands_for ≡ (queue_view worker.pass).stands_for }
 {
-    let Worker { mut pass, mut jobs } = worker;
+    let QueueWorker { mut pass, mut jobs } = worker;
     'turns: for _ in 0..4000u32 {
         match work_once(rt, queue, shape, &mut pass) {
             Some(job) => {
@@ -105,7 +105,7 @@ fn work<R: Wait>(rt: &R, queue: &DirQueue, shape: &Shape, worker: Worker) -> Wor
             None => yield_now(),
         }
     }
-    Worker { pass, jobs }
+    QueueWorker { pass, jobs }
 }
 
 // How many of the jobs 0 to `last` stand in the lists exactly once.
@@ -175,9 +175,9 @@ fn two_workers<R: Threads + Wait + Sync>(
     rt: &R,
     queue: &DirQueue,
     shape: &Shape,
-    a: Worker,
-    b: Worker,
-) -> (Worker, Worker)
+    a: QueueWorker,
+    b: QueueWorker,
+) -> (QueueWorker, QueueWorker)
     requires shape { queue_shape queue.now ≡ shape.now }
     requires a { IsQueuePassOf queue.now a.pass × ((queue_view a.pass).stands_for ≡ 1) }
     requires b { IsQueuePassOf queue.now b.pass × ((queue_view b.pass).stands_for ≡ 1) }
@@ -188,13 +188,13 @@ fn two_workers<R: Threads + Wait + Sync>(
 {
     join(
         rt,
-        || -> Worker
+        || -> QueueWorker
             requires { IsQueuePassOf queue.now a.pass × (queue_shape queue.now ≡ shape.now)
                 × ((queue_view a.pass).stands_for ≡ 1) }
             ensures { IsQueuePassOf queue.entry.now result.pass
                 × ((queue_view result.pass).stands_for ≡ 1) }
         { work(rt, queue, shape, a) },
-        || -> Worker
+        || -> QueueWorker
             requires { IsQueuePassOf queue.now b.pass × (queue_shape queue.now ≡ shape.now)
                 × ((queue_view b.pass).stands_for ≡ 1) }
             ensures { IsQueuePassOf queue.entry.now result.pass
@@ -211,25 +211,25 @@ fn two_threads_take_each_job_once(rt: HostRuntime) -> Result<(), Fail> {
     let (Some(a), Some(b)) = (passes.pop(), passes.pop()) else {
         unreachable!()
     };
-    let first = Worker {
+    let first = QueueWorker {
         pass: a,
         jobs: Vec::with_capacity(alloc, 2000)?,
     };
-    let second = Worker {
+    let second = QueueWorker {
         pass: b,
         jobs: Vec::with_capacity(alloc, 2000)?,
     };
     let (first, second) = two_workers(&rt, &queue, &shape, first, second);
-    let Worker {
+    let QueueWorker {
         pass: mut all,
         jobs,
     } = first;
     queue.join(&rt, &mut all, second.pass);
-    let rest = Worker {
+    let rest = QueueWorker {
         pass: all,
         jobs: Vec::with_capacity(alloc, 2000)?,
     };
-    let Worker {
+    let QueueWorker {
         pass: mut all,
         jobs: rest,
     } = work(&rt, &queue, &shape, rest);

@@ -11,7 +11,7 @@ use Rattle.find_records.specs.declared.reading.RecordLimits.{RecordLimits}
 use Rattle.find_records.specs.declared.fault.RecordsFault.{RecordsFault}
 use Rattle.find_records.specs.declared.fault.RecordsFault.TheVariants.{ReadFault, TooLong}
 use Rattle.find_records.specs.declared.fault.RecordsFault.TheVariants.{OutOfMemory}
-use Rattle.find_records.specs.declared.so_far.SoFar.{SoFar}
+use Rattle.find_records.specs.declared.so_far.RecordsSoFar.{RecordsSoFar}
 use Rattle.find_records.specs.Cause.{records_cause}
 use Rattle.find_records.specs.Grammar.{records_from, records_of}
 use Rattle.find_records.specs.Reading.{RecordsCounts, RecordsAsKnown}
@@ -21,8 +21,8 @@ use Rattle.find_records.proofs.RunGrammar.{run_means, run_of}
 
 -- so many bytes were taken, and with any bytes behind them they mean what is meant with what is
 -- read so far
-pub record IsTaken (format : Format) (old now : Option (List ℕ)) (most count : ℕ) (s : SoFar) : Type
-    0 where
+pub record IsTaken (format : Format) (old now : Option (List ℕ)) (most count : ℕ)
+    (s : RecordsSoFar) : Type 0 where
   pub bytes : List ℕ
   pub took : Consumes old now bytes
   pub size : length bytes ≡ count
@@ -32,14 +32,15 @@ consumes_nothing : (old : Option (List ℕ)) → Consumes old old []
 consumes_nothing None = tt
 consumes_nothing (Some all) = refl
 
-pub taken_nothing : (format : Format) (old : Option (List ℕ)) (most : ℕ) (s : SoFar)
+pub taken_nothing : (format : Format) (old : Option (List ℕ)) (most : ℕ) (s : RecordsSoFar)
     → ((rest : List ℕ) → meant_with s rest ≡ records_from format most 1 rest)
     → IsTaken format old old most 0 s
 taken_nothing format old most s h =
     record { bytes = []; took = consumes_nothing old; size = refl; meant = λ rest. sym (h rest) }
 
 pub taken_more : (format : Format) (old mid now : Option (List ℕ)) (most count more : ℕ)
-    (s t : SoFar) (piece : List ℕ) → IsTaken format old mid most count s → Consumes mid now piece
+    (s t : RecordsSoFar) (piece : List ℕ) → IsTaken format old mid most count s
+    → Consumes mid now piece
     → more ≡ count + length piece
     → ((rest : List ℕ) → meant_with s (piece ++ rest) ≡ meant_with t rest)
     → IsTaken format old now most more t
@@ -73,7 +74,7 @@ shown_long format limits (Some all) now bytes h n = (bytes, h, n)
 
 -- nothing is left, and this is what all bytes mean
 answered : (format : Format) (limits : RecordLimits) (old mid : Option (List ℕ)) (count : ℕ)
-    (s : SoFar) (result : Result (List Record) RecordsFault)
+    (s : RecordsSoFar) (result : Result (List Record) RecordsFault)
     (a : IsTaken format old mid limits.records count s)
     → Answers (λ records. records) records_cause result (meant_with s [])
     → Answers (λ records. records) records_cause result (records_of format limits a.bytes)
@@ -83,7 +84,8 @@ answered format limits old mid count s result a h =
 
 pub shown_end : (format : Format) (limits : RecordLimits) (old mid now : Option (List ℕ))
     (count : ℕ)
-    (s : SoFar) (result : Result (List Record) RecordsFault) → IsTaken format old mid limits.records
+    (s : RecordsSoFar) (result : Result (List Record) RecordsFault)
+    → IsTaken format old mid limits.records
     count s → count ≤ limits.bytes
     → IsAtEnd mid → Keeps mid now → Answers (λ records. records) records_cause result
     (meant_with s []) → RecordsAsKnown format old now limits result
@@ -94,7 +96,7 @@ shown_end format limits old mid now count s result a few ends keeps h =
     (answered format limits old mid count s result a h)
 
 pub counts_end : (format : Format) (limits : RecordLimits) (old mid : Option (List ℕ))
-    (count before now : ℕ) (s : SoFar) (result : Result (List Record) RecordsFault)
+    (count before now : ℕ) (s : RecordsSoFar) (result : Result (List Record) RecordsFault)
     → IsTaken format old mid limits.records count s → now ≡ before
     → Answers (λ records. records) records_cause result (meant_with s [])
     → RecordsCounts before now result
@@ -110,7 +112,7 @@ shown_nothing format limits old = shown_want format limits old old [] (consumes_
 
 -- the records that all bytes mean are of the format
 pub of_end : (format : Format) (limits : RecordLimits) (old mid : Option (List ℕ)) (count : ℕ)
-    (s : SoFar) (records : List Record) → IsTaken format old mid limits.records count s
+    (s : RecordsSoFar) (records : List Record) → IsTaken format old mid limits.records count s
     → meant_with s [] ≡ Ok records → AreOfFormat format records
 of_end format limits old mid count s records a h =
     run_of format a.bytes records

@@ -10,7 +10,7 @@ ghost use Rattle.find_records.specs.SoFar.{IsSound, meant_with};
 use crate::fault::RecordsFault;
 use crate::format::Format;
 use crate::records::Records;
-use crate::so_far::SoFar;
+use crate::so_far::RecordsSoFar;
 use input_output::{Source, Take};
 use label_base::OutOfMemory;
 use std::alloc::Global;
@@ -43,7 +43,7 @@ fn take_pieces<I: Source>(
     format: Format,
     limits: RecordLimits,
     buf: &mut [u8],
-    so_far: &mut SoFar,
+    so_far: &mut RecordsSoFar,
 ) -> Result<(), RecordsFault>
     requires limits { limits.bytes < 2 ^ 64 - 1 }
     requires room { 0 < length buf.old }
@@ -102,7 +102,7 @@ pub fn read_records<I: Source>(
     ensures of_format { IfOk result (λ records. AreOfFormat format records) }
 {
     let mut buf = buffer(alloc)?;
-    let mut so_far = SoFar::new(alloc, format, limits.records);
+    let mut so_far = RecordsSoFar::new(alloc, format, limits.records);
     take_pieces(
         alloc,
         source,

@@ -16,7 +16,7 @@ use std::alloc::Global;
 
 // The records so far, and what stands behind them.
 #[derive(Drop)]
-pub struct SoFar {
+pub struct RecordsSoFar {
     // Which fields records have.
     pub format: Format,
     // The greatest number of records.
@@ -108,7 +108,7 @@ fn add_or_refuse(
 }
 
 // Takes the end of a record, without its NUL. A record of which nothing came before isn't copied.
-fn take_ended(alloc: Global, so_far: &mut SoFar, bytes: &[u8]) -> Result<(), OutOfMemory>
+fn take_ended(alloc: Global, so_far: &mut RecordsSoFar, bytes: &[u8]) -> Result<(), OutOfMemory>
     requires sound { IsSound so_far.old }
     requires none { so_far.old.refused ≡ None }
     requires unended { ¬ Contains bytes.now NUL }
@@ -133,7 +133,7 @@ fn take_ended(alloc: Global, so_far: &mut SoFar, bytes: &[u8]) -> Result<(), Out
 // Takes the first record of a piece, or all of a piece without a NUL: what stands behind it.
 fn take_first<'a>(
     alloc: Global,
-    so_far: &mut SoFar,
+    so_far: &mut RecordsSoFar,
     piece: &'a [u8],
 ) -> Result<&'a [u8], OutOfMemory>
     requires sound { IsSound so_far.old }
@@ -160,14 +160,14 @@ fn take_first<'a>(
     }
 }
 
-impl SoFar {
+impl RecordsSoFar {
     // Nothing is read.
-    pub fn new(alloc: Global, format: Format, most: u32) -> SoFar
+    pub fn new(alloc: Global, format: Format, most: u32) -> RecordsSoFar
         ensures sound { IsSound result }
         ensures most { result.most ≡ most }
         ensures meant { (rest : List ℕ) → meant_with result rest ≡ records_from format most 1 rest }
     {
-        SoFar {
+        RecordsSoFar {
             format,
             most,
             records: Records::new(alloc),
@@ -197,7 +197,7 @@ impl SoFar {
         ensures answer { Answers (λ records. records) records_cause result (meant_with self []) }
         ensures few { IfOk result (λ records. length records ≤ self.most) }
     {
-        let SoFar {
+        let RecordsSoFar {
             format: _,
             most,
             records,

@@ -18,7 +18,7 @@ use Rattle.home_contexts.specs.Making.{are_parts, is_part}
 use Rattle.home_contexts.specs.User.{IsUser, UserValue, ends_field, is_home}
 use Rattle.home_contexts.specs.Words.{filled, template_text, pieces_from, root_of, word_value}
 use Rattle.home_contexts.specs.Words.{piece_then, template_word_at, word_text, written_word}
-use Rattle.home_contexts.specs.declared.word.Piece.{Piece}
+use Rattle.home_contexts.specs.declared.word.FieldPiece.{FieldPiece}
 use Rattle.home_contexts.specs.declared.word.Word.{Word}
 use Rattle.home_contexts.specs.declared.word.Word.TheVariants.{HomeDir, HomeRoot, Role, User}
 use Rattle.home_contexts.proofs.GivenLines.{not_true, part_ends, part_some}
@@ -128,11 +128,11 @@ escaped_begins (b ∷ bs) rest h =
 
 -- ---- fields
 
-abbrev text_from : Bool → UserValue → List Piece → List ℕ
+abbrev text_from : Bool → UserValue → List FieldPiece → List ℕ
 text_from in_pattern user pieces = flat_map (template_text in_pattern user) pieces
 
 piece_ends : (user : UserValue) → IsUser user → (in_pattern : Bool) (b : ℕ) (found : Option Word)
-    (rest : ℕ → List Piece) → ends_field b ≡ false
+    (rest : ℕ → List FieldPiece) → ends_field b ≡ false
     → ((skip : ℕ) → list_any ends_field (text_from in_pattern user (rest skip)) ≡ false) → list_any
     ends_field (text_from in_pattern user (piece_then b found rest)) ≡ false
 piece_ends user h in_pattern b None rest here later = or_from (ends_field b) (list_any ends_field
@@ -159,7 +159,7 @@ pieces_end user h in_pattern zero (b ∷ bs) none =
     pieces_end user h in_pattern skip bs both.1)
 
 piece_some : (user : UserValue) → IsUser user → (in_pattern : Bool) (b : ℕ) (found : Option Word)
-    (rest : ℕ → List Piece) → 0 < length (text_from in_pattern user (piece_then b found rest))
+    (rest : ℕ → List FieldPiece) → 0 < length (text_from in_pattern user (piece_then b found rest))
 piece_some user h in_pattern b None rest = omega arith
 piece_some user h in_pattern b (Some word) rest =
     let some = written_some in_pattern (word_value user word) (value_some user h word) in
@@ -199,7 +199,7 @@ filled_parts user h (suc n) (field ∷ fields) parts =
     fields))) (filled_part user h false field both.0) (filled_parts user h n fields both.1)
 
 piece_begins : (user : UserValue) → IsUser user → (b : ℕ) (found : Option Word) (rest : ℕ → List
-    Piece) → (b == 35) ≡ false → is_comment (text_from true user (piece_then b found rest)) ≡
+    FieldPiece) → (b == 35) ≡ false → is_comment (text_from true user (piece_then b found rest)) ≡
     false
 piece_begins user h b None rest other = other
 piece_begins user h b (Some word) rest other = escaped_begins (word_value user word) (text_from true

@@ -9,8 +9,8 @@ use Rattle.std.proofs.lemmas.Bool.{false≢true}
 use Rattle.std.proofs.lemmas.List.{length-drop, length-take, take_all}
 use Rattle.home_contexts.specs.Words.{begins_with, pieces_from, template_pieces, piece_then}
 use Rattle.home_contexts.specs.Words.{template_word_at, word_text}
-use Rattle.home_contexts.specs.declared.word.Piece.{Piece}
-use Rattle.home_contexts.specs.declared.word.Piece.TheVariants.{Byte, Stands}
+use Rattle.home_contexts.specs.declared.word.FieldPiece.{FieldPiece}
+use Rattle.home_contexts.specs.declared.word.FieldPiece.TheVariants.{Byte, Stands}
 use Rattle.home_contexts.specs.declared.word.Word.{Word}
 use Rattle.home_contexts.specs.declared.word.Word.TheVariants.{HomeDir, HomeRoot, Role, User}
 
@@ -115,7 +115,8 @@ unfolding pieces_from
 word_first [] found word e is h = absurd (omega arith)
 word_first (b ∷ bs) found word e is h =
     ap (λ (found : Option Word). piece_then b found (λ skip. pieces_from skip bs)) (sym e ∙ is)
-    ∙ ap (λ (rest : List Piece). Stands word ∷ rest) (skipped (length (word_text word) - 1) bs ∙ ap
+    ∙ ap (λ (rest : List FieldPiece). Stands word ∷ rest) (skipped (length
+    (word_text word) - 1) bs ∙ ap
     (pieces_from 0) (behind_first (length (word_text word)) b bs (word_longer word)))
 
 pub word_next : (text : List ℕ) (found : Option Word) (word : Word) (own rest : List ℕ) → found ≡

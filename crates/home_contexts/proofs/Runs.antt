@@ -13,8 +13,8 @@ use Rattle.home_contexts.specs.Making.{begins_none}
 use Rattle.home_contexts.specs.User.{UserValue}
 use Rattle.home_contexts.specs.Words.{begins_with, filled, template_text, template_pieces}
 use Rattle.home_contexts.specs.Words.{template_word_at}
-use Rattle.home_contexts.specs.declared.word.Piece.{Piece}
-use Rattle.home_contexts.specs.declared.word.Piece.TheVariants.{Byte}
+use Rattle.home_contexts.specs.declared.word.FieldPiece.{FieldPiece}
+use Rattle.home_contexts.specs.declared.word.FieldPiece.TheVariants.{Byte}
 use Rattle.home_contexts.specs.declared.word.Word.{Word}
 use Rattle.home_contexts.specs.declared.word.Word.TheVariants.{HomeDir, HomeRoot, Role, User}
 use Rattle.home_contexts.proofs.PieceLemmas.{byte_first}
@@ -98,14 +98,14 @@ run_filled in_pattern user rest run behind h =
     Byte run) (template_pieces behind)
     ∙ ap (λ text. text ++ filled in_pattern user behind) (bytes_filled in_pattern user run)
 
-piece_filled : (in_pattern : Bool) (user : UserValue) (left rest : List ℕ) (piece : Piece) →
+piece_filled : (in_pattern : Bool) (user : UserValue) (left rest : List ℕ) (piece : FieldPiece) →
     template_pieces left ≡ piece ∷ template_pieces rest → filled in_pattern user left
     ≡ template_text
     in_pattern user piece ++ filled in_pattern user rest
 piece_filled in_pattern user left rest piece h = ap (flat_map (template_text in_pattern user)) h
 
 pub filled_more : (in_pattern : Bool) (user : UserValue) (left rest run behind : List ℕ) (piece :
-    Piece) → template_pieces left ≡ piece ∷ template_pieces rest → template_pieces rest
+    FieldPiece) → template_pieces left ≡ piece ∷ template_pieces rest → template_pieces rest
     ≡ map Byte run ++
     template_pieces behind
     → filled in_pattern user left ≡ template_text in_pattern user piece ++ (run ++ filled in_pattern
@@ -115,7 +115,7 @@ filled_more in_pattern user left rest run behind piece h k = piece_filled in_pat
     rest run behind k)
 
 pub text_more : (in_pattern : Bool) (user : UserValue) (left rest run behind to to2 to3 all : List
-    ℕ) (piece : Piece) → template_pieces left ≡ piece ∷ template_pieces rest
+    ℕ) (piece : FieldPiece) → template_pieces left ≡ piece ∷ template_pieces rest
     → template_pieces rest ≡ map Byte run ++ template_pieces behind
     → to2 ≡ to ++ template_text in_pattern user
     piece → to3 ≡ to2 ++ run → to ++ filled in_pattern user left ≡ all → to3 ++ filled
@@ -128,7 +128,7 @@ text_more in_pattern user left rest run behind to to2 to3 all piece h k first se
     ∙ ap (λ t. to ++ t) (sym (filled_more in_pattern user left rest run behind piece h k)) ∙ whole
 
 pub length_more : (in_pattern : Bool) (user : UserValue) (left rest run behind : List ℕ) (piece :
-    Piece) → template_pieces left ≡ piece ∷ template_pieces rest → template_pieces rest
+    FieldPiece) → template_pieces left ≡ piece ∷ template_pieces rest → template_pieces rest
     ≡ map Byte run ++
     template_pieces behind
     → length (filled in_pattern user left)

@@ -8,8 +8,8 @@ use Rattle.home_contexts.specs.User.{UserValue}
 use Rattle.home_contexts.specs.declared.word.TheConstants.{HOME_DIR, HOME_ROOT, ROLE, USER}
 use Rattle.home_contexts.specs.declared.word.Word.{Word}
 use Rattle.home_contexts.specs.declared.word.Word.TheVariants.{HomeDir, HomeRoot, Role, User}
-use Rattle.home_contexts.specs.declared.word.Piece.{Piece}
-use Rattle.home_contexts.specs.declared.word.Piece.TheVariants.{Byte, Stands}
+use Rattle.home_contexts.specs.declared.word.FieldPiece.{FieldPiece}
+use Rattle.home_contexts.specs.declared.word.FieldPiece.TheVariants.{Byte, Stands}
 
 abbrev pub word_text : Word → List ℕ
 word_text HomeRoot = HOME_ROOT.now
@@ -31,17 +31,17 @@ template_word_at text =
 
 -- ---- a field as bytes and words, which are found from left to right without overlap
 
-abbrev pub piece_then : ℕ → Option Word → (ℕ → List Piece) → List Piece
+abbrev pub piece_then : ℕ → Option Word → (ℕ → List FieldPiece) → List FieldPiece
 piece_then b None rest = Byte b ∷ rest 0
 piece_then b (Some word) rest = Stands word ∷ rest (length (word_text word) - 1)
 
 -- skip bytes belong to the word before
-unfoldable pub pieces_from : (skip : ℕ) → List ℕ → List Piece
+unfoldable pub pieces_from : (skip : ℕ) → List ℕ → List FieldPiece
 pieces_from skip [] = []
 pieces_from (suc skip) (b ∷ bs) = pieces_from skip bs
 pieces_from zero (b ∷ bs) = piece_then b (template_word_at (b ∷ bs)) (λ skip. pieces_from skip bs)
 
-abbrev pub template_pieces : List ℕ → List Piece
+abbrev pub template_pieces : List ℕ → List FieldPiece
 template_pieces field = pieces_from 0 field
 
 -- ---- which words a field holds
@@ -52,7 +52,7 @@ is_root_word HomeDir = false
 is_root_word Role = false
 is_root_word User = false
 
-abbrev pub stands_for : (Word → Bool) → Piece → Bool
+abbrev pub stands_for : (Word → Bool) → FieldPiece → Bool
 stands_for p (Byte b) = false
 stands_for p (Stands word) = p word
 
@@ -78,7 +78,7 @@ word_value user User = user.name
 abbrev pub written_word : (in_pattern : Bool) → List ℕ → List ℕ
 written_word in_pattern value = if in_pattern then pattern_escaped value else value
 
-abbrev pub template_text : (in_pattern : Bool) → UserValue → Piece → List ℕ
+abbrev pub template_text : (in_pattern : Bool) → UserValue → FieldPiece → List ℕ
 template_text in_pattern user (Byte b) = b ∷ []
 template_text in_pattern user (Stands word) = written_word in_pattern (word_value user word)
 

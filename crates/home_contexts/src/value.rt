@@ -7,7 +7,7 @@ ghost use Rattle.home_contexts.specs.Words.{template_text, root_of, word_value, 
 use crate::escape::{add_escaped, stands_bare};
 use crate::limits::MOST_TEXT_BYTES;
 use crate::user::User;
-use crate::word::{Piece, Word};
+use crate::word::{FieldPiece, Word};
 use file_paths::NormPath;
 use label_base::{Bytes, OutOfMemory};
 
@@ -44,7 +44,7 @@ fn write_value(value: &[u8], in_pattern: bool, to: &mut Bytes) -> Result<(), Out
 
 /// Adds what a user gives for a piece of a field.
 pub(crate) fn write_piece(
-    piece: Piece,
+    piece: FieldPiece,
     in_pattern: bool,
     user: &User,
     to: &mut Bytes,
@@ -52,8 +52,8 @@ pub(crate) fn write_piece(
     ensures { OnOk result (to.new ≡ to.old ++ template_text in_pattern user.now piece) }
 {
     match piece {
-        Piece::Byte(b) => to.push_byte(b),
-        Piece::Stands(word) => write_value(value_of(user, word), in_pattern, to),
+        FieldPiece::Byte(b) => to.push_byte(b),
+        FieldPiece::Stands(word) => write_value(value_of(user, word), in_pattern, to),
     }
 }
 
@@ -83,12 +83,12 @@ fn with_value(so_far: u64, value: &[u8], in_pattern: bool) -> u64
 }
 
 /// The length so far and that of what a user gives for a piece of a field.
-pub(crate) fn with_piece(so_far: u64, piece: Piece, in_pattern: bool, user: &User) -> u64
+pub(crate) fn with_piece(so_far: u64, piece: FieldPiece, in_pattern: bool, user: &User) -> u64
     ensures { result ≡ min (MOST_TEXT_BYTES + 1)
         (so_far + length (template_text in_pattern user.now piece)) }
 {
     match piece {
-        Piece::Byte(_) => capped(so_far, 1),
-        Piece::Stands(word) => with_value(so_far, value_of(user, word), in_pattern),
+        FieldPiece::Byte(_) => capped(so_far, 1),
+        FieldPiece::Stands(word) => with_value(so_far, value_of(user, word), in_pattern),
     }
 }

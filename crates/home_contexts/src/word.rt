@@ -1,7 +1,7 @@
 ghost use Rattle.std.specs.Prelude.{◌≡◌, ◌∷◌, ◌++◌, ◌<◌, ◌≤◌, ◌||◌, [], drop, length, map, take};
 ghost use Rattle.std.specs.Prelude.{IfSome, IfNone};
 ghost use Rattle.home_contexts.specs.Making.{begins_none};
-ghost use Rattle.home_contexts.specs.declared.word.Piece.TheVariants.{Byte};
+ghost use Rattle.home_contexts.specs.declared.word.FieldPiece.TheVariants.{Byte};
 ghost use Rattle.home_contexts.specs.Words.{holds_word, is_other, is_root_word, template_pieces};
 ghost use Rattle.home_contexts.specs.Words.{stands_for, template_word_at, word_text};
 
@@ -37,7 +37,7 @@ pub(crate) enum Word {
 
 /// A piece of a field: a byte that stands for itself, or a word.
 #[derive(Clone, Copy)]
-pub(crate) enum Piece {
+pub(crate) enum FieldPiece {
     Byte(u8),
     Stands(Word),
 }
@@ -88,7 +88,7 @@ fn behind_word<'a>(text: &'a [u8], word: &[u8]) -> &'a [u8]
 }
 
 /// The first piece of a field, and what is left behind it.
-pub(crate) fn next_piece(field: &[u8]) -> Option<(Piece, &[u8])>
+pub(crate) fn next_piece(field: &[u8]) -> Option<(FieldPiece, &[u8])>
     ensures found { IfSome result
         (λ found. template_pieces field.now ≡ found.0 ∷ template_pieces found.1.now) }
     ensures shorter { IfSome result (λ found. length found.1.now < length field.now) }
@@ -98,8 +98,11 @@ pub(crate) fn next_piece(field: &[u8]) -> Option<(Piece, &[u8])>
         return None;
     };
     match word_at(field) {
-        None => Some((Piece::Byte(*first), rest)),
-        Some(word) => Some((Piece::Stands(word), behind_word(field, word_text(word)))),
+        None => Some((FieldPiece::Byte(*first), rest)),
+        Some(word) => Some((
+            FieldPiece::Stands(word),
+            behind_word(field, word_text(word)),
+        )),
     }
 }
 
@@ -143,13 +146,13 @@ fn is_root(word: Word) -> bool
     matches!(word, Word::HomeRoot)
 }
 
-fn with_piece(held: Held, piece: Piece) -> Held
+fn with_piece(held: Held, piece: FieldPiece) -> Held
     ensures root { result.root ≡ (held.root || stands_for is_root_word piece) }
     ensures other { result.other ≡ (held.other || stands_for is_other piece) }
 {
     match piece {
-        Piece::Byte(_) => held,
-        Piece::Stands(word) => Held {
+        FieldPiece::Byte(_) => held,
+        FieldPiece::Stands(word) => Held {
             root: held.root || is_root(word),
             other: held.other || !is_root(word),
         },

@@ -11,7 +11,7 @@ use Rattle.label_base.proofs.SumLemmas.{one_of, only, two_of}
 use Rattle.walk_steps.specs.declared.machine.TheConstants.{NONE_WORD}
 use Rattle.inode_claims.specs.declared.rule.Call.{Call}
 use Rattle.inode_claims.specs.declared.rule.ClaimView.{ClaimView}
-use Rattle.inode_claims.specs.declared.rule.Plan.{Plan}
+use Rattle.inode_claims.specs.declared.rule.ClaimsPlan.{ClaimsPlan}
 use Rattle.inode_claims.specs.declared.winners.Winners.{Winners}
 use Rattle.inode_claims.specs.Claiming.{calls_where, is_call_at, was_answered, least_claimed}
 use Rattle.inode_claims.specs.Rule.{LeastIsKept, count_all}
@@ -27,14 +27,14 @@ ExactWords groups words calls =
     ≡ cond (get_or words (suc g) 0 == NONE_WORD) 0 1)
 
 -- where one pass stands for all, its calls are all calls
-all_calls : (plan : Plan) (words : List ℕ) (views : List ClaimView) (seat : ℕ) (v : ClaimView)
+all_calls : (plan : ClaimsPlan) (words : List ℕ) (views : List ClaimView) (seat : ℕ) (v : ClaimView)
     → LeastIsKept plan words views → get_elem? views seat ≡ some v → v.stands_for ≡ plan.passes
     → (q : Call → Bool) → count_all q views ≡ calls_where q v.calls
 all_calls plan words views seat v k at whole q = only (λ u. calls_where q u.calls) views seat v at
     (λ j u ne e. let two = two_of (λ x. x.stands_for) views seat j v u (λ i. ne (sym i)) at e in
     let w = k.whole in ap (calls_where q) (k.spent j u e (omega (arith, two, w, whole))))
 
-closes_low : (plan : Plan) (words : List ℕ) (xs : List ℕ) (seat : ℕ) (v : ClaimView)
+closes_low : (plan : ClaimsPlan) (words : List ℕ) (xs : List ℕ) (seat : ℕ) (v : ClaimView)
     → Final (Seen (λ (s : State ℕ ClaimView). LeastIsKept plan s.words s.views) seat v) words xs
     → (g p : ℕ) → 0 < calls_where (is_call_at g p) v.calls → get_or words (suc g) 0 ≤ p
 closes_low plan words xs seat v f g p h = let k = f.1.0 in
@@ -42,7 +42,7 @@ closes_low plan words xs seat v f g p h = let k = f.1.0 in
     (k.low g p (let o = one_of (λ u. calls_where (is_call_at g p) u.calls) f.0.views seat v f.1.1 in
     omega (arith, o)))
 
-closes_exact : (plan : Plan) (words : List ℕ) (xs : List ℕ) (seat : ℕ) (v : ClaimView)
+closes_exact : (plan : ClaimsPlan) (words : List ℕ) (xs : List ℕ) (seat : ℕ) (v : ClaimView)
     → Final (Seen (λ (s : State ℕ ClaimView). LeastIsKept plan s.words s.views) seat v) words xs
     → v.stands_for ≡ plan.passes → ExactWords plan.groups words v.calls
 closes_exact plan words xs seat v f whole = let k = f.1.0 in
@@ -79,7 +79,7 @@ one_more xs words g w i len is at before k lt = dite (ℕ_discrete k g)
     ∙ ap (λ j. get_or words j 0) (is ∙ ap suc (sym e)))
     (λ (ne : k ≢ g). or_before xs w k (omega (arith, len)) ∙ before k (omega arith))
 
-winners_low : (plan : Plan) (room words xs : List ℕ) (seat : ℕ) (v : ClaimView)
+winners_low : (plan : ClaimsPlan) (room words xs : List ℕ) (seat : ℕ) (v : ClaimView)
     → Final (Seen (λ (s : State ℕ ClaimView). LeastIsKept plan s.words s.views) seat v) words xs
     → ((k : ℕ) → k < plan.groups → get_or room k 0 ≡ get_or words (suc k) 0) → (g p : ℕ)
     → g < plan.groups → 0 < calls_where (is_call_at g p) v.calls → get_or room g 0 ≤ p
@@ -95,7 +95,7 @@ ExactRoom groups room calls =
     × ((g : ℕ) → g < groups → calls_where (was_answered g NONE_WORD) calls
     ≡ cond (get_or room g 0 == NONE_WORD) 0 1)
 
-winners_exact : (plan : Plan) (room words xs : List ℕ) (seat : ℕ) (v : ClaimView)
+winners_exact : (plan : ClaimsPlan) (room words xs : List ℕ) (seat : ℕ) (v : ClaimView)
     → Final (Seen (λ (s : State ℕ ClaimView). LeastIsKept plan s.words s.views) seat v) words xs
     → ((k : ℕ) → k < plan.groups → get_or room k 0 ≡ get_or words (suc k) 0)
     → v.stands_for ≡ plan.passes → ExactRoom plan.groups room v.calls
@@ -197,7 +197,7 @@ is_least g n calls fits low met =
     (λ h. least_low g n calls h) met in
     omega (arith, over, under)
 
-pub closed_wins : (plan : Plan) (w : Winners) (words xs : List ℕ) (seat : ℕ) (v : ClaimView)
+pub closed_wins : (plan : ClaimsPlan) (w : Winners) (words xs : List ℕ) (seat : ℕ) (v : ClaimView)
     → Final (Seen (λ (s : State ℕ ClaimView). LeastIsKept plan s.words s.views) seat v) words xs
     → ((k : ℕ) → k < plan.groups → get_or w.words.items k 0 ≡ get_or words (suc k) 0)
     → length w.words.items ≡ plan.groups → All (λ c. c.position < NONE_WORD) v.calls
@@ -209,7 +209,7 @@ closed_wins plan w words xs seat v f same sized fit = record {
       let a = position_fits v.calls fit g p h in omega (arith, l, a);
 }
 
-pub closed_shows : (plan : Plan) (w : Winners) (words xs : List ℕ) (seat : ℕ) (v : ClaimView)
+pub closed_shows : (plan : ClaimsPlan) (w : Winners) (words xs : List ℕ) (seat : ℕ) (v : ClaimView)
     → Final (Seen (λ (s : State ℕ ClaimView). LeastIsKept plan s.words s.views) seat v) words xs
     → ((k : ℕ) → k < plan.groups → get_or w.words.items k 0 ≡ get_or words (suc k) 0)
     → length w.words.items ≡ plan.groups → All (λ c. c.position < NONE_WORD) v.calls

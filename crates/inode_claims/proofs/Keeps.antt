@@ -14,7 +14,7 @@ use Rattle.label_base.proofs.SumLemmas.{sum_set, one_of}
 use Rattle.std.proofs.lemmas.List.Sums.{sum_by_push}
 use Rattle.inode_claims.specs.declared.rule.Call.{Call}
 use Rattle.inode_claims.specs.declared.rule.ClaimView.{ClaimView}
-use Rattle.inode_claims.specs.declared.rule.Plan.{Plan}
+use Rattle.inode_claims.specs.declared.rule.ClaimsPlan.{ClaimsPlan}
 use Rattle.walk_steps.specs.declared.machine.TheConstants.{NONE_WORD}
 use Rattle.inode_claims.specs.Claiming.{call_of, fresh_claims, with_call, claims_for_one_less}
 use Rattle.inode_claims.specs.Claiming.{claims_joined, calls_where, is_call_at, was_answered}
@@ -26,7 +26,8 @@ count_append q [] ys = omega arith
 count_append q (x ∷ xs) ys = let r = count_append q xs ys in omega (arith, r)
 
 -- the views may change as they like, while their calls and what they stand for stay the same in sum
-moved : (plan : Plan) (words : List ℕ) (views after : List ClaimView) → LeastIsKept plan words views
+moved : (plan : ClaimsPlan) (words : List ℕ) (views after : List ClaimView)
+    → LeastIsKept plan words views
     → sum_by (λ v. v.stands_for) after ≡ sum_by (λ v. v.stands_for) views
     → SpentIsEmpty after → ((q : Call → Bool) → count_all q after ≡ count_all q views)
     → LeastIsKept plan words after
@@ -58,7 +59,7 @@ idle_snoc views w mine h j u e idle =
     (λ (t : w ≡ u). subst (λ (x : ClaimView). x.stands_for ≡ 0 → x.calls ≡ []) t mine idle)
     (at_snoc views w u j e)
 
-pub begins : (plan : Plan) (words : List ℕ) → 0 < plan.passes → length words ≡ suc plan.groups
+pub begins : (plan : ClaimsPlan) (words : List ℕ) → 0 < plan.passes → length words ≡ suc plan.groups
     → ((g : ℕ) → g < plan.groups → get_or words (suc g) 0 ≡ NONE_WORD)
     → LeastIsKept plan words (fresh_claims plan.passes ∷ [])
 begins plan words positive sized full = record {
@@ -73,7 +74,7 @@ begins plan words positive sized full = record {
       eq-eqb (get_or words (suc g) 0) NONE_WORD e in sym (ap (λ b. cond b 0 1) t);
 }
 
-pub splits : (plan : Plan) (seat : ℕ) (v : ClaimView) → 1 < v.stands_for
+pub splits : (plan : ClaimsPlan) (seat : ℕ) (v : ClaimView) → 1 < v.stands_for
     → Splits (λ (s : State ℕ ClaimView). LeastIsKept plan s.words s.views) seat v
     (claims_for_one_less v) (fresh_claims 1)
 splits plan seat v many s k at = let w = claims_for_one_less v in let vs = set s.views seat w in
@@ -86,7 +87,8 @@ splits plan seat v many s k at = let w = claims_for_one_less v in let vs = set s
     (λ q. let a = sum_set (λ u. calls_where q u.calls) s.views seat v w at in
     let b = sum_by_push (λ u. calls_where q u.calls) vs (fresh_claims 1) in omega (arith, a, b))
 
-pub joins : (plan : Plan) (seat : ℕ) (v : ClaimView) (other : ℕ) (u : ClaimView) → 0 < v.stands_for
+pub joins : (plan : ClaimsPlan) (seat : ℕ) (v : ClaimView) (other : ℕ) (u : ClaimView)
+    → 0 < v.stands_for
     → Joins (λ (s : State ℕ ClaimView). LeastIsKept plan s.words s.views) seat v other u
     (claims_joined v u) (fresh_claims 0)
 joins plan seat v other u positive s k at apart there = let w = claims_joined v u in
@@ -114,7 +116,7 @@ apart : (g x y : ℕ) → x ≢ y → ((g == g) && (x == y)) ≡ false
 apart g x y n = ap (λ b. b && (x == y)) (eq-eqb g g refl) ∙ ne_eqb x y n
 
 -- a group's claim, of all tests
-module _ (plan : Plan) (words : List ℕ) (views : List ClaimView) (seat : ℕ) (v : ClaimView)
+module _ (plan : ClaimsPlan) (words : List ℕ) (views : List ClaimView) (seat : ℕ) (v : ClaimView)
     (g p : ℕ) (k : LeastIsKept plan words views) (at : get_elem? views seat ≡ some v)
     (in_range : g < plan.groups) (fits : p < NONE_WORD) where
   abbrev n : ℕ
@@ -233,7 +235,7 @@ module _ (plan : Plan) (words : List ℕ) (views : List ClaimView) (seat : ℕ) 
     once = once_after;
   }
 
-pub claims : (plan : Plan) (slots seat : ℕ) (me : Me ℕ ClaimView) (i p : ℕ) → suc (i - 1) ≡ i
+pub claims : (plan : ClaimsPlan) (slots seat : ℕ) (me : Me ℕ ClaimView) (i p : ℕ) → suc (i - 1) ≡ i
     → i - 1 < plan.groups → p < NONE_WORD → 0 < me.0.stands_for
     → Allows (λ (s : State ℕ ClaimView). LeastIsKept plan s.words s.views) slots seat me i
     (λ n. min n p) (IsClaimOf (step slots i p 0 none) me)
@@ -252,7 +254,7 @@ claims plan slots seat me i p e lt fits positive s k homes at small = (
   ),
 )
 
-pub begins_full : (plan : Plan) (words : List ℕ) → 0 < plan.passes
+pub begins_full : (plan : ClaimsPlan) (words : List ℕ) → 0 < plan.passes
     → words ≡ replicate (plan.groups + 1) NONE_WORD
     → LeastIsKept plan words (fresh_claims plan.passes ∷ [])
 begins_full plan words positive e =

@@ -7,7 +7,7 @@ use Rattle.atomic_table.specs.Table.{Step, Me}
 use Rattle.walk_steps.specs.declared.machine.TheConstants.{NONE_WORD}
 use Rattle.inode_claims.specs.declared.rule.Call.{Call}
 use Rattle.inode_claims.specs.declared.rule.ClaimView.{ClaimView}
-use Rattle.inode_claims.specs.declared.rule.Plan.{Plan}
+use Rattle.inode_claims.specs.declared.rule.ClaimsPlan.{ClaimsPlan}
 use Rattle.inode_claims.specs.Claiming.{with_call, calls_where, is_call_at, was_answered, IsClaimed}
 
 -- how many calls of all views pass the test
@@ -24,7 +24,7 @@ SpentIsEmpty views =
     (seat : ℕ) (view : ClaimView) → get_elem? views seat ≡ some view → view.stands_for ≡ 0
     → view.calls ≡ []
 
-pub record LeastIsKept (plan : Plan) (words : List ℕ) (views : List ClaimView) : Type 0 where
+pub record LeastIsKept (plan : ClaimsPlan) (words : List ℕ) (views : List ClaimView) : Type 0 where
   pub sized : length words ≡ suc plan.groups
   pub whole : sum_by (λ view. view.stands_for) views ≡ plan.passes
   pub spent : SpentIsEmpty views

@@ -3,7 +3,7 @@ ghost use Rattle.std.specs.Prelude.{vec_capacity, replicate};
 ghost use Rattle.walk_steps.specs.declared.machine.TheConstants.{NONE_WORD};
 ghost use Rattle.inode_claims.specs.Claiming.{fresh_claims, claims_joined, with_call, IsClaimed};
 
-use crate::rule::{ClaimView, Claiming, CutOne, Joining, Least, Plan};
+use crate::rule::{ClaimView, Claiming, ClaimsPlan, CutOne, Joining, Least};
 use crate::winners::Winners;
 use atomic_table::{Seat, Table};
 use label_base::{OutOfMemory, Row};
@@ -26,7 +26,7 @@ pub struct ClaimPass {
 #[derive(Drop)]
 pub struct Claims {
     // The word of group g stands at g + 1, since a cut and a join of passes read the first one.
-    table: Table<u8, ClaimView, Plan, Least, Global>,
+    table: Table<u8, ClaimView, ClaimsPlan, Least, Global>,
     groups: usize,
     // Reserved at once, so that `close` takes no memory.
     room: Vec<u64>,
@@ -99,7 +99,7 @@ impl Claims {
             (λ r. (r.1.table_id ≡ r.0.table.shared.table_id)
             × (r.1.me ≡ (fresh_claims passes, []))) }
     {
-        let plan = Plan { groups, passes };
+        let plan = ClaimsPlan { groups, passes };
         let (table, seat) = Table::of_words(alloc, words, &plan)?;
         let claims = Claims {
             table,

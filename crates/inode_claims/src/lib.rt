@@ -10,6 +10,6 @@ mod tests;
 mod winners;
 
 pub use claims::{ClaimPass, Claims};
-pub use rule::{Call, ClaimView, Plan};
+pub use rule::{Call, ClaimView, ClaimsPlan};
 pub use walk_steps::NONE_WORD;
 pub use winners::Winners;

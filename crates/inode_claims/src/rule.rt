@@ -17,7 +17,7 @@ pub struct ClaimView {
 
 /// How many groups and passes the claims were made for.
 #[derive(Drop)]
-pub struct Plan {
+pub struct ClaimsPlan {
     pub groups: u32,
     pub passes: u32,
 }
@@ -25,7 +25,7 @@ pub struct Plan {
 /// The rule of the words: each is the least position that was claimed for its group.
 pub(crate) struct Least;
 
-impl TableRule<u8, ClaimView, Plan> for Least {
+impl TableRule<u8, ClaimView, ClaimsPlan> for Least {
     ghost use Rattle.inode_claims.specs.Rule.{LeastIsKept};
     ghost use Rattle.inode_claims.specs.Claiming.{fresh_claims};
 

@@ -3,3 +3,4 @@ pub mod Sink
 pub mod Source
 pub mod Store
 pub mod Constants
+pub mod Objects

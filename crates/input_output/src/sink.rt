@@ -1,6 +1,7 @@
-ghost use Rattle.std.specs.Prelude.{◌≡◌, ◌≤◌, ◌<◌, IfOk, OnOk, OnErr, List, ℕ, Option, None};
-ghost use Rattle.std.specs.Prelude.{length};
-ghost use Rattle.std.specs.Io.KnownBytes.{Appends};
+ghost use Rattle.std.specs.Prelude.{◌≡◌, ◌≤◌, ◌<◌, IfOk, OnOk, OnErr, List, ℕ, Option};
+ghost use Rattle.std.specs.Prelude.{length, take};
+ghost use Rattle.std.specs.Io.KnownBytes.{Appends, Keeps};
+ghost use Rattle.input_output.specs.Objects.{writer_faults, writer_written};
 ghost use Rattle.input_output.specs.Sink.{Puts, PutCounts, AppendsFront};
 ghost use Rattle.input_output.specs.Source.{Rose};
 
@@ -8,7 +9,6 @@ use crate::source::MOST_TRIES;
 use label_base::PiecedText;
 use std::io;
 use std::io::{ErrorKind, Write};
-use std::marker::Model;
 
 /// The answer of a sink.
 #[derive(Clone, Copy, Debug, PartialEq, Eq)]
@@ -73,9 +73,12 @@ pub fn write_text<O: Sink>(out: &mut O, text: &PiecedText) -> Result<(), WriteFa
 
 // A write that a signal interrupted before any byte was taken is tried again.
 fn write_again<W: Write>(inner: &mut W, bytes: &[u8]) -> io::Result<usize>
-    ensures { IfOk result (λ count. count ≤ length bytes.now) }
+    ensures count { IfOk result (λ count. count ≤ length bytes.now) }
+    ensures took { IfOk result (λ count.
+        Appends (W.contents inner.old) (W.contents inner.new) (take count bytes.now)) }
+    ensures err { OnErr result (Keeps (W.contents inner.old) (W.contents inner.new)) }
 {
-    for _ in 0..MOST_TRIES {
+    'tries: for _ in 0..MOST_TRIES {
         match inner.write(bytes) {
             Err(error) if error.kind() == ErrorKind::Interrupted => {}
             answer => return answer,
@@ -84,35 +87,29 @@ fn write_again<W: Write>(inner: &mut W, bytes: &[u8]) -> io::Result<usize>
     inner.write(bytes)
 }
 
-/// A sink over any writer. It tells no content, and counts each error and each write of no bytes. A
-/// write that a signal interrupts is none.
+/// A sink over any writer, which counts each error and each write of no bytes. It tells what was
+/// written where the writer does, as a vector does. A write that a signal interrupts isn't an
+/// error.
 #[derive(Drop)]
 pub struct WriteSink<W> {
     inner: W,
     faults: u64,
 }
 
-impl<W> Model for WriteSink<W> {
-    ghost use Rattle.std.specs.Prelude.{ℕ};
-
-    ghost Value = { ℕ };
-
-    ghost view = { λ s. s.faults };
-}
-
 impl<W: Write> WriteSink<W> {
-    /// A sink that has not failed. Contracts see it as its count of faults.
+    /// A sink that has not failed.
     pub fn new(inner: W) -> WriteSink<W>
-        ensures { result ≡ 0 }
+        ensures written { writer_written W.contents result ≡ W.contents inner }
+        ensures faults { writer_faults result ≡ 0 }
     {
         WriteSink { inner, faults: 0 }
     }
 }
 
 impl<W: Write> Sink for WriteSink<W> {
-    ghost written = { λ _. None };
+    ghost written = { writer_written W.contents };
 
-    ghost faults = { λ count. count };
+    ghost faults = { writer_faults };
 
     fn write(&mut self, bytes: &[u8]) -> Put {
         match write_again(&mut self.inner, bytes) {

@@ -1,9 +1,10 @@
-ghost use Rattle.std.specs.Prelude.{◌≡◌, ◌<◌, ◌≤◌, IfOk, List, ℕ, Option, None, length};
+ghost use Rattle.std.specs.Prelude.{◌≡◌, ◌<◌, ◌≤◌, IfOk, OnErr, List, ℕ, Option, length, take};
+ghost use Rattle.std.specs.Io.KnownBytes.{Consumes, IsAtEnd, Keeps};
+ghost use Rattle.input_output.specs.Objects.{reader_faults, reader_left};
 ghost use Rattle.input_output.specs.Source.{TakesInput, TakeCounts};
 
 use std::io;
 use std::io::{ErrorKind, Read};
-use std::marker::Model;
 
 /// A count of faults stands still at this value.
 pub const LAST_COUNT: u64 = u64::MAX;
@@ -39,9 +40,14 @@ pub(crate) const MOST_TRIES: u32 = 1000;
 
 // A read that a signal interrupted before any byte was given is tried again.
 fn read_again<R: Read>(inner: &mut R, buf: &mut [u8]) -> io::Result<usize>
-    ensures { IfOk result (λ count. count ≤ length buf.new) }
+    ensures count { IfOk result (λ count. count ≤ length buf.new) }
+    ensures took { IfOk result (λ count.
+        Consumes (R.remaining inner.old) (R.remaining inner.new) (take count buf.new)) }
+    ensures end { IfOk result (λ count. count ≡ 0 → 0 < length buf.old
+        → IsAtEnd (R.remaining inner.new)) }
+    ensures err { OnErr result (Keeps (R.remaining inner.old) (R.remaining inner.new)) }
 {
-    for _ in 0..MOST_TRIES {
+    'tries: for _ in 0..MOST_TRIES {
         match inner.read(buf) {
             Err(error) if error.kind() == ErrorKind::Interrupted => {}
             answer => return answer,
@@ -50,35 +56,28 @@ fn read_again<R: Read>(inner: &mut R, buf: &mut [u8]) -> io::Result<usize>
     inner.read(buf)
 }
 
-/// A source over any reader. It tells no content, and counts each error. A read that a signal
-/// interrupts is none.
+/// A source over any reader, which counts each error. It tells what it has left where the reader
+/// does, as a slice does. A read that a signal interrupts isn't an error.
 #[derive(Drop)]
 pub struct ReadSource<R> {
     inner: R,
     faults: u64,
 }
 
-impl<R> Model for ReadSource<R> {
-    ghost use Rattle.std.specs.Prelude.{ℕ};
-
-    ghost Value = { ℕ };
-
-    ghost view = { λ s. s.faults };
-}
-
 impl<R: Read> ReadSource<R> {
-    /// A source that has not failed. Contracts see it as its count of faults.
+    /// A source that has not failed.
     pub fn new(inner: R) -> ReadSource<R>
-        ensures { result ≡ 0 }
+        ensures left { reader_left R.remaining result ≡ R.remaining inner }
+        ensures faults { reader_faults result ≡ 0 }
     {
         ReadSource { inner, faults: 0 }
     }
 }
 
 impl<R: Read> Source for ReadSource<R> {
-    ghost left = { λ _. None };
+    ghost left = { reader_left R.remaining };
 
-    ghost faults = { λ count. count };
+    ghost faults = { reader_faults };
 
     fn read(&mut self, buf: &mut [u8]) -> Take {
         match read_again(&mut self.inner, buf) {

@@ -44,7 +44,7 @@ impl Ahead {
 
 // What one sees of an entry ahead.
 #[derive(Clone, Copy)]
-struct Seen {
+struct EntryAhead {
     // It is a name of a group whose label changes.
     changed: bool,
     // Behind it, the entries before this index are below a directory that is skipped.
@@ -56,7 +56,7 @@ fn look_over(
     input: &WalkInput<'_>,
     at: Cursor,
     lookups: &mut LookUps<'_>,
-) -> Result<Seen, OutOfMemory>
+) -> Result<EntryAhead, OutOfMemory>
     requires fit { IsFit input.now }
     requires entry { at.entry < walk_count (walk_of input.now) }
     requires covers { SkipEndsAt (walk_of input.now) at.entry at.end }
@@ -73,7 +73,7 @@ fn look_over(
     let entry = at.entry;
     let spec = decide_at(alloc, input, entry, found.skip, lookups)?;
     let known = known_of(alloc, input, LookedUp { entry, spec }, found.skip, lookups)?;
-    Ok(Seen {
+    Ok(EntryAhead {
         changed: known.is_changed(),
         end: found.end,
     })

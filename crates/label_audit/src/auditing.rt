@@ -10,7 +10,7 @@ ghost use Rattle.label_audit.specs.Pieces.{PlacedPiece, differing_in, dump_piece
 
 use crate::ahead::Ahead;
 use crate::compared::Compared;
-use crate::entries::{Audit, Texts, audit_entries};
+use crate::entries::{Audit, SectionTexts, audit_entries};
 use crate::lines::{ComparedReport, compare_operands, compare_specs};
 use crate::looking::look_ups;
 use label_base::{Bytes, OutOfMemory};
@@ -47,7 +47,7 @@ fn audit_of<'a, 'f>(
         dump: dump_of(dump),
         ahead: Ahead::new(),
         flags,
-        texts: Texts {
+        texts: SectionTexts {
             section: Bytes::new(alloc),
             spelled: Bytes::new(alloc),
         },

@@ -29,7 +29,7 @@ use tree_model::Tree;
 
 /// What the section at hand is made in.
 #[derive(Drop)]
-pub struct Texts {
+pub struct SectionTexts {
     pub section: Bytes,
     /// The context in it.
     pub spelled: Bytes,
@@ -44,7 +44,7 @@ pub struct Audit<'a, 'f> {
     pub ahead: Ahead,
     /// For each specification whether it decides an entry before.
     pub flags: Vec<bool>,
-    pub texts: Texts,
+    pub texts: SectionTexts,
     pub lookups: LookUps<'a>,
 }
 
@@ -78,7 +78,7 @@ pub fn entry_path<'a>(tree: &'a Tree, e: u32) -> PathRef<'a>
 fn make_section(
     alloc: Global,
     changes: &PathChanges<'_, '_>,
-    texts: &mut Texts,
+    texts: &mut SectionTexts,
 ) -> Result<(), OutOfMemory>
     ensures { OnOk result (texts.new.section ≡ optional_section
         (section_by (path_of changes.now.path.now)

@@ -10,7 +10,7 @@ ghost use Rattle.label_audit.specs.Winners.{IsWinner};
 
 use crate::deciding::{LookedUp, decide};
 use crate::skipping::{Skipped, skip_entry};
-use crate::winners::{NO_WINNER, Winner, Winners, winner_of};
+use crate::winners::{GroupWinners, NO_WINNER, Winner, winner_of};
 use dir_digest::{Digest, Listings};
 use label_base::OutOfMemory;
 use relabel_core::{
@@ -23,7 +23,7 @@ use std::alloc::Global;
 pub struct LookUps<'a> {
     pub listings: Listings<'a>,
     pub buffers: Buffers,
-    pub winners: Winners,
+    pub winners: GroupWinners,
 }
 
 /// What is found of an entry.
@@ -44,7 +44,7 @@ pub fn look_ups<'a>(alloc: Global, input: &WalkInput<'a>) -> Result<LookUps<'a>,
     Ok(LookUps {
         listings,
         buffers,
-        winners: Winners::new(alloc),
+        winners: GroupWinners::new(alloc),
     })
 }
 

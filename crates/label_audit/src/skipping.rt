@@ -9,7 +9,9 @@ ghost use Rattle.label_audit.specs.Skipping.{IsSkipped};
 
 use dir_digest::{Digest, Listings};
 use label_base::OutOfMemory;
-use relabel_core::{Buffers, Cursor, Finding, Skip, WalkInput, find_directory, renewed_digest};
+use relabel_core::{
+    Buffers, Cursor, DirectoryFinding, Skip, WalkInput, find_directory, renewed_digest,
+};
 use std::alloc::Global;
 
 /// What is found of an entry as a directory.
@@ -24,7 +26,7 @@ pub struct Skipped {
 }
 
 // What is found of an entry that is below no directory that is skipped.
-fn skip_found(input: &WalkInput<'_>, at: Cursor, found: &Finding) -> Skipped
+fn skip_found(input: &WalkInput<'_>, at: Cursor, found: &DirectoryFinding) -> Skipped
     requires fit { IsFit input.now }
     requires entry { at.entry < walk_count (walk_of input.now) }
     requires covers { SkipEndsAt (walk_of input.now) at.entry at.end }

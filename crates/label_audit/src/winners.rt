@@ -32,7 +32,7 @@ pub const NO_WINNER: Winner = Winner {
 
 /// The winners of the groups whose first name isn't the winner, by the numbers of these groups: the
 /// names of each are gone through once.
-pub type Winners = BTreeMap<u32, Winner>;
+pub type GroupWinners = BTreeMap<u32, Winner>;
 
 // An entry, where the specification that decides it gives a context.
 #[tactic(auto, unfolding(relabel_core::specs::Walk::wanted))]
@@ -97,7 +97,7 @@ fn search_names(
 }
 
 // What is kept of a group.
-fn kept_winner(group: u32, winners: &Winners) -> Option<Winner>
+fn kept_winner(group: u32, winners: &GroupWinners) -> Option<Winner>
     ensures { result ≡ get nat_cmp winners.now group }
 {
     match winners.get(&group) {
@@ -106,7 +106,7 @@ fn kept_winner(group: u32, winners: &Winners) -> Option<Winner>
     }
 }
 
-fn keep_winner(group: u32, winner: Winner, winners: &mut Winners) -> Result<(), OutOfMemory>
+fn keep_winner(group: u32, winner: Winner, winners: &mut GroupWinners) -> Result<(), OutOfMemory>
     ensures { OnOk result ((g : ℕ) → get nat_cmp winners.new g
         ≡ (if group == g then Some winner else get nat_cmp winners.old g)) }
 {
@@ -120,7 +120,7 @@ fn later_winner(
     input: &WalkInput<'_>,
     e: u32,
     scratch: &mut Scratch,
-    winners: &mut Winners,
+    winners: &mut GroupWinners,
 ) -> Result<Winner, OutOfMemory>
     requires fit { IsFit input.now }
     requires entry { e < walk_count (walk_of input.now) }
@@ -178,7 +178,7 @@ pub fn winner_of(
     input: &WalkInput<'_>,
     own: LookedUp,
     scratch: &mut Scratch,
-    winners: &mut Winners,
+    winners: &mut GroupWinners,
 ) -> Result<Winner, OutOfMemory>
     requires fit { IsFit input.now }
     requires entry { own.entry < walk_count (walk_of input.now) }

@@ -1,11 +1,11 @@
-use pattern_match::{Part, operations_of};
+use pattern_match::{PatternPart, operations_of};
 use pattern_syntax::Node;
 use std::alloc::Global;
 
 // How many places the part has that the nodes are.
 fn places(alloc: Global, nodes: &[Node]) -> Option<usize> {
     match operations_of(alloc, nodes) {
-        Ok(Some(operations)) => Some(Part::of(operations.as_slice()).places()),
+        Ok(Some(operations)) => Some(PatternPart::of(operations.as_slice()).places()),
         _ => None,
     }
 }

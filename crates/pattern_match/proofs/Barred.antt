@@ -6,8 +6,8 @@ use Rattle.pattern_syntax.specs.Reading.{positions, factor}
 use Rattle.pattern_syntax.specs.Tree.{Tree, Set, Nothing, Both, Either, Repeat}
 use Rattle.pattern_match.specs.Passes.{ends_marked, has_no_most, holds_nothing}
 use Rattle.pattern_match.specs.Passes.{is_barred, moves_to}
-use Rattle.pattern_match.specs.declared.entry.Entry.{Entry}
-use Rattle.pattern_match.specs.declared.entry.Entry.TheVariants.{Barred, Free, By, ByEach}
+use Rattle.pattern_match.specs.declared.entry.EnteredPlaces.{EnteredPlaces}
+use Rattle.pattern_match.specs.declared.entry.EnteredPlaces.TheVariants.{Barred, Free, By, ByEach}
 use Rattle.pattern_match.proofs.Turning.{copies_nowhere}
 
 barred_moves : (marked : ℕ → Bool) (place : ℕ) (t : Tree) (entered : Bool) (start : ℕ)
@@ -36,7 +36,7 @@ barred_moves marked place (Repeat least most piece) entered start =
     (λ l enters from. barred_moves marked place piece enters from)
 
 -- whether a part is entered matters where a place may be
-pub entered_alike : (entry : Entry) (marked : ℕ → Bool) (place : ℕ) (t : Tree) (start : ℕ)
+pub entered_alike : (entry : EnteredPlaces) (marked : ℕ → Bool) (place : ℕ) (t : Tree) (start : ℕ)
     (entered other : Bool) → (is_barred entry ≡ false → entered ≡ other)
     → moves_to entry marked place t entered start ≡ moves_to entry marked place t other start
 entered_alike Barred marked place t start entered other h =

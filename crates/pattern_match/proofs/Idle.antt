@@ -8,7 +8,7 @@ use Rattle.pattern_syntax.specs.Reading.{positions, factor}
 use Rattle.pattern_syntax.specs.Tree.{Tree, Set, Nothing, Both, Either, Repeat}
 use Rattle.pattern_match.specs.Passes.{copies_end, copies_move, ends_marked, has_no_most}
 use Rattle.pattern_match.specs.Passes.{holds_nothing, moves_to, copies_needed}
-use Rattle.pattern_match.specs.declared.entry.Entry.{Entry}
+use Rattle.pattern_match.specs.declared.entry.EnteredPlaces.{EnteredPlaces}
 
 -- no place is marked from one on, before another
 pub record AreUnmarked (marked : ℕ → Bool) (from to : ℕ) : Type 0 where
@@ -127,7 +127,7 @@ idle_ends marked (Repeat least most piece) start u =
     (λ j l. idle_ends marked piece (start + positions piece * j)
     (copy_unmarked marked start (positions piece) (factor least most) j u l))
 
-pub idle_moves : (entry : Entry) (marked : ℕ → Bool) (place : ℕ) (t : Tree) (start : ℕ)
+pub idle_moves : (entry : EnteredPlaces) (marked : ℕ → Bool) (place : ℕ) (t : Tree) (start : ℕ)
     → AreUnmarked marked start (start + positions t)
     → moves_to entry marked place t false start ≡ false
 idle_moves entry marked place (Set bytes) start u = refl

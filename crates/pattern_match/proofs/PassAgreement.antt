@@ -18,8 +18,8 @@ use Rattle.pattern_match.specs.Residuals.{is_some_list, is_count}
 use Rattle.pattern_match.specs.Segments.{among}
 use Rattle.pattern_match.specs.States.{bit}
 use Rattle.pattern_match.specs.Tables.{ends, leads}
-use Rattle.pattern_match.specs.declared.entry.Entry.{Entry}
-use Rattle.pattern_match.specs.declared.entry.Entry.TheVariants.{Barred}
+use Rattle.pattern_match.specs.declared.entry.EnteredPlaces.{EnteredPlaces}
+use Rattle.pattern_match.specs.declared.entry.EnteredPlaces.TheVariants.{Barred}
 use Rattle.pattern_match.proofs.LowestBits.{same_below}
 use Rattle.pattern_match.proofs.PassParts.{IsPassed, same_passed, none_passed, single_passed}
 use Rattle.pattern_match.proofs.PassParts.{turned_passed, either_passed, copies_passed}
@@ -47,7 +47,7 @@ none_move e m size endless (suc copies) entered start h =
     let b = none_move e m size endless copies (e start) (start + size) h in
     rw (a, b) refl
 
-module _ (entry : Entry) (marked : ℕ → Bool) (q : ℕ) where
+module _ (entry : EnteredPlaces) (marked : ℕ → Bool) (q : ℕ) where
   -- an automaton is gone over as a pattern is
   abbrev IsOver : Automaton → Tree → Type 0
   IsOver a t = IsPassed entry marked q (ends_marked marked t) (moves_to entry marked q t)
@@ -179,7 +179,7 @@ follows_with a marks q =
     ∙ or_comm (some_place (leads_at (bit marks) 0 q) 0 a.places)
     (bit marks (length a.places) && among (up 0 a.first) q)
 
-entered_with : (entry : Entry) (a : Automaton) (q : ℕ)
+entered_with : (entry : EnteredPlaces) (a : Automaton) (q : ℕ)
     → place_admitted entry (slice_get (with_start a) q)
     ≡ (some_place (enters_at entry q) 0 a.places
     || ((q == length a.places) && may_enter entry (0 ∷ [])))
@@ -195,7 +195,7 @@ not_behind : (x y c w : Bool) → (x ≡ true → c ≡ false) → (x && y) ≡ 
 not_behind true y c w h = let e = h refl in rw e (sym (or-false y))
 not_behind false y c w h = refl
 
-pub passes_agree : (t : Tree) (entry : Entry) (marks : List ℕ) (q : ℕ) → is_plain t ≡ true
+pub passes_agree : (t : Tree) (entry : EnteredPlaces) (marks : List ℕ) (q : ℕ) → is_plain t ≡ true
     → moves_to entry (bit marks) q t (bit marks (positions t)) 0
     ≡ enters entry (all_places (automaton t)) marks q
 passes_agree t entry marks q h =

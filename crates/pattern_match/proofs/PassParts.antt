@@ -11,7 +11,7 @@ use Rattle.pattern_match.specs.Automaton.{Place, Automaton, up, moved, followed,
 use Rattle.pattern_match.specs.Automaton.{copies, endless}
 use Rattle.pattern_match.specs.Passes.{may_enter, copies_end, copies_move}
 use Rattle.pattern_match.specs.Segments.{among}
-use Rattle.pattern_match.specs.declared.entry.Entry.{Entry}
+use Rattle.pattern_match.specs.declared.entry.EnteredPlaces.{EnteredPlaces}
 use Rattle.pattern_match.proofs.Copies.{up_up}
 use Rattle.pattern_match.proofs.PassPlaces.{copies_hold, endless_hold}
 use Rattle.pattern_match.proofs.PassRows.{some_place, ends_at, leads_at, enters_at, Stands}
@@ -21,7 +21,7 @@ use Rattle.pattern_match.proofs.Segments.{first_turned, many_turned}
 
 -- whether a part is ended, and whether it leads to a place that may be entered, are what its places
 -- and its first ones say, whatever is marked before it; both lead to its own places alone
-pub record IsPassed (entry : Entry) (marked : ℕ → Bool) (q : ℕ) (is_ended : ℕ → Bool)
+pub record IsPassed (entry : EnteredPlaces) (marked : ℕ → Bool) (q : ℕ) (is_ended : ℕ → Bool)
     (is_reached : Bool → ℕ → Bool) (places : List Place) (first : List ℕ) : Type 0 where
   pub ended : (start : ℕ) → is_ended start ≡ some_place (ends_at marked) start places
   pub reached : (entered : Bool) (start : ℕ) → is_reached entered start
@@ -33,7 +33,7 @@ pub record IsPassed (entry : Entry) (marked : ℕ → Bool) (q : ℕ) (is_ended 
       → Stands q start (length places)
 
 -- the same in other words
-pub same_passed : (entry : Entry) (marked : ℕ → Bool) (q : ℕ) (e f : ℕ → Bool)
+pub same_passed : (entry : EnteredPlaces) (marked : ℕ → Bool) (q : ℕ) (e f : ℕ → Bool)
     (m n : Bool → ℕ → Bool) (places : List Place) (first : List ℕ) → ((s : ℕ) → f s ≡ e s)
     → ((v : Bool) (s : ℕ) → n v s ≡ m v s) → IsPassed entry marked q e m places first
     → IsPassed entry marked q f n places first
@@ -45,7 +45,7 @@ same_passed entry marked q e f m n places first h k p = record {
 }
 
 -- without a place
-pub none_passed : (entry : Entry) (marked : ℕ → Bool) (q : ℕ)
+pub none_passed : (entry : EnteredPlaces) (marked : ℕ → Bool) (q : ℕ)
     → IsPassed entry marked q (λ s. false) (λ v s. false) [] []
 none_passed entry marked q = record {
   ended = λ s. refl;
@@ -82,7 +82,7 @@ same_so q s h =
     let f : q ≡ s = grind arith in (omega arith, omega arith)
 
 -- one place, which ends the part
-pub single_passed : (entry : Entry) (marked : ℕ → Bool) (q : ℕ) (bytes : List ℕ)
+pub single_passed : (entry : EnteredPlaces) (marked : ℕ → Bool) (q : ℕ) (bytes : List ℕ)
     → IsPassed entry marked q marked (λ v s. (v && may_enter entry bytes) && (q == s))
     (record { bytes = bytes; is_last = true; next = [] } ∷ []) (0 ∷ [])
 single_passed entry marked q bytes = record {
@@ -144,7 +144,8 @@ behind : (q start m n : ℕ) → Stands q (start + m) n → Stands q start (m + 
 behind q start m n s = let u = s in (omega arith, omega arith)
 
 -- the ways into a part: it is entered, or one of its marked places leads on
-pub ways_in : (entry : Entry) (marked : ℕ → Bool) (q : ℕ) (e : ℕ → Bool) (m : Bool → ℕ → Bool)
+pub ways_in : (entry : EnteredPlaces) (marked : ℕ → Bool) (q : ℕ) (e : ℕ → Bool) (m : Bool → ℕ
+    → Bool)
     (places : List Place) (first : List ℕ) → IsPassed entry marked q e m places first → (v : Bool)
     (start : ℕ)
     → ((v && among (up start first) q) || some_place (leads_at marked start q) start places) ≡ true
@@ -158,7 +159,8 @@ ways_in entry marked q e m places first p v start h =
     at (inl a) = p.begins start (second_so v _ a)
     at (inr b) = p.follows start b
 
-module _ (entry : Entry) (marked : ℕ → Bool) (q : ℕ) (e f : ℕ → Bool) (m n : Bool → ℕ → Bool)
+module _ (entry : EnteredPlaces) (marked : ℕ → Bool) (q : ℕ) (e f : ℕ → Bool) (m n : Bool → ℕ
+    → Bool)
     (a b : Automaton) (p : IsPassed entry marked q e m a.places a.first)
     (r : IsPassed entry marked q f n b.places b.first) where
   both_ways_in : (v w : Bool) (start : ℕ) → (m v start || n w (start + length a.places))
@@ -386,7 +388,7 @@ module _ (entry : Entry) (marked : ℕ → Bool) (q : ℕ) (e f : ℕ → Bool) 
       led s (inr h) = behind q s (length a.places) (length b.places)
           (r.follows (s + length a.places) h)
 
-module _ (entry : Entry) (marked : ℕ → Bool) (q : ℕ) (e : ℕ → Bool) (m : Bool → ℕ → Bool)
+module _ (entry : EnteredPlaces) (marked : ℕ → Bool) (q : ℕ) (e : ℕ → Bool) (m : Bool → ℕ → Bool)
     (a : Automaton) (p : IsPassed entry marked q e m a.places a.first) where
   -- the last copy of an endless repeat, which is entered again where it is ended
   looped_passed : IsPassed entry marked q e (λ v s. m (v || e s) s)

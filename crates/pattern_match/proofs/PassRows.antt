@@ -11,7 +11,7 @@ use Rattle.pattern_match.specs.Over.{place_admitted}
 use Rattle.pattern_match.specs.Passes.{may_enter}
 use Rattle.pattern_match.specs.Segments.{among}
 use Rattle.pattern_match.specs.Tables.{any_under}
-use Rattle.pattern_match.specs.declared.entry.Entry.{Entry}
+use Rattle.pattern_match.specs.declared.entry.EnteredPlaces.{EnteredPlaces}
 use Rattle.pattern_match.proofs.Copies.{up_up}
 use Rattle.pattern_match.proofs.LowestBits.{same_below, any_split}
 use Rattle.pattern_match.proofs.SegmentPlaces.{followed_numbers}
@@ -29,7 +29,7 @@ abbrev pub leads_at : (ℕ → Bool) → (by q : ℕ) → ℕ → Place → Bool
 leads_at marked by q n p = marked n && among (up by p.next) q
 
 -- the place of this number, which may be entered
-abbrev pub enters_at : Entry → (q : ℕ) → ℕ → Place → Bool
+abbrev pub enters_at : EnteredPlaces → (q : ℕ) → ℕ → Place → Bool
 enters_at entry q n p = (q == n) && may_enter entry p.bytes
 
 pub some_append : (test : ℕ → Place → Bool) (start : ℕ) (ps qs : List Place)
@@ -120,7 +120,7 @@ leads_followed marked base q stops first start ps =
 abbrev pub Stands : (q start count : ℕ) → Type 0
 Stands q start count = (start ≤ q) × (q < start + count)
 
-pub entered_stands : (entry : Entry) (q start : ℕ) (ps : List Place)
+pub entered_stands : (entry : EnteredPlaces) (q start : ℕ) (ps : List Place)
     → some_place (enters_at entry q) start ps ≡ true → Stands q start (length ps)
 entered_stands entry q start [] h = cc
 entered_stands entry q start (p ∷ ps) h =
@@ -156,7 +156,7 @@ any_place test start (p ∷ ps) =
         let a : 1 + j ≡ suc j = omega arith in
         let b : start + suc j ≡ suc start + j = omega arith in rw (a, b) refl
 
-pub entered_place : (entry : Entry) (q start k : ℕ) (ps : List Place) → q ≡ start + k
+pub entered_place : (entry : EnteredPlaces) (q start k : ℕ) (ps : List Place) → q ≡ start + k
     → place_admitted entry (slice_get ps k) ≡ some_place (enters_at entry q) start ps
 entered_place entry q start k [] e = refl
 entered_place entry q start zero (p ∷ ps) e =

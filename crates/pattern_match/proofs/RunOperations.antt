@@ -16,7 +16,7 @@ use Rattle.pattern_match.specs.Settled.{IsSteadyPlace, LeadsOnward, MarksLeadOnw
 use Rattle.pattern_match.specs.States.{AreMarks, bit, is_bare}
 use Rattle.pattern_match.specs.Tables.{ends, has, leads}
 use Rattle.pattern_match.specs.declared.class.Class.{Class}
-use Rattle.pattern_match.specs.declared.entry.Entry.TheVariants.{By}
+use Rattle.pattern_match.specs.declared.entry.EnteredPlaces.TheVariants.{By}
 use Rattle.pattern_match.specs.declared.operation.Operation.{Operation}
 use Rattle.pattern_match.proofs.PassPlaces.{all_count, plain_not_bare}
 use Rattle.pattern_match.proofs.RunTables.{any_from, any_to, ends_within, leads_within}

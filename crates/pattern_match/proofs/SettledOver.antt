@@ -17,8 +17,8 @@ use Rattle.pattern_match.specs.Over.{ends_among, enters, follows_marked, place_a
 use Rattle.pattern_match.specs.Settled.{IsOnward, IsSteadyPlace, LeadsOnward}
 use Rattle.pattern_match.specs.States.{bit}
 use Rattle.pattern_match.specs.Tables.{any_under, ends, has, leads}
-use Rattle.pattern_match.specs.declared.entry.Entry.{Entry}
-use Rattle.pattern_match.specs.declared.entry.Entry.TheVariants.{ByEach, Free}
+use Rattle.pattern_match.specs.declared.entry.EnteredPlaces.{EnteredPlaces}
+use Rattle.pattern_match.specs.declared.entry.EnteredPlaces.TheVariants.{ByEach, Free}
 use Rattle.pattern_match.proofs.EachByte.{each_byte}
 use Rattle.pattern_match.proofs.RunTables.{any_from, any_to, ends_within, leads_within}
 use Rattle.pattern_match.proofs.Stepping.{next_within}
@@ -41,7 +41,7 @@ one_under test alone n p only within = both_ways _ (test p) onto from
     from h = any_to (λ k. bit alone k && test k) n p (within h)
         (and_from _ _ (only p ∙ eq-eqb p p refl) h)
 
-pub follows_alone : (places : List Place) (entry : Entry) (alone : List ℕ) (p : ℕ)
+pub follows_alone : (places : List Place) (entry : EnteredPlaces) (alone : List ℕ) (p : ℕ)
     → ((q : ℕ) → bit alone q ≡ (q == p)) → (q : ℕ) → enters entry places alone q
     ≡ (leads (slice_get places p) q && place_admitted entry (slice_get places q))
 follows_alone places entry alone p only q =
@@ -100,7 +100,7 @@ admits_each : (place : Option Place) → Decides (place_admitted ByEach place)
 admits_each None = (λ e. cc, λ each. each 1 (omega arith) (omega arith))
 admits_each (Some place) = each_byte (has (Some place))
 
-admitted_within : (places : List Place) (entry : Entry) (q : ℕ)
+admitted_within : (places : List Place) (entry : EnteredPlaces) (q : ℕ)
     → place_admitted entry (slice_get places q) ≡ true → q < length places
 admitted_within places entry q h = at (cases_lt q (length places))
   where

@@ -10,7 +10,7 @@ use Rattle.pattern_syntax.specs.Reading.{positions, factor}
 use Rattle.pattern_syntax.specs.Tree.{Tree, Set, Nothing, Both, Either, Repeat}
 use Rattle.pattern_match.specs.Passes.{copies_end, copies_move, ends_marked, has_no_most}
 use Rattle.pattern_match.specs.Passes.{holds_nothing, moves_to}
-use Rattle.pattern_match.specs.declared.entry.Entry.{Entry}
+use Rattle.pattern_match.specs.declared.entry.EnteredPlaces.{EnteredPlaces}
 use Rattle.pattern_match.proofs.Idle.{AreUnmarked, copy_unmarked, ends_skipped, moves_skipped}
 use Rattle.pattern_match.proofs.Idle.{idle_ends, idle_moves}
 
@@ -32,7 +32,8 @@ copies_nowhere ends moves size endless (suc n) entered start h =
     (copies_nowhere ends moves size endless n (ends start) (start + size)
     (λ l. h (omega arith)))
 
-pub leads_nowhere : (entry : Entry) (marked : ℕ → Bool) (place : ℕ) (t : Tree) (entered : Bool)
+pub leads_nowhere : (entry : EnteredPlaces) (marked : ℕ
+    → Bool) (place : ℕ) (t : Tree) (entered : Bool)
     (start : ℕ) → positions t ≡ 0 → moves_to entry marked place t entered start ≡ false
 leads_nowhere entry marked place (Set bytes) entered start e = absurd (omega arith)
 leads_nowhere entry marked place Nothing entered start e = refl
@@ -84,7 +85,7 @@ module _ (marked : ℕ → Bool) (piece : Tree) (start size times : ℕ) where
       (subst (λ n. AreUnmarked marked (start + size * copy + size * j)
       (start + size * copy + size * j + n)) p (skipped copy d next j e l u))
 
-  pub moved_on : (entry : Entry) (place copy next n s : ℕ) (endless entered : Bool)
+  pub moved_on : (entry : EnteredPlaces) (place copy next n s : ℕ) (endless entered : Bool)
       → size ≡ positions piece → n ≡ times - copy → s ≡ start + size * copy
       → IsNextCopy marked start size times copy next entered
       → copies_move (λ from. ends_marked marked piece from)
@@ -143,7 +144,7 @@ is_last_here : (copy times : ℕ) → copy < times → (times - (copy + 1) == 0)
 is_last_here copy times l = grind arith
 
 module _ (marked : ℕ → Bool) (piece : Tree) (start size times : ℕ) where
-  pub moves_turned : (entry : Entry) (place copy next : ℕ)
+  pub moves_turned : (entry : EnteredPlaces) (place copy next : ℕ)
       (endless entered ended last old new : Bool)
       → size ≡ positions piece → copy < times
       → ended ≡ ends_marked marked piece (start + size * copy)

@@ -12,14 +12,15 @@ use Rattle.pattern_match.specs.Over.{HaveBits, ends_among, enters, follows_marke
 use Rattle.pattern_match.specs.Over.{place_admitted}
 use Rattle.pattern_match.specs.Passes.{ends_marked, holds_nothing, moves_to}
 use Rattle.pattern_match.specs.States.{bit}
-use Rattle.pattern_match.specs.declared.entry.Entry.{Entry}
+use Rattle.pattern_match.specs.declared.entry.EnteredPlaces.{EnteredPlaces}
 use Rattle.pattern_match.specs.declared.operation.Operation.{Operation}
 use Rattle.pattern_match.proofs.PassAgreement.{ends_agree, passes_agree}
 use Rattle.pattern_match.proofs.PassPlaces.{all_count}
 use Rattle.pattern_match.proofs.WordBits.{no_word}
 
 -- a number past the places is none that may be entered
-none_past : (entry : Entry) (places : List Place) (marks : List ℕ) (q : ℕ) → length places ≤ q
+none_past : (entry : EnteredPlaces) (places : List Place) (marks : List ℕ) (q : ℕ)
+    → length places ≤ q
     → enters entry places marks q ≡ false
 none_past entry places marks q l = and_right (follows_marked places marks q) _
     (ap (place_admitted entry) (slice_get_past places q l))
@@ -42,7 +43,7 @@ module _ (operations : List Operation) where
       omega arith
 
   -- what a pass over cleared words leaves in them
-  pub gone_over : (entry : Entry) (from first old new : List ℕ) (part : Tree) (n : ℕ)
+  pub gone_over : (entry : EnteredPlaces) (from first old new : List ℕ) (part : Tree) (n : ℕ)
       (entered : Bool) → HaveBits operations (length from) → part ≡ operations_tree operations
       → n ≡ positions part → entered ≡ bit from (64 * 0 + n) → length first ≡ length from
       → length old ≡ length first → length new ≡ length old

@@ -4,7 +4,7 @@ use Rattle.pattern_match.specs.Automaton.{Place}
 use Rattle.pattern_match.specs.Over.{place_admitted}
 use Rattle.pattern_match.specs.States.{bit}
 use Rattle.pattern_match.specs.Tables.{any_under, ends, leads}
-use Rattle.pattern_match.specs.declared.entry.Entry.TheVariants.{ByEach}
+use Rattle.pattern_match.specs.declared.entry.EnteredPlaces.TheVariants.{ByEach}
 
 -- a text may end behind place p, which leads to place q
 abbrev pub ends_before : List Place → ℕ → ℕ → Bool

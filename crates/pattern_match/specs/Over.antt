@@ -6,10 +6,10 @@ use Rattle.pattern_match.specs.Operations.{AreOperationsOf, operations_tree}
 use Rattle.pattern_match.specs.Passes.{may_enter}
 use Rattle.pattern_match.specs.States.{bit}
 use Rattle.pattern_match.specs.Tables.{any_under, ends, leads}
-use Rattle.pattern_match.specs.declared.entry.Entry.{Entry}
+use Rattle.pattern_match.specs.declared.entry.EnteredPlaces.{EnteredPlaces}
 use Rattle.pattern_match.specs.declared.operation.Operation.{Operation}
 
-abbrev pub place_admitted : Entry → Option Place → Bool
+abbrev pub place_admitted : EnteredPlaces → Option Place → Bool
 place_admitted entry None = false
 place_admitted entry (Some place) = may_enter entry place.bytes
 
@@ -19,7 +19,7 @@ follows_marked places marks q =
     any_under (λ p. bit marks p && leads (slice_get places p) q) (length places)
 
 -- and that may be entered
-abbrev pub enters : Entry → List Place → List ℕ → ℕ → Bool
+abbrev pub enters : EnteredPlaces → List Place → List ℕ → ℕ → Bool
 enters entry places marks q =
     follows_marked places marks q && place_admitted entry (slice_get places q)
 

@@ -9,8 +9,8 @@ use Rattle.pattern_syntax.specs.ByteSet.{text_bytes}
 use Rattle.pattern_syntax.specs.Reading.{positions, factor}
 use Rattle.pattern_syntax.specs.Tree.{Tree, Set, Nothing, Both, Either, Repeat}
 use Rattle.pattern_match.specs.Residuals.{is_some_list}
-use Rattle.pattern_match.specs.declared.entry.Entry.{Entry}
-use Rattle.pattern_match.specs.declared.entry.Entry.TheVariants.{Barred, Free, By, ByEach}
+use Rattle.pattern_match.specs.declared.entry.EnteredPlaces.{EnteredPlaces}
+use Rattle.pattern_match.specs.declared.entry.EnteredPlaces.TheVariants.{Barred, Free, By, ByEach}
 
 -- each set has a byte, and each repeat a number of times that isn't none
 abbrev pub is_plain : Tree → Bool
@@ -34,14 +34,14 @@ unfoldable pub has_each_byte : (ℕ → Bool) → Bool
 has_each_byte test = list_all test text_bytes
 
 -- no place may be entered
-abbrev pub is_barred : Entry → Bool
+abbrev pub is_barred : EnteredPlaces → Bool
 is_barred Barred = true
 is_barred Free = false
 is_barred (By b) = false
 is_barred ByEach = false
 
 -- a place of these bytes may be entered
-abbrev pub may_enter : Entry → List ℕ → Bool
+abbrev pub may_enter : EnteredPlaces → List ℕ → Bool
 may_enter Barred bytes = false
 may_enter Free bytes = true
 may_enter (By b) bytes = list_any (λ c. c == b) bytes
@@ -89,7 +89,8 @@ copies_move ends moves size endless (suc copies) entered start =
 
 -- the part leads to the place of this number: it may be entered, and is a first one of the part,
 -- which is entered, or follows a marked one
-abbrev pub moves_to : Entry → (ℕ → Bool) → (place : ℕ) → Tree → (entered : Bool) → (start : ℕ)
+abbrev pub moves_to : EnteredPlaces → (ℕ → Bool) → (place : ℕ) → Tree → (entered : Bool)
+    → (start : ℕ)
     → Bool
 moves_to entry marked place (Set bytes) entered start =
     (entered && may_enter entry bytes) && (place == start)

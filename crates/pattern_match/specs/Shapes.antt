@@ -2,10 +2,11 @@
 use Rattle.pattern_syntax.specs.Tree as tree
 use Rattle.pattern_syntax.specs.Tree.{Tree}
 use Rattle.pattern_match.specs.Class.{class_bytes}
-use Rattle.pattern_match.specs.declared.part.Shape.{Shape}
-use Rattle.pattern_match.specs.declared.part.Shape.TheVariants.{Set, Nothing, Both, Either, Repeat}
+use Rattle.pattern_match.specs.declared.part.PartKind.{PartKind}
+use Rattle.pattern_match.specs.declared.part.PartKind.TheVariants.{Set, Nothing, Both, Either}
+use Rattle.pattern_match.specs.declared.part.PartKind.TheVariants.{Repeat}
 
-abbrev pub shape_tree : Shape → Tree
+abbrev pub shape_tree : PartKind → Tree
 shape_tree (Set class) = tree.Set (class_bytes class)
 shape_tree Nothing = tree.Nothing
 shape_tree (Both first second) = tree.Both first second

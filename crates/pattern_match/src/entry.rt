@@ -7,7 +7,7 @@ use crate::class::Class;
 
 /// Which of the places that follow may be entered.
 #[derive(Clone, Copy)]
-pub enum Entry {
+pub enum EnteredPlaces {
     /// None.
     Barred,
     /// All.
@@ -25,12 +25,12 @@ fn has_byte(class: &Class, byte: u8) -> bool
     class.has(byte)
 }
 
-impl Entry {
+impl EnteredPlaces {
     /// Whether no place may be entered.
     pub fn is_barred(&self) -> bool
         ensures { result ≡ is_barred self.now }
     {
-        matches!(self, Entry::Barred)
+        matches!(self, EnteredPlaces::Barred)
     }
 
     /// Whether a place of this class may be entered.
@@ -38,10 +38,10 @@ impl Entry {
         ensures { result ≡ may_enter self.now (class_bytes class.now) }
     {
         match self {
-            Entry::Barred => false,
-            Entry::Free => true,
-            Entry::By(byte) => has_byte(class, *byte),
-            Entry::ByEach => class.has_each(),
+            EnteredPlaces::Barred => false,
+            EnteredPlaces::Free => true,
+            EnteredPlaces::By(byte) => has_byte(class, *byte),
+            EnteredPlaces::ByEach => class.has_each(),
         }
     }
 }

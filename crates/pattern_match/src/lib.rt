@@ -32,7 +32,7 @@ mod taking;
 
 pub use matcher::{Matcher, every_cut_is_membership, may_hold, quotients_show_what_is_below};
 pub use one_text::{accepts_text, is_one_text, is_text_alive, stays_text, step_text};
-pub use part::Part;
+pub use part::PatternPart;
 pub use readying::PatternTables;
 pub use spelling::{MOST_LEVELS, operations_of};
 pub use states::States;

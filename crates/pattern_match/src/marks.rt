@@ -5,11 +5,11 @@ ghost use Rattle.pattern_match.specs.Over.{HaveBits, enters, operation_places};
 ghost use Rattle.pattern_match.specs.Settled.{IsSteadyPlace, LeadsOnward};
 ghost use Rattle.pattern_match.specs.States.{bit};
 ghost use Rattle.pattern_match.specs.Tables.{any_under};
-ghost use Rattle.pattern_match.specs.declared.entry.Entry.TheVariants.{By};
+ghost use Rattle.pattern_match.specs.declared.entry.EnteredPlaces.TheVariants.{By};
 
 use crate::bits::{clear, gather, gathered, set_if};
 use crate::class::Class;
-use crate::entry::Entry;
+use crate::entry::EnteredPlaces;
 use crate::operation::Operation;
 use crate::over::go_over;
 use crate::settling::{are_steady_over, has_loop_over};
@@ -138,7 +138,7 @@ impl Marks {
         ensures words { length self.new.marks ≡ length self.old.marks }
         ensures room { self.new.room ≡ self.old.room }
     {
-        let entry = Entry::By(byte);
+        let entry = EnteredPlaces::By(byte);
         go_over(operations, entry, self.marks.as_slice(), &mut self.reached);
         mem::swap(&mut self.marks, &mut self.reached);
     }

@@ -4,21 +4,21 @@ ghost use Rattle.pattern_match.specs.Over.{HaveBits, ends_among, enters, operati
 ghost use Rattle.pattern_match.specs.States.{bit};
 
 use crate::bits::{clear, has_bit};
-use crate::entry::Entry;
+use crate::entry::EnteredPlaces;
 use crate::operation::Operation;
-use crate::part::Part;
-use crate::passing::{Step, Turn, pass};
+use crate::part::PatternPart;
+use crate::passing::{PartStart, PassInput, pass};
 
 /// How many places the automaton of the operations has, with that before the first byte.
 pub fn place_count(operations: &[Operation]) -> usize
     requires { AreOperationsOf operations.now (operations_tree operations.now) }
     ensures { result ≡ length (operation_places operations.now) }
 {
-    Part::of(operations).places() + 1
+    PatternPart::of(operations).places() + 1
 }
 
 /// Makes the marks those of the places that follow a marked one and may be entered.
-pub fn go_over(operations: &[Operation], entry: Entry, from: &[u64], to: &mut [u64])
+pub fn go_over(operations: &[Operation], entry: EnteredPlaces, from: &[u64], to: &mut [u64])
     requires bits { HaveBits operations.now (length from.now) }
     requires even { length to.old ≡ length from.now }
     ensures bits { (q : ℕ) → bit to.new q
@@ -26,12 +26,12 @@ pub fn go_over(operations: &[Operation], entry: Entry, from: &[u64], to: &mut [u
     ensures words { length to.new ≡ length to.old }
 {
     clear(to);
-    let part = Part::of(operations);
-    let turn = Turn {
+    let part = PatternPart::of(operations);
+    let turn = PartStart {
         start: 0,
         entered: has_bit(from, 0, part.places()),
     };
-    pass(&Step { from, entry }, to, &part, turn);
+    pass(&PassInput { from, entry }, to, &part, turn);
 }
 
 /// Whether a text may end behind some marked place.
@@ -39,14 +39,14 @@ pub fn ends_over(operations: &[Operation], marks: &[u64]) -> bool
     requires { HaveBits operations.now (length marks.now) }
     ensures { result ≡ ends_among (operation_places operations.now) marks.now }
 {
-    let part = Part::of(operations);
-    let turn = Turn {
+    let part = PatternPart::of(operations);
+    let turn = PartStart {
         start: 0,
         entered: false,
     };
-    let step = Step {
+    let step = PassInput {
         from: marks,
-        entry: Entry::Barred,
+        entry: EnteredPlaces::Barred,
     };
     let is_end = pass(&step, &mut [], &part, turn);
     is_end || (has_bit(marks, 0, part.places()) && part.holds_nothing())

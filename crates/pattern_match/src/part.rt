@@ -14,11 +14,11 @@ use std::marker::Model;
 
 /// A part of a pattern, as its operations, seen as its tree.
 #[derive(Drop)]
-pub struct Part<'a> {
+pub struct PatternPart<'a> {
     operations: &'a [Operation],
 }
 
-impl<'a> Model for Part<'a> {
+impl<'a> Model for PatternPart<'a> {
     ghost use Rattle.pattern_syntax.specs.Tree.{Tree, tree_code};
 
     ghost Value = { Tree };
@@ -34,30 +34,30 @@ impl<'a> Model for Part<'a> {
 
 /// What a part is made of.
 #[derive(Drop)]
-pub enum Shape<'a> {
+pub enum PartKind<'a> {
     /// A place of these bytes.
     Set(Class),
     /// The empty sequence.
     Nothing,
     /// One part and then another.
-    Both(Part<'a>, Part<'a>),
+    Both(PatternPart<'a>, PatternPart<'a>),
     /// The choice between two parts.
-    Either(Part<'a>, Part<'a>),
+    Either(PatternPart<'a>, PatternPart<'a>),
     /// A part, from `least` to `most` times, or without an upper number.
     Repeat {
         least: u32,
         most: Option<u32>,
-        piece: Part<'a>,
+        piece: PatternPart<'a>,
     },
 }
 
-impl<'a> Part<'a> {
+impl<'a> PatternPart<'a> {
     /// The part that all of the operations are.
-    pub fn of(operations: &'a [Operation]) -> Part<'a>
+    pub fn of(operations: &'a [Operation]) -> PatternPart<'a>
         requires { SpellTree operations.now (operations_tree operations.now) }
         ensures { result ≡ operations_tree operations.now }
     {
-        Part { operations }
+        PatternPart { operations }
     }
 
     /// How many places it has, repeats written out.
@@ -81,28 +81,28 @@ impl<'a> Part<'a> {
     }
 
     /// What it is made of.
-    pub fn shape(&self) -> Shape<'a>
+    pub fn shape(&self) -> PartKind<'a>
         ensures { shape_tree result ≡ self.now }
     {
         let operations = self.operations;
         let Some((last, before)) = operations.split_last() else {
-            return Shape::Nothing;
+            return PartKind::Nothing;
         };
         match last.node {
-            Node::Byte(byte) => Shape::Set(Class::Byte(byte)),
-            Node::Set(set) => Shape::Set(Class::Set(set)),
-            Node::Nothing => Shape::Nothing,
+            Node::Byte(byte) => PartKind::Set(Class::Byte(byte)),
+            Node::Set(set) => PartKind::Set(Class::Set(set)),
+            Node::Nothing => PartKind::Nothing,
             Node::Both => {
                 let (first, second) = halves(before);
-                Shape::Both(first, second)
+                PartKind::Both(first, second)
             }
             Node::Either => {
                 let (left, right) = halves(before);
-                Shape::Either(left, right)
+                PartKind::Either(left, right)
             }
             Node::Repeat { least, most } => {
-                let piece = Part { operations: before };
-                Shape::Repeat { least, most, piece }
+                let piece = PatternPart { operations: before };
+                PartKind::Repeat { least, most, piece }
             }
         }
     }
@@ -137,12 +137,15 @@ pub(crate) fn split_last_part(operations: &[Operation]) -> (&[Operation], &[Oper
 }
 
 // The two parts that operations are, one behind the other.
-fn halves<'a>(operations: &'a [Operation]) -> (Part<'a>, Part<'a>)
+fn halves<'a>(operations: &'a [Operation]) -> (PatternPart<'a>, PatternPart<'a>)
     requires { (first : Tree) × ((second : Tree)
         × SpellTrees operations.now (second ∷ first ∷ [])) }
     ensures { (first second : Tree) → SpellTrees operations.now (second ∷ first ∷ [])
         → (result.0 ≡ first) × (result.1 ≡ second) }
 {
     let (first, second) = split_last_part(operations);
-    (Part { operations: first }, Part { operations: second })
+    (
+        PatternPart { operations: first },
+        PatternPart { operations: second },
+    )
 }

@@ -9,19 +9,19 @@ ghost use Rattle.pattern_match.specs.declared.operation.TheConstants.{MOST_PLACE
 
 use crate::bits::{is_marked, next_marked, set_if};
 use crate::copying::copies_of;
-use crate::entry::Entry;
-use crate::part::{Part, Shape};
+use crate::entry::EnteredPlaces;
+use crate::part::{PartKind, PatternPart};
 
 /// Marks from which one goes on, and which places may be entered.
 #[derive(Clone, Copy)]
-pub struct Step<'a> {
+pub struct PassInput<'a> {
     pub from: &'a [u64],
-    pub entry: Entry,
+    pub entry: EnteredPlaces,
 }
 
 /// Where one comes to a part: the number of its first place, and whether it is entered.
 #[derive(Clone, Copy)]
-pub struct Turn {
+pub struct PartStart {
     pub start: usize,
     pub entered: bool,
 }
@@ -97,11 +97,11 @@ fn is_end(copies: &Copies, copy: usize, holds_nothing: bool) -> bool
 // Goes over one part and then over another.
 #[cycle(pass)]
 fn pass_both(
-    step: &Step<'_>,
+    step: &PassInput<'_>,
     to: &mut [u64],
-    first: &Part<'_>,
-    second: &Part<'_>,
-    turn: Turn,
+    first: &PatternPart<'_>,
+    second: &PatternPart<'_>,
+    turn: PartStart,
 ) -> bool
     requires few { turn.start + (positions first.now + positions second.now) ≤ MOST_PLACES }
     ensures bits { (q : ℕ) → q < 64 * length to.old
@@ -112,7 +112,7 @@ fn pass_both(
     ensures words { length to.new ≡ length to.old }
 {
     let first_ends = pass(step, to, first, turn);
-    let then = Turn {
+    let then = PartStart {
         start: turn.start + first.places(),
         entered: turn.entered && first.holds_nothing() || first_ends,
     };
@@ -123,11 +123,11 @@ fn pass_both(
 // Goes over both sides of a choice.
 #[cycle(pass)]
 fn pass_either(
-    step: &Step<'_>,
+    step: &PassInput<'_>,
     to: &mut [u64],
-    left: &Part<'_>,
-    right: &Part<'_>,
-    turn: Turn,
+    left: &PatternPart<'_>,
+    right: &PatternPart<'_>,
+    turn: PartStart,
 ) -> bool
     requires few { turn.start + (positions left.now + positions right.now) ≤ MOST_PLACES }
     ensures bits { (q : ℕ) → q < 64 * length to.old
@@ -138,7 +138,7 @@ fn pass_either(
     ensures words { length to.new ≡ length to.old }
 {
     let left_ends = pass(step, to, left, turn);
-    let beside = Turn {
+    let beside = PartStart {
         start: turn.start + left.places(),
         entered: turn.entered,
     };
@@ -151,7 +151,7 @@ fn pass_either(
 // is found before the copy is gone over: to go over it once more would cost as much again for each
 // repeat in a repeat.
 #[cycle(pass)]
-fn is_entered(step: &Step<'_>, piece: &Part<'_>, turn: Turn, is_last: bool) -> bool
+fn is_entered(step: &PassInput<'_>, piece: &PatternPart<'_>, turn: PartStart, is_last: bool) -> bool
     requires { turn.start + positions piece.now ≤ MOST_PLACES }
     ensures { is_barred step.now.entry ≡ false → result ≡ (turn.entered
         || (is_last && ends_marked (bit step.now.from.now) piece.now turn.start)) }
@@ -165,16 +165,22 @@ fn is_entered(step: &Step<'_>, piece: &Part<'_>, turn: Turn, is_last: bool) -> b
     if step.entry.is_barred() {
         return false;
     }
-    let ending = Step {
+    let ending = PassInput {
         from: step.from,
-        entry: Entry::Barred,
+        entry: EnteredPlaces::Barred,
     };
     pass(&ending, &mut [], piece, turn)
 }
 
 // Goes over a copy of a piece, which follows itself if it is the last of an endless repeat.
 #[cycle(pass)]
-fn pass_copy(step: &Step<'_>, to: &mut [u64], piece: &Part<'_>, turn: Turn, is_last: bool) -> bool
+fn pass_copy(
+    step: &PassInput<'_>,
+    to: &mut [u64],
+    piece: &PatternPart<'_>,
+    turn: PartStart,
+    is_last: bool,
+) -> bool
     requires few { turn.start + positions piece.now ≤ MOST_PLACES }
     ensures bits { (q : ℕ) → q < 64 * length to.old
         → bit to.new q ≡ (bit to.old q || moves_to step.now.entry
@@ -184,7 +190,7 @@ fn pass_copy(step: &Step<'_>, to: &mut [u64], piece: &Part<'_>, turn: Turn, is_l
     ensures ends { result ≡ ends_marked (bit step.now.from.now) piece.now turn.start }
     ensures words { length to.new ≡ length to.old }
 {
-    let again = Turn {
+    let again = PartStart {
         start: turn.start,
         entered: is_entered(step, piece, turn, is_last),
     };
@@ -194,9 +200,9 @@ fn pass_copy(step: &Step<'_>, to: &mut [u64], piece: &Part<'_>, turn: Turn, is_l
 // Goes over the copies of a piece.
 #[cycle(pass)]
 fn pass_copies(
-    step: &Step<'_>,
+    step: &PassInput<'_>,
     to: &mut [u64],
-    piece: &Part<'_>,
+    piece: &PatternPart<'_>,
     copies: &Copies,
     mut entered: bool,
 ) -> bool
@@ -217,7 +223,7 @@ fn pass_copies(
     let mut ends = false;
     let mut copy = next_copy(step.from, copies, 0, entered);
     'copies: while copy < copies.times {
-        let turn = Turn {
+        let turn = PartStart {
             start: copies.start + copies.size * copy,
             entered,
         };
@@ -233,7 +239,7 @@ fn pass_copies(
 /// where it is entered, if they may be entered themselves and there is a bit for them. Gives
 /// whether a marked place ends it.
 #[cycle(pass)]
-pub fn pass(step: &Step<'_>, to: &mut [u64], part: &Part<'_>, turn: Turn) -> bool
+pub fn pass(step: &PassInput<'_>, to: &mut [u64], part: &PatternPart<'_>, turn: PartStart) -> bool
     requires few { turn.start + positions part.now ≤ MOST_PLACES }
     ensures bits { (q : ℕ) → q < 64 * length to.old
         → bit to.new q ≡ (bit to.old q || moves_to step.now.entry
@@ -251,14 +257,14 @@ pub fn pass(step: &Step<'_>, to: &mut [u64], part: &Part<'_>, turn: Turn) -> boo
         return false;
     }
     match part.shape() {
-        Shape::Set(class) => {
+        PartKind::Set(class) => {
             set_if(to, turn.start, turn.entered && step.entry.admits(&class));
             is_marked(step.from, turn.start)
         }
-        Shape::Nothing => false,
-        Shape::Both(first, second) => pass_both(step, to, &first, &second, turn),
-        Shape::Either(left, right) => pass_either(step, to, &left, &right, turn),
-        Shape::Repeat { least, most, piece } => {
+        PartKind::Nothing => false,
+        PartKind::Both(first, second) => pass_both(step, to, &first, &second, turn),
+        PartKind::Either(left, right) => pass_either(step, to, &left, &right, turn),
+        PartKind::Repeat { least, most, piece } => {
             let copies = copies_from(least, most, piece.places(), turn.start);
             pass_copies(step, to, &piece, &copies, turn.entered)
         }

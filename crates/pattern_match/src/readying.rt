@@ -14,7 +14,7 @@ use crate::class::Class;
 use crate::compile::compiled;
 use crate::layout::lay;
 use crate::operation::Operation;
-use crate::part::Part;
+use crate::part::PatternPart;
 use crate::segment::Segment;
 use crate::spelling::operations_of;
 use crate::tables::{accept_row, classes_of, follow_table};
@@ -180,7 +180,7 @@ fn with_operations(alloc: Global, operations: Vec<Operation>) -> Result<PatternT
     ensures { IfOk result (λ ready. (tree : Tree)
         → AreOperationsOf operations.items tree → IsReadyFor tree ready) }
 {
-    let rows = Part::of(operations.as_slice()).places() + 1;
+    let rows = PatternPart::of(operations.as_slice()).places() + 1;
     Ok(PatternTables {
         is_bare: false,
         rows,

@@ -8,7 +8,7 @@ ghost use Rattle.pattern_match.specs.States.{bit};
 ghost use Rattle.pattern_match.specs.Tables.{ends, leads};
 
 use crate::bits::{clear, has_bit, is_row, next_marked, set_bit};
-use crate::entry::Entry;
+use crate::entry::EnteredPlaces;
 use crate::operation::Operation;
 use crate::over::{ends_over, go_over, place_count};
 
@@ -25,7 +25,7 @@ fn mark_alone(alone: &mut [u64], p: usize)
 // Makes the row the marks of the places that follow one and may be entered.
 fn follow_alone(
     operations: &[Operation],
-    entry: Entry,
+    entry: EnteredPlaces,
     p: usize,
     alone: &mut [u64],
     row: &mut [u64],
@@ -73,7 +73,7 @@ fn ends_before(
     if !is_end(operations, p, alone) {
         return false;
     }
-    follow_alone(operations, Entry::Free, p, alone, row);
+    follow_alone(operations, EnteredPlaces::Free, p, alone, row);
     has_bit(row, 0, q)
 }
 
@@ -89,7 +89,7 @@ fn is_onward(operations: &[Operation], q: usize, alone: &mut [u64], row: &mut [u
     if !is_end(operations, q, alone) {
         return false;
     }
-    follow_alone(operations, Entry::ByEach, q, alone, row);
+    follow_alone(operations, EnteredPlaces::ByEach, q, alone, row);
     has_bit(row, 0, q)
 }
 
@@ -165,7 +165,7 @@ pub fn has_loop_over(
     if !ends_over(operations, marks) {
         return false;
     }
-    go_over(operations, Entry::ByEach, marks, row);
+    go_over(operations, EnteredPlaces::ByEach, marks, row);
     let count = place_count(operations);
     let mut q = next_marked(row, 0, count);
     'places: while q < count {
@@ -194,7 +194,7 @@ fn leads_to_marks(
     ensures alone { length alone.new ≡ length alone.old }
     ensures row { length row.new ≡ length row.old }
 {
-    follow_alone(operations, Entry::Free, p, alone, row);
+    follow_alone(operations, EnteredPlaces::Free, p, alone, row);
     is_row(marks, row, 0)
 }
 
@@ -214,7 +214,7 @@ pub fn are_steady_over(
     ensures alone { length alone.new ≡ length alone.old }
     ensures row { length row.new ≡ length row.old }
 {
-    go_over(operations, Entry::ByEach, marks, row);
+    go_over(operations, EnteredPlaces::ByEach, marks, row);
     if !is_row(marks, row, 0) {
         return false;
     }

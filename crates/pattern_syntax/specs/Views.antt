@@ -8,7 +8,7 @@ use Rattle.pattern_syntax.specs.declared.token.Token.{Token}
 use Rattle.pattern_syntax.specs.declared.token.Token.TheVariants.{Byte, Set, Open, Close, Bar}
 use Rattle.pattern_syntax.specs.declared.token.Token.TheVariants.{Anchor, Times}
 use Rattle.pattern_syntax.specs.declared.byte_set.ByteSet.{ByteSet}
-use Rattle.pattern_syntax.specs.declared.bracket.Part.{Part}
+use Rattle.pattern_syntax.specs.declared.bracket.SetPart.{SetPart}
 use Rattle.pattern_syntax.specs.Escapes as escapes
 use Rattle.pattern_syntax.specs.declared.item.Item.{Item}
 use Rattle.pattern_syntax.specs.declared.item.Item.TheVariants.{One, Class}
@@ -26,7 +26,7 @@ item_cut cut = (escape_item cut.0, cut.1)
 abbrev pub class_cut : ByteSet × ℕ → (ℕ → Bool) × ℕ
 class_cut cut = (has_byte cut.0, cut.1)
 
-abbrev pub part_of : Part → brackets.ClassPart
+abbrev pub part_of : SetPart → brackets.ClassPart
 part_of part = record { has = has_byte part.set; low = part.low; length = part.length }
 
 -- a set, as its bytes, and its length

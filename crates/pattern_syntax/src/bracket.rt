@@ -24,7 +24,7 @@ use crate::refusal::Refusal;
 
 /// A part of a set: an item, or a range.
 #[derive(Clone, Copy)]
-pub(crate) struct Part {
+pub(crate) struct SetPart {
     set: ByteSet,
     /// The byte that may be the low end of a range behind this part.
     low: Option<u8>,
@@ -133,23 +133,23 @@ fn between(low: u8, high: u8) -> ByteSet
     ByteSet::empty().with_range(low, high)
 }
 
-fn single_part(b: u8, length: usize) -> Part
+fn single_part(b: u8, length: usize) -> SetPart
     ensures { part_of result ≡ single_part b length }
 {
-    Part {
+    SetPart {
         set: between(b, b),
         low: Some(b),
         length,
     }
 }
 
-fn read_lone_part(text: &[u8]) -> Result<Part, Refusal>
+fn read_lone_part(text: &[u8]) -> Result<SetPart, Refusal>
     ensures value { Answers part_of why_refused result (lone_part (item_at text.now)) }
     ensures within { IfOk result (λ part. (0 < part.length) × (part.length ≤ length text.now)) }
 {
     match read_item(text)? {
         (Item::One(b), length) => Ok(single_part(b, length)),
-        (Item::Class(set), length) => Ok(Part {
+        (Item::Class(set), length) => Ok(SetPart {
             set,
             low: None,
             length,
@@ -157,7 +157,7 @@ fn read_lone_part(text: &[u8]) -> Result<Part, Refusal>
     }
 }
 
-fn read_range(low: u8, text: &[u8]) -> Result<Part, Refusal>
+fn read_range(low: u8, text: &[u8]) -> Result<SetPart, Refusal>
     ensures value { Answers part_of why_refused result (range_part low (item_at text.now)) }
     ensures within { IfOk result (λ part. (0 < part.length) × (part.length ≤ length text.now + 1)) }
 {
@@ -166,7 +166,7 @@ fn read_range(low: u8, text: &[u8]) -> Result<Part, Refusal>
             if high < low {
                 return Err(Refusal::Syntax);
             }
-            Ok(Part {
+            Ok(SetPart {
                 set: between(low, high),
                 low: None,
                 length: length + 1,
@@ -177,7 +177,7 @@ fn read_range(low: u8, text: &[u8]) -> Result<Part, Refusal>
 }
 
 #[tactic(auto, unfolding(crate::specs::Brackets::dash_part))]
-fn read_dash(low: u8, text: &[u8]) -> Result<Part, Refusal>
+fn read_dash(low: u8, text: &[u8]) -> Result<SetPart, Refusal>
     ensures value { Answers part_of why_refused result (dash_part low text.now) }
     ensures within { IfOk result (λ part. (0 < part.length) × (part.length ≤ length text.now + 1)) }
 {
@@ -188,7 +188,7 @@ fn read_dash(low: u8, text: &[u8]) -> Result<Part, Refusal>
 }
 
 #[tactic(auto, unfolding(crate::specs::Brackets::part_behind))]
-fn read_part(low: Option<u8>, text: &[u8]) -> Result<Part, Refusal>
+fn read_part(low: Option<u8>, text: &[u8]) -> Result<SetPart, Refusal>
     ensures value { Answers part_of why_refused result (part_at low text.now) }
     ensures within { IfOk result (λ part. (0 < part.length) × (part.length ≤ length text.now)) }
 {

@@ -37,7 +37,7 @@ use Rattle.policy_rehearsal.specs.Standing.{IsAt, IsStandingKept, IsRunTaken}
 use Rattle.policy_rehearsal.specs.declared.rehearsal.Standing.{Standing}
 use Rattle.policy_rehearsal.specs.declared.rehearsal.Taken.{Taken}
 use Rattle.policy_rehearsal.specs.declared.rehearsed.Rehearsed.{Rehearsed}
-use Rattle.policy_rehearsal.specs.declared.rehearsed.Turn.{Turn}
+use Rattle.policy_rehearsal.specs.declared.rehearsed.VersionChanges.{VersionChanges}
 use Rattle.policy_rehearsal.proofs.TurnLemmas.{none_after, none_over}
 use Rattle.policy_rehearsal.proofs.Unlabelled.{differs}
 
@@ -229,7 +229,7 @@ at_more tree runs more run at is now =
     (sym (ap (end tree (bare_state tree)) is ∙ end_more tree (bare_state tree) runs run)) now
 
 pub shown_more : (tree : List Record) (runs more : List TreeRun) (run : TreeRun)
-    (turns now : List Turn) (turn : Turn) → more ≡ runs ++ run ∷ []
+    (turns now : List VersionChanges) (turn : VersionChanges) → more ≡ runs ++ run ∷ []
     → now ≡ turns ++ turn ∷ [] → map turn_lent turns ≡ turns_from tree (bare_state tree) runs
     → turn_lent turn ≡ turn_in (walk_at tree (end tree (bare_state tree) runs) run)
     → map turn_lent now ≡ turns_from tree (bare_state tree) more

@@ -12,7 +12,7 @@ use Rattle.tree_model.specs.Groups.{groups_in}
 use Rattle.relabel_core.specs.Answer.{walk_in}
 use Rattle.relabel_core.specs.Walk.{Walk}
 use Rattle.relabel_runs.specs.Runs.{tree_labelled}
-use Rattle.policy_rehearsal.specs.declared.seen.Seen.{Seen}
+use Rattle.policy_rehearsal.specs.declared.seen.VersionWalk.{VersionWalk}
 
 abbrev pub label_or_none : Option LabelAfter → Label
 label_or_none None = Absent
@@ -27,7 +27,7 @@ abbrev pub walk_over : Walk → (ℕ → Label) → Walk
 walk_over w labels = record w { entries = tree_labelled w.entries labels }
 
 -- the walk over the tree with the labels that its groups have by now
-abbrev pub walk_seen : Seen → Walk
+abbrev pub walk_seen : VersionWalk → Walk
 walk_seen seen = walk_over (walk_in seen.walked.now) (labels_listed seen.labels.now)
 
 -- the verdict on a label where this context is wanted
@@ -36,7 +36,7 @@ verdict_wanted label None force types = Keep
 verdict_wanted label (Some wanted) force types = verdict_for label wanted force types
 
 -- the walk was over this tree by these rules, and changes labels; each group has a label
-pub record IsSeen (seen : Seen) : Type 0 where
+pub record IsSeen (seen : VersionWalk) : Type 0 where
   pub tree : (walk_in seen.walked.now).entries ≡ seen.tree.now
   pub rules : (walk_in seen.walked.now).rules ≡ seen.rules.now
   pub force : (walk_in seen.walked.now).options.force ≡ seen.force

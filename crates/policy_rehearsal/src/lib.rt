@@ -18,7 +18,7 @@ mod words;
 pub use laws::{answers_keep_labels, changes_lead_there, constants_are_stated};
 pub use letters::MOST_POLICIES;
 pub use rehearsal::{RehearsalInput, rehearse};
-pub use rehearsed::{Change, Rehearsed, Turn};
+pub use rehearsed::{Change, Rehearsed, VersionChanges};
 pub use texts::text;
 pub use words::{RehearseWords, read_rehearse};
 

@@ -16,8 +16,8 @@ ghost use Rattle.policy_rehearsal.specs.Standing.{IsAsked, IsAt, IsStandingKept,
 ghost use Rattle.policy_rehearsal.specs.Standing.{run_asked};
 
 use crate::groups::first_labels;
-use crate::rehearsed::{Rehearsed, Turn};
-use crate::seen::Seen;
+use crate::rehearsed::{Rehearsed, VersionChanges};
+use crate::seen::VersionWalk;
 use crate::turn::{labels_after, stored_after, turn_of};
 use label_base::{OutOfMemory, Row, Steps};
 use label_rules::{LabelAfter, Rules};
@@ -48,7 +48,7 @@ pub struct Standing<'a> {
 // What a version does, and what it leaves.
 #[derive(Drop)]
 pub struct Taken<'a> {
-    turn: Turn<'a>,
+    turn: VersionChanges<'a>,
     left: Standing<'a>,
 }
 
@@ -71,7 +71,7 @@ fn walk_by<'a, L: Ledger>(
 // What is told of a walk, and what it leaves.
 fn taken_from<'a>(
     alloc: Global,
-    seen: &Seen<'_, 'a>,
+    seen: &VersionWalk<'_, 'a>,
     stored: &Stored,
 ) -> Result<Taken<'a>, OutOfMemory>
     requires seen { IsSeen seen.now }
@@ -116,7 +116,7 @@ fn take_turn<'a>(
         &at.stored,
     );
     let walked = walk_by::<Brand>(alloc, &input, Blank::new(1))?;
-    let seen = Seen {
+    let seen = VersionWalk {
         tree: asked.tree,
         rules,
         force: asked.options.force,

@@ -12,7 +12,7 @@ pub struct Change<'a> {
 }
 
 /// What one version does.
-pub struct Turn<'a> {
+pub struct VersionChanges<'a> {
     /// The labels that it changes, in the order of the entries.
     pub changes: Row<Change<'a>>,
     /// How many directories it skips, without those below them.
@@ -20,9 +20,9 @@ pub struct Turn<'a> {
 }
 
 // By hand: one call for an owner, where a derived drop is a step for each field.
-impl Drop for Turn<'_> {
+impl Drop for VersionChanges<'_> {
     fn drop(self) {
-        let Turn {
+        let VersionChanges {
             changes: _,
             skipped: _,
         } = self;
@@ -32,7 +32,7 @@ impl Drop for Turn<'_> {
 /// What several versions do, one after the other. It borrows from the tree and from the policies.
 pub struct Rehearsed<'a> {
     /// One for each version.
-    pub turns: Row<Turn<'a>>,
+    pub turns: Row<VersionChanges<'a>>,
     /// The labels at the end, one for each group of names of one inode.
     pub labels: Row<LabelAfter<'a>>,
 }

@@ -20,7 +20,7 @@ use tree_model::Tree;
 /// and which digests are made anew depend on no label, so a walk over the tree as it was tells
 /// them.
 #[derive(Clone, Copy)]
-pub struct Seen<'w, 'a> {
+pub struct VersionWalk<'w, 'a> {
     pub tree: &'a Tree,
     pub rules: &'a Rules,
     pub force: bool,
@@ -30,7 +30,7 @@ pub struct Seen<'w, 'a> {
 }
 
 /// The label that a group has by now.
-pub fn label_now<'a>(seen: &Seen<'_, 'a>, g: u32) -> LabelAfter<'a>
+pub fn label_now<'a>(seen: &VersionWalk<'_, 'a>, g: u32) -> LabelAfter<'a>
     requires seen { IsSeen seen.now }
     requires group { g < groups_in seen.now.tree.now }
     ensures { label_seen result ≡ labels_listed seen.now.labels.now g }
@@ -40,7 +40,7 @@ pub fn label_now<'a>(seen: &Seen<'_, 'a>, g: u32) -> LabelAfter<'a>
 }
 
 // The context that is decided for an entry.
-fn wanted_at<'a>(seen: &Seen<'_, 'a>, e: u32) -> Option<&'a Context>
+fn wanted_at<'a>(seen: &VersionWalk<'_, 'a>, e: u32) -> Option<&'a Context>
     requires seen { IsSeen seen.now }
     requires entry { e < length seen.now.tree.now }
     ensures { option_copied result ≡ wanted (walk_in seen.now.walked.now) e }
@@ -50,7 +50,7 @@ fn wanted_at<'a>(seen: &Seen<'_, 'a>, e: u32) -> Option<&'a Context>
 }
 
 // The context that is decided for the winner of an entry's group.
-fn winning_at<'a>(seen: &Seen<'_, 'a>, e: u32) -> Option<&'a Context>
+fn winning_at<'a>(seen: &VersionWalk<'_, 'a>, e: u32) -> Option<&'a Context>
     requires seen { IsSeen seen.now }
     requires entry { e < length seen.now.tree.now }
     ensures { option_copied result
@@ -65,7 +65,7 @@ fn winning_at<'a>(seen: &Seen<'_, 'a>, e: u32) -> Option<&'a Context>
 
 // What becomes of a label where this context is wanted.
 fn verdict_where<'a>(
-    seen: &Seen<'_, 'a>,
+    seen: &VersionWalk<'_, 'a>,
     label: &LabelAfter<'a>,
     wanted: Option<&'a Context>,
 ) -> Verdict<'a>
@@ -82,7 +82,7 @@ fn verdict_where<'a>(
 }
 
 /// What becomes of the label of an entry's group.
-pub fn verdict_at<'a>(seen: &Seen<'_, 'a>, e: u32) -> Verdict<'a>
+pub fn verdict_at<'a>(seen: &VersionWalk<'_, 'a>, e: u32) -> Verdict<'a>
     requires seen { IsSeen seen.now }
     requires entry { e < length seen.now.tree.now }
     ensures { verdict_of result ≡ verdict (walk_seen seen.now) (group_of seen.now.tree.now e) }
@@ -92,7 +92,7 @@ pub fn verdict_at<'a>(seen: &Seen<'_, 'a>, e: u32) -> Verdict<'a>
 }
 
 /// The context that the label of an entry changes to, if it changes.
-pub fn change_at<'a>(seen: &Seen<'_, 'a>, e: u32) -> Option<ContextRef<'a>>
+pub fn change_at<'a>(seen: &VersionWalk<'_, 'a>, e: u32) -> Option<ContextRef<'a>>
     requires seen { IsSeen seen.now }
     requires entry { e < length seen.now.tree.now }
     ensures { option_map context_lent result ≡ change_at (walk_seen seen.now) e }
@@ -104,7 +104,7 @@ pub fn change_at<'a>(seen: &Seen<'_, 'a>, e: u32) -> Option<ContextRef<'a>>
     }
 }
 
-impl LabelChanges for Seen<'_, '_> {
+impl LabelChanges for VersionWalk<'_, '_> {
     ghost walk = { walk_seen };
 
     ghost IsWhole = { IsSeen };
@@ -128,7 +128,7 @@ fn number_at(numbers: &[u32], i: u32) -> u32
 }
 
 /// The label of a group after the walk.
-pub fn label_after<'a>(seen: &Seen<'_, 'a>, g: u32) -> LabelAfter<'a>
+pub fn label_after<'a>(seen: &VersionWalk<'_, 'a>, g: u32) -> LabelAfter<'a>
     requires seen { IsSeen seen.now }
     requires group { g < groups_in seen.now.tree.now }
     ensures { label_seen result ≡ new_label (walk_seen seen.now) g }

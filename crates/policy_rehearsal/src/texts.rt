@@ -9,7 +9,7 @@ ghost use Rattle.policy_rehearsal.specs.Lent.{change_lent, rehearsed_lent, turn_
 ghost use Rattle.policy_rehearsal.specs.Text.{change_message, text_at, rehearsal_text, turn_head};
 ghost use Rattle.policy_rehearsal.specs.Text.{turn_text};
 
-use crate::rehearsed::{Change, Rehearsed, Turn};
+use crate::rehearsed::{Change, Rehearsed, VersionChanges};
 use context_syntax::{ContextRef, Label};
 use file_paths::PathRef;
 use label_base::{Bytes, Name, OutOfMemory, Row, write_escaped};
@@ -135,7 +135,7 @@ fn add_turn(
     alloc: Global,
     tree: &Tree,
     version: &Version<'_>,
-    turn: &Turn<'_>,
+    turn: &VersionChanges<'_>,
     text: &mut Bytes,
 ) -> Result<(), OutOfMemory>
     ensures { OnOk result (text.new ≡ text.old

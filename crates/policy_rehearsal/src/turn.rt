@@ -18,8 +18,8 @@ ghost use Rattle.policy_rehearsal.specs.Lent.{change_lent, turn_lent};
 ghost use Rattle.policy_rehearsal.specs.Rehearsal.{change_to, changes_in, skipped_in, turn_in};
 ghost use Rattle.policy_rehearsal.specs.Seen.{IsSeen, walk_seen};
 
-use crate::rehearsed::{Change, Turn};
-use crate::seen::{Seen, change_at, label_after, label_now};
+use crate::rehearsed::{Change, VersionChanges};
+use crate::seen::{VersionWalk, change_at, label_after, label_now};
 use dir_digest::Digest;
 use label_base::{Bytes, OutOfMemory, Row};
 use label_rules::LabelAfter;
@@ -27,7 +27,7 @@ use relabel_core::{Stored, Walked, count_at, count_changed};
 use std::alloc::Global;
 
 // The change of an entry's label, if it changes.
-fn change_of<'a>(seen: &Seen<'_, 'a>, e: u32) -> Option<Change<'a>>
+fn change_of<'a>(seen: &VersionWalk<'_, 'a>, e: u32) -> Option<Change<'a>>
     requires seen { IsSeen seen.now }
     requires entry { e < length seen.now.tree.now }
     ensures { option_map change_lent result
@@ -57,7 +57,7 @@ fn add_change<'a>(
 }
 
 // The labels that change, in the order of the entries.
-fn changes_of<'a>(alloc: Global, seen: &Seen<'_, 'a>) -> Result<Row<Change<'a>>, OutOfMemory>
+fn changes_of<'a>(alloc: Global, seen: &VersionWalk<'_, 'a>) -> Result<Row<Change<'a>>, OutOfMemory>
     requires { IsSeen seen.now }
     ensures { IfOk result (λ changes. map change_lent changes ≡ changes_in (walk_seen seen.now)) }
 {
@@ -80,11 +80,14 @@ fn count_skipped(walked: &Walked<'_>) -> u32
 }
 
 /// What a version changes and skips.
-pub fn turn_of<'a>(alloc: Global, seen: &Seen<'_, 'a>) -> Result<Turn<'a>, OutOfMemory>
+pub fn turn_of<'a>(
+    alloc: Global,
+    seen: &VersionWalk<'_, 'a>,
+) -> Result<VersionChanges<'a>, OutOfMemory>
     requires { IsSeen seen.now }
     ensures { IfOk result (λ turn. turn_lent turn ≡ turn_in (walk_seen seen.now)) }
 {
-    Ok(Turn {
+    Ok(VersionChanges {
         changes: changes_of(alloc, seen)?,
         skipped: count_skipped(seen.walked),
     })
@@ -93,7 +96,7 @@ pub fn turn_of<'a>(alloc: Global, seen: &Seen<'_, 'a>) -> Result<Turn<'a>, OutOf
 /// The labels that a version leaves, one for each group.
 pub fn labels_after<'a>(
     alloc: Global,
-    seen: &Seen<'_, 'a>,
+    seen: &VersionWalk<'_, 'a>,
 ) -> Result<Row<LabelAfter<'a>>, OutOfMemory>
     requires { IsSeen seen.now }
     ensures { IfOk result (λ labels. map label_seen labels
@@ -107,7 +110,7 @@ pub fn labels_after<'a>(
 }
 
 // Whether the label of an entry at or below another changes.
-fn does_rise(seen: &Seen<'_, '_>, counts: &[u32], d: u32) -> bool
+fn does_rise(seen: &VersionWalk<'_, '_>, counts: &[u32], d: u32) -> bool
     requires counted { AreWalkCounts (walk_seen seen.now) (walk_count (walk_seen seen.now))
         counts.now }
     requires seen { IsSeen seen.now }
@@ -148,7 +151,7 @@ fn kept_or_void(
 // The digest of an entry that a version leaves.
 fn digest_at(
     alloc: Global,
-    seen: &Seen<'_, '_>,
+    seen: &VersionWalk<'_, '_>,
     stored: &Stored,
     counts: &[u32],
     d: u32,
@@ -169,7 +172,7 @@ fn digest_at(
 // The digests that a version leaves, one item for each entry.
 fn digests_after(
     alloc: Global,
-    seen: &Seen<'_, '_>,
+    seen: &VersionWalk<'_, '_>,
     stored: &Stored,
 ) -> Result<Row<Option<Bytes>>, OutOfMemory>
     requires seen { IsSeen seen.now }
@@ -187,7 +190,7 @@ fn digests_after(
 /// The digests that a version leaves.
 pub fn stored_after(
     alloc: Global,
-    seen: &Seen<'_, '_>,
+    seen: &VersionWalk<'_, '_>,
     stored: &Stored,
 ) -> Result<Stored, OutOfMemory>
     requires seen { IsSeen seen.now }

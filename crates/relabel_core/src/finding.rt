@@ -19,7 +19,7 @@ use std::alloc::Global;
 
 /// What is found of a directory by itself, whatever is found of those above it.
 #[derive(Clone, Copy, Debug)]
-pub struct Finding {
+pub struct DirectoryFinding {
     /// Its digest, where anything depends on it.
     pub digest: Option<Digest>,
     /// Whether it may be passed over with all below it.
@@ -123,7 +123,7 @@ pub fn find_directory(
     d: u32,
     listings: &Listings<'_>,
     buffers: &mut Buffers,
-) -> Result<Finding, OutOfMemory>
+) -> Result<DirectoryFinding, OutOfMemory>
     requires fit { IsFit input.now }
     requires entry { d < walk_count (walk_of input.now) }
     requires listings { basis_in listings.now ≡ basis_by input.now.rules.now input.now.options }
@@ -135,7 +135,7 @@ pub fn find_directory(
 {
     let digest = digest_if_needed(alloc, input, d, listings, buffers)?;
     let skippable = meets(input, d, &digest);
-    Ok(Finding { digest, skippable })
+    Ok(DirectoryFinding { digest, skippable })
 }
 
 /// The digest that an entry gets anew, of which it is known what was found and whether it is

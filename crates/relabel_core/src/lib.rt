@@ -32,7 +32,7 @@ pub use digesting::{Buffers, buffers_for, digest_of, listings_by};
 pub use digests::Digests;
 pub use directories::sweep_directories;
 pub use dump::{PathChanges, add_section_of};
-pub use finding::{Finding, find_directory, renewed_digest, uses_digests};
+pub use finding::{DirectoryFinding, find_directory, renewed_digest, uses_digests};
 pub use input::{WalkInput, walk_input};
 pub use known::{EntryFound, Known, group_change, group_label, group_verdict, is_found_at};
 pub use laws::table_walk_is_walk;

@@ -8,7 +8,7 @@ ghost use Rattle.relabel_workers.specs.Alone.{AreListingsFor, IsNoteOf, decided_
 use dir_digest::Listings;
 use label_base::{OutOfMemory, Steps};
 use label_rules::look_up;
-use relabel_core::{Buffers, Finding, WalkInput, find_directory};
+use relabel_core::{Buffers, DirectoryFinding, WalkInput, find_directory};
 use spec_match::Scratch;
 use std::alloc::Global;
 use std::marker::Brand;
@@ -20,7 +20,7 @@ pub struct Note {
     pub entry: u32,
     /// The specification that decides it, if no directory above it is skipped.
     pub decided: Option<u32>,
-    pub finding: Finding,
+    pub finding: DirectoryFinding,
 }
 
 // A look-up that nobody counts.
@@ -90,7 +90,7 @@ fn find_alone(
     e: u32,
     listings: &Option<Listings<'_>>,
     buffers: &mut Buffers,
-) -> Result<Finding, OutOfMemory>
+) -> Result<DirectoryFinding, OutOfMemory>
     requires fit { IsFit input.now }
     requires entry { e < walk_count (walk_of input.now) }
     requires listings { AreListingsFor input.now listings.now }
@@ -101,7 +101,7 @@ fn find_alone(
         found.skippable ≡ skippable (walk_of input.now) e) }
 {
     match listings {
-        None => Ok(Finding {
+        None => Ok(DirectoryFinding {
             digest: None,
             skippable: false,
         }),

@@ -15,7 +15,7 @@ use Rattle.setfattr_dump.specs.declared.fault.DumpWhy.{DumpWhy}
 use Rattle.setfattr_dump.specs.declared.fault.DumpWhy.TheVariants.{BadName}
 use Rattle.setfattr_dump.specs.declared.line.Said.{Said}
 use Rattle.setfattr_dump.specs.declared.line.Said.TheVariants.{Ends, Names, Gives}
-use Rattle.setfattr_dump.specs.declared.reading.SoFar.{SoFar}
+use Rattle.setfattr_dump.specs.declared.reading.SectionsSoFar.{SectionsSoFar}
 use Rattle.setfattr_dump.specs.Reading.{line_read, name_read, open_section, said_then}
 use Rattle.setfattr_dump.specs.Reading.{sections_from, spelled_path, with_slash}
 use Rattle.setfattr_dump.specs.SoFar.{IsState, TakesSaid}
@@ -50,22 +50,24 @@ with_front-with_front first more (Ok sections) = ap Ok (sym (append_assoc first 
 with_front-with_front first more (Err refused) = refl
 
 -- what is read of the lines that are left, behind what is read so far
-abbrev pub left_read : ℕ → SoFar → List (List ℕ) → Result (List Section) (RefusedLine DumpWhy)
+abbrev pub left_read : ℕ → SectionsSoFar → List (List ℕ)
+    → Result (List Section) (RefusedLine DumpWhy)
 left_read number s lines = with_front s.sections (sections_from number s.name s.attrs lines)
 
-abbrev said_read : ℕ → SoFar → Result Said DumpWhy → List (List ℕ)
+abbrev said_read : ℕ → SectionsSoFar → Result Said DumpWhy → List (List ℕ)
     → Result (List Section) (RefusedLine DumpWhy)
 said_read number s said lines =
     with_front s.sections
     (said_then number s.name s.attrs said
     (λ other given. sections_from (number + 1) other given lines))
 
-goes_to : (number : ℕ) (new : SoFar) (sections : List Section) (name : Option Path)
+goes_to : (number : ℕ) (new : SectionsSoFar) (sections : List Section) (name : Option Path)
     (attrs : List Attr) (lines : List (List ℕ)) → IsState new sections name attrs
     → with_front sections (sections_from number name attrs lines) ≡ left_read number new lines
 goes_to number new sections name attrs lines s = rw (s.sections_are, s.name_is, s.attrs_are) refl
 
-taken_of : (number : ℕ) (old new : SoFar) (said : Result Said DumpWhy) (lines : List (List ℕ))
+taken_of : (number : ℕ) (old new : SectionsSoFar) (said : Result Said DumpWhy) (lines : List
+    (List ℕ))
     → TakesSaid said old new → said_read number old said lines ≡ left_read (number + 1) new lines
 taken_of number old new (Err why) lines t = absurd t
 taken_of number old new (Ok Ends) lines t =
@@ -81,7 +83,7 @@ taken_of number old new (Ok (Gives attr)) lines t = goes_to (number + 1) new old
     (old.attrs ++ attr ∷ []) lines t
 
 -- a line that is taken
-pub taken : (number : ℕ) (old new : SoFar) (line : List ℕ) (all lines : List (List ℕ))
+pub taken : (number : ℕ) (old new : SectionsSoFar) (line : List ℕ) (all lines : List (List ℕ))
     (meant : Result (List Section) (RefusedLine DumpWhy)) → left_read number old all ≡ meant
     → all ≡ line ∷ lines → TakesSaid (line_read (is_some old.name) line) old new
     → left_read (number + 1) new lines ≡ meant
@@ -91,7 +93,7 @@ taken number old new line all lines meant h e t =
     ∙ sym (ap (left_read number old) e) ∙ h
 
 -- a line that is refused
-pub refused : (number : ℕ) (old : SoFar) (line : List ℕ) (all lines : List (List ℕ))
+pub refused : (number : ℕ) (old : SectionsSoFar) (line : List ℕ) (all lines : List (List ℕ))
     (meant : Result (List Section) (RefusedLine DumpWhy)) (why : DumpWhy) → left_read number old all
     ≡ meant → all ≡ line ∷ lines → line_read (is_some old.name) line ≡ Err why
     → meant ≡ Err (record { number = number; why = why })
@@ -100,7 +102,7 @@ refused number old line all lines meant why h e bad =
     sym h ∙ ap (left_read number old) e ∙ ap (λ said. said_read number old said lines) bad
 
 -- no line is left
-pub ended : (number : ℕ) (old new : SoFar) (all : List (List ℕ))
+pub ended : (number : ℕ) (old new : SectionsSoFar) (all : List (List ℕ))
     (meant : Result (List Section) (RefusedLine DumpWhy)) → left_read number old all ≡ meant
     → all ≡ [] → IsState new (old.sections ++ open_section old.name old.attrs) None []
     → meant ≡ Ok new.sections
@@ -109,7 +111,7 @@ ended number old new all meant h e s = sym h ∙ ap (left_read number old) e
     ∙ ap Ok (sym s.sections_are)
 
 -- the first refused line, or want of memory
-pub refused_or_none : (number : ℕ) (old : SoFar) (line : List ℕ) (all lines : List (List ℕ))
+pub refused_or_none : (number : ℕ) (old : SectionsSoFar) (line : List ℕ) (all lines : List (List ℕ))
     (meant : Result (List Section) (RefusedLine DumpWhy)) (cause : Option DumpWhy)
     (shown : Option (RefusedLine DumpWhy))
     → shown ≡ option_map (λ why. record { number = number; why = why }) cause

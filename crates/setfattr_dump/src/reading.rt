@@ -14,14 +14,14 @@ use std::mem;
 
 // The sections that are closed, and the name and the attributes of the one that is open, if one is.
 #[derive(Drop)]
-pub struct SoFar {
+pub struct SectionsSoFar {
     pub sections: Row<Section>,
     pub name: Option<NormPath>,
     pub attrs: Row<Attr>,
 }
 
 // Closes the section that is open, if one is.
-fn close(alloc: Global, so_far: &mut SoFar) -> Result<(), OutOfMemory>
+fn close(alloc: Global, so_far: &mut SectionsSoFar) -> Result<(), OutOfMemory>
     ensures { OnOk result (IsState so_far.new
         (so_far.old.sections ++ open_section so_far.old.name so_far.old.attrs) None []) }
 {
@@ -32,7 +32,7 @@ fn close(alloc: Global, so_far: &mut SoFar) -> Result<(), OutOfMemory>
     }
 }
 
-fn open(alloc: Global, so_far: &mut SoFar, name: NormPath) -> Result<(), OutOfMemory>
+fn open(alloc: Global, so_far: &mut SectionsSoFar, name: NormPath) -> Result<(), OutOfMemory>
     ensures { OnOk result (IsState so_far.new
         (so_far.old.sections ++ open_section so_far.old.name so_far.old.attrs) (Some name) []) }
 {
@@ -42,7 +42,7 @@ fn open(alloc: Global, so_far: &mut SoFar, name: NormPath) -> Result<(), OutOfMe
 }
 
 // Takes the next line.
-fn take_line(alloc: Global, so_far: &mut SoFar, line: &[u8]) -> Result<(), Fault<DumpWhy>>
+fn take_line(alloc: Global, so_far: &mut SectionsSoFar, line: &[u8]) -> Result<(), Fault<DumpWhy>>
     ensures ok { OnOk result
         (TakesSaid (line_read (is_some so_far.old.name) line.now) so_far.old so_far.new) }
     ensures err { IfErr result (λ fault. Explains (fault_cause fault)
@@ -70,7 +70,7 @@ pub fn read_sections(alloc: Global, bytes: &[u8]) -> Result<Row<Section>, DumpFa
     requires { length bytes.now < 2 ^ 32 }
     ensures { Answers (λ sections. sections) fault_cause result (dump_read bytes.now) }
 {
-    let mut so_far = SoFar {
+    let mut so_far = SectionsSoFar {
         sections: Row::new(alloc),
         name: None,
         attrs: Row::new(alloc),
@@ -85,6 +85,6 @@ pub fn read_sections(alloc: Global, bytes: &[u8]) -> Result<Row<Section>, DumpFa
         }
     }
     close(alloc, &mut so_far)?;
-    let SoFar { sections, .. } = so_far;
+    let SectionsSoFar { sections, .. } = so_far;
     Ok(sections)
 }

@@ -19,7 +19,7 @@ use Rattle.tool_words.specs.Tool.{Tool, takes_of}
 use Rattle.tool_words.specs.Words.{is_operand, items_read, operand_paths, operands_of, path_in}
 use Rattle.tool_words.specs.Words.{paths_of, text_if, unless_wrong, word_texts}
 use Rattle.tool_words.specs.Values.{first_wrong}
-use Rattle.tool_words.specs.declared.cutting.Ahead.{Ahead}
+use Rattle.tool_words.specs.declared.cutting.WordsAhead.{WordsAhead}
 use Rattle.tool_words.specs.declared.cutting.Expects.{Expects}
 use Rattle.tool_words.specs.declared.cutting.Expects.TheVariants.{Any, ValueOf, Operands}
 use Rattle.tool_words.specs.declared.cutting.TheConstants.{END}
@@ -95,7 +95,7 @@ unended_none Any index = refl
 unended_none (ValueOf v) index = refl
 unended_none Operands index = refl
 
-items_few : (tool : Tool) (a : Ahead) (index : ℕ) (words : List (List ℕ))
+items_few : (tool : Tool) (a : WordsAhead) (index : ℕ) (words : List (List ℕ))
     → count (items_from tool a index words) ≤ length words
 unfolding items_from
 items_few tool a index [] = omega (arith, unended_none a.expects index)

@@ -23,7 +23,7 @@ use Rattle.tool_words.specs.Tool.{Tool, takes_of}
 use Rattle.tool_words.specs.Values.{at_index, first_wrong, form_wrong, item_wrong, name_wrong}
 use Rattle.tool_words.specs.Values.{number_named, path_wrong, says_wrong, unless_some, up_to}
 use Rattle.tool_words.specs.Words.{items_read, unless_wrong, usage}
-use Rattle.tool_words.specs.declared.cutting.Ahead.{Ahead}
+use Rattle.tool_words.specs.declared.cutting.WordsAhead.{WordsAhead}
 use Rattle.tool_words.specs.declared.cutting.Expects.{Expects}
 use Rattle.tool_words.specs.declared.cutting.Expects.TheVariants.{Any, ValueOf, Operands}
 use Rattle.tool_words.specs.declared.cutting.TheConstants.{DASH, END}
@@ -206,7 +206,7 @@ missing_stands tool start all index (ValueOf v) i a =
 missing_stands tool start all index Any i a = tt
 missing_stands tool start all index Operands i a = tt
 
-items_stand : (tool : Tool) (start : ℕ) (a : Ahead) (all before words : List (List ℕ))
+items_stand : (tool : Tool) (start : ℕ) (a : WordsAhead) (all before words : List (List ℕ))
     → (index : ℕ) → all ≡ before ++ words → index ≡ start + length before
     → AreAwaiting tool before a.expects
     → AllByRecursion (IsThere tool start all) (items_from tool a index words)

@@ -4,7 +4,7 @@ use Rattle.std.specs.Prelude.{ℕ, ◌+◌, ◌-◌, Bool, true, false, ◌==◌
 use Rattle.std.specs.Prelude.{Option, Some, None, if◌then◌else◌}
 use Rattle.label_base.specs.Text.{same_bytes}
 use Rattle.tool_words.specs.Tool.{Tool, takes_of}
-use Rattle.tool_words.specs.declared.cutting.Ahead.{Ahead}
+use Rattle.tool_words.specs.declared.cutting.WordsAhead.{WordsAhead}
 use Rattle.tool_words.specs.declared.cutting.Expects.{Expects}
 use Rattle.tool_words.specs.declared.cutting.Expects.TheVariants.{Any, ValueOf, Operands}
 use Rattle.tool_words.specs.declared.cutting.TheConstants.{DASH, END}
@@ -63,12 +63,12 @@ is_cluster [] = false
 is_cluster (b ∷ []) = false
 is_cluster (b ∷ c ∷ bs) = b == DASH
 
-abbrev pub ahead : Expects → Bool → Ahead
+abbrev pub ahead : Expects → Bool → WordsAhead
 ahead expects first = record { expects = expects; first = first }
 
 -- what a word says, and what is ahead of the next one
 abbrev pub Taken : Type 0
-Taken = List Item × Ahead
+Taken = List Item × WordsAhead
 
 -- what an operand says, the first one or a later
 abbrev pub other_says : Others → Says
@@ -103,7 +103,7 @@ word_taken tool (ValueOf v) first index word =
 word_taken tool Operands first index word = operand_taken tool Operands first index word
 word_taken tool Any first index word = any_taken tool first index word
 
-abbrev pub taken : Tool → Ahead → ℕ → List ℕ → Taken
+abbrev pub taken : Tool → WordsAhead → ℕ → List ℕ → Taken
 taken tool a index word = word_taken tool a.expects a.first index word
 
 -- a letter at the words' end that still expects its value: its word, the last one, is wrong
@@ -112,7 +112,7 @@ unended (ValueOf v) index = wrong MissingValue (index - 1) ∷ []
 unended expects index = []
 
 -- what the words from an index on say
-unfoldable pub items_from : Tool → Ahead → ℕ → List (List ℕ) → List Item
+unfoldable pub items_from : Tool → WordsAhead → ℕ → List (List ℕ) → List Item
 items_from tool a index [] = unended a.expects index
 items_from tool a index (word ∷ words) =
     (taken tool a index word).0 ++ items_from tool (taken tool a index word).1 (index + 1) words

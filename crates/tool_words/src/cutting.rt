@@ -32,7 +32,7 @@ pub enum Expects {
 
 /// What is ahead while words are read.
 #[derive(Clone, Copy)]
-pub struct Ahead {
+pub struct WordsAhead {
     pub expects: Expects,
     /// Whether no operand stands before the next word.
     pub first: bool,
@@ -163,11 +163,11 @@ fn operand_says(tool: &ToolLetters<'_>, first: bool) -> Says
 
 fn add_operand<'a>(
     tool: &ToolLetters<'_>,
-    ahead: Ahead,
+    ahead: WordsAhead,
     index: u32,
     word: &'a str,
     items: &mut Row<Item<'a>>,
-) -> Result<Ahead, OutOfMemory>
+) -> Result<WordsAhead, OutOfMemory>
     ensures ahead { IfOk result (λ next.
         next ≡ (operand_taken tool.now ahead.expects ahead.first index word.now).1) }
     ensures items { OnOk result
@@ -175,7 +175,7 @@ fn add_operand<'a>(
         ++ (operand_taken tool.now ahead.expects ahead.first index word.now).0) }
 {
     add(operand_says(tool, ahead.first), index, word, items)?;
-    Ok(Ahead {
+    Ok(WordsAhead {
         expects: ahead.expects,
         first: false,
     })
@@ -189,22 +189,22 @@ fn add_any<'a>(
     index: u32,
     word: &'a str,
     items: &mut Row<Item<'a>>,
-) -> Result<Ahead, OutOfMemory>
+) -> Result<WordsAhead, OutOfMemory>
     ensures ahead { IfOk result (λ next. next ≡ (any_taken tool.now first index word.now).1) }
     ensures items { OnOk result
         (items.new ≡ items.old ++ (any_taken tool.now first index word.now).0) }
 {
     if word == END {
-        return Ok(Ahead {
+        return Ok(WordsAhead {
             expects: Expects::Operands,
             first,
         });
     }
     if is_cluster(word) {
         let expects = add_letters(tool, index, behind_first(word), items)?;
-        return Ok(Ahead { expects, first });
+        return Ok(WordsAhead { expects, first });
     }
-    let ahead = Ahead {
+    let ahead = WordsAhead {
         expects: Expects::Any,
         first,
     };
@@ -214,11 +214,11 @@ fn add_any<'a>(
 // Adds what a word says, and tells what is ahead of the next one.
 fn add_word<'a>(
     tool: &ToolLetters<'_>,
-    ahead: Ahead,
+    ahead: WordsAhead,
     index: u32,
     word: &'a str,
     items: &mut Row<Item<'a>>,
-) -> Result<Ahead, OutOfMemory>
+) -> Result<WordsAhead, OutOfMemory>
     ensures ahead { IfOk result (λ next. next ≡ (taken tool.now ahead index word.now).1) }
     ensures items { OnOk result (items.new ≡ items.old ++ (taken tool.now ahead index word.now).0) }
 {
@@ -235,12 +235,12 @@ fn add_value<'a>(
     index: u32,
     word: &'a str,
     items: &mut Row<Item<'a>>,
-) -> Result<Ahead, OutOfMemory>
+) -> Result<WordsAhead, OutOfMemory>
     ensures ahead { IfOk result (λ next. next ≡ ahead Any first) }
     ensures items { OnOk result (items.new ≡ items.old ++ item (Given valued) index word.now ∷ []) }
 {
     add(Says::Given(valued), index, word, items)?;
-    Ok(Ahead {
+    Ok(WordsAhead {
         expects: Expects::Any,
         first,
     })
@@ -272,7 +272,7 @@ pub fn items_of<'a>(
     ensures { IfOk result (λ items. items ≡ items_of tool.now first (word_texts words.now)) }
 {
     let mut items = Row::new(alloc);
-    let mut ahead = Ahead {
+    let mut ahead = WordsAhead {
         expects: Expects::Any,
         first: true,
     };

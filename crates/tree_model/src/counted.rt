@@ -7,7 +7,7 @@ ghost use Rattle.tree_model.specs.LiveLists.{IsDead};
 ghost use Rattle.tree_model.specs.Tree.{ByPath};
 
 use crate::extents::word_at;
-use crate::groups::{Names, Numbering, part_at};
+use crate::groups::{GroupNames, Numbering, part_at};
 use crate::sorted::Sorted;
 
 // The link count of an entry.
@@ -20,7 +20,7 @@ fn links_of(sorted: &Sorted, e: u32) -> Option<u64>
 }
 
 // How many entries the group of an entry has.
-fn count_names(sorted: &Sorted, numbering: &Numbering, kept: &Names, e: u32) -> usize
+fn count_names(sorted: &Sorted, numbering: &Numbering, kept: &GroupNames, e: u32) -> usize
     requires lists { ListsGroups sorted.now numbering.now.group_of.items
         kept.now.names.items kept.now.starts.items }
     requires known { e < length sorted.now }
@@ -42,7 +42,7 @@ fn is_met(links: Option<u64>, names: usize) -> bool
 
 // Whether the group of an entry has at least as many entries as the entry's link count, where it is
 // no directory.
-fn has_names(sorted: &Sorted, numbering: &Numbering, kept: &Names, e: u32) -> bool
+fn has_names(sorted: &Sorted, numbering: &Numbering, kept: &GroupNames, e: u32) -> bool
     requires lists { ListsGroups sorted.now numbering.now.group_of.items
         kept.now.names.items kept.now.starts.items }
     requires known { e < length sorted.now }
@@ -53,7 +53,7 @@ fn has_names(sorted: &Sorted, numbering: &Numbering, kept: &Names, e: u32) -> bo
 
 // The least entry from this one on whose group lacks a name, by that from the next one on.
 #[tactic(auto, using(crate::proofs::CountedLemmas::lacking_here, crate::proofs::CountedLemmas::lacking_behind))]
-fn next_lacking(sorted: &Sorted, numbering: &Numbering, kept: &Names, e: u32, next: u32) -> u32
+fn next_lacking(sorted: &Sorted, numbering: &Numbering, kept: &GroupNames, e: u32, next: u32) -> u32
     requires lists { ListsGroups sorted.now numbering.now.group_of.items
         kept.now.names.items kept.now.starts.items }
     requires known { e < length sorted.now }
@@ -91,7 +91,7 @@ fn pass_entry(sorted: &Sorted, ends: &[u32], closed: &mut Vec<bool>, e: u32, nex
 pub fn clear_lacking(
     sorted: &Sorted,
     numbering: &Numbering,
-    kept: &Names,
+    kept: &GroupNames,
     ends: &[u32],
     closed: &mut Vec<bool>,
 )
@@ -117,7 +117,7 @@ pub fn clear_lacking(
 pub fn clear_counted(
     sorted: &Sorted,
     numbering: &Numbering,
-    kept: &Names,
+    kept: &GroupNames,
     ends: &[u32],
     closed: &mut Vec<bool>,
 )

@@ -166,7 +166,7 @@ fn push_names(
 /// The entries of all groups, one group behind the other, and where those of each group begin; at
 /// last, how many entries there are.
 #[derive(Drop)]
-pub struct Names {
+pub struct GroupNames {
     pub names: Vec<u32>,
     pub starts: Vec<u32>,
 }
@@ -174,7 +174,7 @@ pub struct Names {
 // Notes where the entries of a group begin, and adds them.
 #[tactic(auto, using(crate::proofs::StartLemmas::start_next, crate::proofs::StartLemmas::few_below))]
 fn push_group(
-    kept: &mut Names,
+    kept: &mut GroupNames,
     chains: &Chains,
     groups: &[u32],
     group: u32,
@@ -201,7 +201,7 @@ fn push_group(
 
 /// Lists the entries group by group.
 #[tactic(auto, using(crate::proofs::StartLemmas::start_next, crate::proofs::StartLemmas::few_below))]
-pub fn list_names(alloc: Global, chains: &Chains, groups: &[u32]) -> Result<Names, OutOfMemory>
+pub fn list_names(alloc: Global, chains: &Chains, groups: &[u32]) -> Result<GroupNames, OutOfMemory>
     requires groups { length groups.now < 2 ^ 32 }
     requires count { length chains.now.first.items < 2 ^ 32 }
     requires first { AreGroupHeads groups.now 0 chains.now.first.items }
@@ -212,7 +212,7 @@ pub fn list_names(alloc: Global, chains: &Chains, groups: &[u32]) -> Result<Name
         AreGroupStarts groups.now (length chains.now.first.items + 1) kept.starts.items) }
 {
     let count = chains.first.len() as u32;
-    let mut kept = Names {
+    let mut kept = GroupNames {
         names: Vec::with_capacity(alloc, groups.len())?,
         starts: Vec::with_capacity(alloc, count as usize + 1)?,
     };

@@ -4,7 +4,7 @@ use Rattle.std.specs.Prelude.{List, [], ◌∷◌, ◌++◌, length, replicate, 
 use Rattle.std.specs.Prelude.{None}
 use Rattle.walk_steps.specs.declared.machine.TheConstants.{NONE_WORD}
 use Rattle.walk_steps.specs.declared.machine.WalkState.{WalkState}
-use Rattle.walk_steps.specs.declared.machine.Machine.{Machine}
+use Rattle.walk_steps.specs.declared.machine.RunningState.{RunningState}
 use Rattle.walk_steps.specs.declared.shape.Shape.{Shape}
 use Rattle.walk_steps.specs.declared.steps.Step.{Step}
 use Rattle.walk_steps.specs.declared.steps.Step.TheVariants.{Take, Offer, Claim}
@@ -105,7 +105,7 @@ Refuses index allowed (NotAllowed at) = (at ≡ index) × (allowed ≡ false)
 Refuses index allowed OutOfMemory = Unit {0}
 
 -- the machine in the code
-abbrev pub state_of : Machine → WalkState
+abbrev pub state_of : RunningState → WalkState
 state_of machine =
     record {
       queue = machine.queue.items;

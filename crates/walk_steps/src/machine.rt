@@ -25,7 +25,7 @@ pub struct WalkState {
 
 /// The state while it changes.
 #[derive(Drop)]
-pub(crate) struct Machine {
+pub(crate) struct RunningState {
     queue: VecDeque<u32>,
     taken: Vec<Row<u32>>,
     given: Vec<Row<u32>>,
@@ -92,7 +92,7 @@ fn lower(words: &mut Vec<u64>, group: u32, entry: u32)
     }
 }
 
-impl Machine {
+impl RunningState {
     ghost use Rattle.walk_steps.specs.Shaped.{IsValid};
     ghost use Rattle.walk_steps.specs.Machine.{
       state_of,
@@ -109,12 +109,16 @@ impl Machine {
     };
 
     /// Job 0 waits, nothing is taken, given or claimed.
-    pub(crate) fn new(alloc: Global, shape: &Shape, workers: u32) -> Result<Machine, OutOfMemory>
+    pub(crate) fn new(
+        alloc: Global,
+        shape: &Shape,
+        workers: u32,
+    ) -> Result<RunningState, OutOfMemory>
         ensures { IfOk result (λ machine. state_of machine ≡ first_state shape.now workers) }
     {
         let mut queue = VecDeque::new(alloc);
         queue.push_back(0)?;
-        Ok(Machine {
+        Ok(RunningState {
             queue,
             taken: empty_lists(alloc, workers)?,
             given: empty_lists(alloc, workers)?,
@@ -221,7 +225,7 @@ impl Machine {
     pub(crate) fn finish(self, alloc: Global) -> Result<WalkState, OutOfMemory>
         ensures { IfOk result (λ state. state ≡ state_of self) }
     {
-        let Machine {
+        let RunningState {
             queue,
             taken,
             given,

@@ -4,7 +4,7 @@ ghost use Rattle.walk_steps.specs.Shaped.{IsValid};
 ghost use Rattle.walk_steps.specs.Machine.{steps_from, index_of};
 ghost use Rattle.walk_steps.specs.Sound.{Sound, WordsAreLeast, claimed_by};
 
-use crate::machine::{Machine, WalkState};
+use crate::machine::{RunningState, WalkState};
 use crate::shape::Shape;
 use crate::steps::{Step, StepsFault};
 use std::alloc::Global;
@@ -20,7 +20,7 @@ fn end_of(
     requires count { length steps.now < 2 ^ 32 }
     ensures { Answers (λ state. state) index_of result (steps_from shape.now workers steps.now) }
 {
-    let mut machine = Machine::new(alloc, shape, workers)?;
+    let mut machine = RunningState::new(alloc, shape, workers)?;
     'steps: for index in 0..steps.len() {
         machine.step(shape, &steps[index], index as u32)?;
     }

@@ -1,6 +1,6 @@
 use denote.Param.Send.{IsSend, sendable}
 use Rattle.std.proofs.Crossing.{crosses}
-use Rattle.dir_queue.specs.contracts.tests.Worker as Worker
+use Rattle.dir_queue.specs.contracts.tests.QueueWorker as Worker
 use Rattle.dir_queue.proofs.Sending.{seat_send, job_send, shape_sync, queue_sync}
 use Rattle.dir_queue.proofs.tests.two_workers.Goals as goal
 

@@ -1,6 +1,6 @@
 use Rattle.std.proofs.Common.{◌≡◌, ◌++◌, ◌≤◌, ◌-◌, drop, length, map, take}
 use Rattle.home_contexts.specs.Words.{template_pieces}
-use Rattle.home_contexts.specs.declared.word.Piece.TheVariants.{Byte}
+use Rattle.home_contexts.specs.declared.word.FieldPiece.TheVariants.{Byte}
 use Rattle.home_contexts.proofs.word.run_length.Given as goal
 
 abbrev pub invariant-bytes : goal.invariant-bytes

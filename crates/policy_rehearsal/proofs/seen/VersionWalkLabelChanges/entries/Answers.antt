@@ -2,7 +2,7 @@ use Rattle.std.proofs.Common.{◌∙◌, sym}
 use Rattle.relabel_core.specs.Answer.{walk_in}
 use Rattle.policy_rehearsal.specs.Seen.{labels_listed}
 use Rattle.policy_rehearsal.proofs.TurnLemmas.{entries_over}
-use Rattle.policy_rehearsal.proofs.seen.SeenLabelChanges.entries.Goals as goal
+use Rattle.policy_rehearsal.proofs.seen.VersionWalkLabelChanges.entries.Goals as goal
 
 pub returns : goal.returns
 returns c =

@@ -1,6 +1,6 @@
 use Rattle.std.proofs.Common.{◌≡◌, ◌++◌, List, ℕ, length}
 use Rattle.find_records.specs.SoFar.{IsSound, meant_with}
-use Rattle.find_records.proofs.so_far.SoFar.take.Given as goal
+use Rattle.find_records.proofs.so_far.RecordsSoFar.take.Given as goal
 
 -- what is left of the piece means the same behind what is read by now
 abbrev pub invariant-records : goal.invariant-records

@@ -7,7 +7,7 @@ use Rattle.relabel_core.proofs.CountLemmas.{some_shown}
 use Rattle.policy_rehearsal.specs.Seen.{labels_listed}
 use Rattle.policy_rehearsal.proofs.SeenLemmas.{changed_seen}
 use Rattle.policy_rehearsal.proofs.TurnLemmas.{entries_over}
-use Rattle.policy_rehearsal.proofs.seen.SeenLabelChanges.does_change.Goals as goal
+use Rattle.policy_rehearsal.proofs.seen.VersionWalkLabelChanges.does_change.Goals as goal
 
 pub verdict_at-requires-clause-entry : goal.verdict_at-requires-clause-entry
 verdict_at-requires-clause-entry c =

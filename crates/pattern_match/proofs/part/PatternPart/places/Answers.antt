@@ -1,6 +1,6 @@
 use Rattle.std.proofs.Common.{◌∙◌, ap, []}
 use Rattle.pattern_match.proofs.OpenParts.{seen_last}
-use Rattle.pattern_match.proofs.part.Part.places.Goals as goal
+use Rattle.pattern_match.proofs.part.PatternPart.places.Goals as goal
 
 pub returns-in-Some : goal.returns-in-Some
 returns-in-Some c =

@@ -1,7 +1,7 @@
 use Rattle.std.proofs.Common.{ap, []}
 use Rattle.pattern_match.specs.Operations.{operations_tree}
 use Rattle.pattern_match.proofs.OpenParts.{seen_last}
-use Rattle.pattern_match.proofs.part.Part.holds_nothing.Goals as goal
+use Rattle.pattern_match.proofs.part.PatternPart.holds_nothing.Goals as goal
 
 pub returns-in-Some : goal.returns-in-Some
 returns-in-Some c =

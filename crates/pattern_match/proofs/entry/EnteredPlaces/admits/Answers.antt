@@ -1,7 +1,7 @@
 use Rattle.std.specs.Bool.{one_answer}
 use Rattle.std.proofs.lemmas.Bool.Decides.{Decides-like}
 use Rattle.pattern_match.proofs.EachByte.{bytes_each, class_each, each_byte}
-use Rattle.pattern_match.proofs.entry.Entry.admits.Goals as goal
+use Rattle.pattern_match.proofs.entry.EnteredPlaces.admits.Goals as goal
 
 pub returns-in-ByEach : goal.returns-in-ByEach
 returns-in-ByEach c = let class = c.args.class.now in rw c.in-ByEach.is

@@ -1,7 +1,7 @@
 use Rattle.std.proofs.Common.{arith}
 use Rattle.std.proofs.lemmas.List.{nil_from_length}
 use Rattle.find_records.proofs.SoFarLemmas.{explained, last_meant, whole_meant}
-use Rattle.find_records.proofs.so_far.SoFar.end.Goals as goal
+use Rattle.find_records.proofs.so_far.RecordsSoFar.end.Goals as goal
 
 pub returns-then-len-gt0-clause-answer : goal.returns-then-len-gt0-clause-answer
 returns-then-len-gt0-clause-answer c =

@@ -3,7 +3,7 @@ use Rattle.pattern_syntax.specs.Tree.{Both, Either, Repeat}
 use Rattle.pattern_match.specs.Operations.{operations_tree}
 use Rattle.pattern_match.proofs.OpenParts.{IsOfTwo, IsRepeated, made_again, made_of, spell_own}
 use Rattle.pattern_match.proofs.OpenParts.{spelled_tree}
-use Rattle.pattern_match.proofs.part.Part.shape.Goals as goal
+use Rattle.pattern_match.proofs.part.PatternPart.shape.Goals as goal
 
 pub halves-first-requires : goal.halves-first-requires
 halves-first-requires c =
