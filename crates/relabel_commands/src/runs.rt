@@ -10,20 +10,9 @@ ghost use Rattle.tool_runs.specs.Complete.{Complete};
 ghost use Rattle.tool_runs.specs.Outside.{outside};
 ghost use Rattle.tool_runs.specs.Run.{Run};
 ghost use Rattle.tree_relabelling.specs.Plan.{relabel_plan};
-ghost use Rattle.tree_relabelling.specs.Words.{restorecon_words, setfiles_words};
 ghost use Rattle.tree_relabelling.specs.declared.words.RelabelWords.{RelabelWords};
-ghost use Rattle.path_lookups.specs.Plan.{lookup_plan};
-ghost use Rattle.path_lookups.specs.Words.{lookup_words};
-ghost use Rattle.home_contexts.specs.Asked.{homes_words};
-ghost use Rattle.home_contexts.specs.Plan.{homes_plan};
-ghost use Rattle.policy_rehearsal.specs.Plan.{rehearse_plan};
 ghost use Rattle.policy_rehearsal.specs.Reported.{ReportKeepsLabels};
-ghost use Rattle.policy_rehearsal.specs.Words.{rehearse_words};
-ghost use Rattle.sample_tree.specs.Plan.{sample_plan};
-ghost use Rattle.sample_tree.specs.Words.{sample_words};
 ghost use Rattle.relabel_commands.specs.Samples.{RunsSample};
-ghost use Rattle.label_audit.specs.Plan.{audit_plan};
-ghost use Rattle.label_audit.specs.Words.{audit_words};
 ghost use Rattle.relabel_commands.specs.Tools.{asked_for, plan_of, rehearse_asked, tool_named};
 
 use home_contexts::{GENHOMEDIRCON, read_homes};
@@ -89,145 +78,6 @@ fn unknown_tool() -> Fault<Usage>
     })
 }
 
-// Runs setfiles by the words behind its name.
-fn run_setfiles<S: Store, I: Source, O: Sink>(
-    alloc: Global,
-    words: &[String],
-    store: &mut S,
-    input: &mut I,
-    out: &mut O,
-) -> Outcome
-    requires { length words.now + FIRST < 2 ^ 31 }
-    ensures status { result.status
-        ≡ status_of (is_soft_in
-        (planned relabel_plan (setfiles_words FIRST (word_texts words.now)))) result.cause }
-    ensures run { Run (planned relabel_plan (setfiles_words FIRST (word_texts words.now)))
-        (outside S.Store I.Source O.Sink store.old input.old out.old)
-        (outside S.Store I.Source O.Sink store.new input.new out.new) result.cause }
-{
-    run_words(alloc, read_setfiles(alloc, words, FIRST), store, input, out)
-}
-
-// Runs restorecon by the words behind its name.
-fn run_restorecon<S: Store, I: Source, O: Sink>(
-    alloc: Global,
-    words: &[String],
-    store: &mut S,
-    input: &mut I,
-    out: &mut O,
-) -> Outcome
-    requires { length words.now + FIRST < 2 ^ 31 }
-    ensures status { result.status
-        ≡ status_of (is_soft_in
-        (planned relabel_plan (restorecon_words FIRST (word_texts words.now)))) result.cause }
-    ensures run { Run (planned relabel_plan (restorecon_words FIRST (word_texts words.now)))
-        (outside S.Store I.Source O.Sink store.old input.old out.old)
-        (outside S.Store I.Source O.Sink store.new input.new out.new) result.cause }
-{
-    run_words(
-        alloc,
-        read_restorecon(alloc, words, FIRST),
-        store,
-        input,
-        out,
-    )
-}
-
-// Runs matchpathcon by the words behind its name.
-fn run_lookup<S: Store, I: Source, O: Sink>(
-    alloc: Global,
-    words: &[String],
-    store: &mut S,
-    input: &mut I,
-    out: &mut O,
-) -> Outcome
-    requires { length words.now + FIRST < 2 ^ 31 }
-    ensures status { result.status
-        ≡ status_of (is_soft_in (planned lookup_plan (lookup_words FIRST (word_texts words.now))))
-        result.cause }
-    ensures run { Run (planned lookup_plan (lookup_words FIRST (word_texts words.now)))
-        (outside S.Store I.Source O.Sink store.old input.old out.old)
-        (outside S.Store I.Source O.Sink store.new input.new out.new) result.cause }
-{
-    run_words(alloc, read_lookup(alloc, words, FIRST), store, input, out)
-}
-
-// Runs genhomedircon by the words behind its name.
-fn run_homes<S: Store, I: Source, O: Sink>(
-    alloc: Global,
-    words: &[String],
-    store: &mut S,
-    input: &mut I,
-    out: &mut O,
-) -> Outcome
-    requires { length words.now + FIRST < 2 ^ 31 }
-    ensures status { result.status
-        ≡ status_of (is_soft_in (planned homes_plan (homes_words FIRST (word_texts words.now))))
-        result.cause }
-    ensures run { Run (planned homes_plan (homes_words FIRST (word_texts words.now)))
-        (outside S.Store I.Source O.Sink store.old input.old out.old)
-        (outside S.Store I.Source O.Sink store.new input.new out.new) result.cause }
-{
-    run_words(alloc, read_homes(alloc, words, FIRST), store, input, out)
-}
-
-// Runs rehearse by the words behind its name.
-fn run_rehearse<S: Store, I: Source, O: Sink>(
-    alloc: Global,
-    words: &[String],
-    store: &mut S,
-    input: &mut I,
-    out: &mut O,
-) -> Outcome
-    requires { length words.now + FIRST < 2 ^ 31 }
-    ensures status { result.status
-        ≡ status_of (is_soft_in
-        (planned rehearse_plan (rehearse_words FIRST (word_texts words.now)))) result.cause }
-    ensures run { Run (planned rehearse_plan (rehearse_words FIRST (word_texts words.now)))
-        (outside S.Store I.Source O.Sink store.old input.old out.old)
-        (outside S.Store I.Source O.Sink store.new input.new out.new) result.cause }
-{
-    run_words(alloc, read_rehearse(alloc, words, FIRST), store, input, out)
-}
-
-// Runs sample by the words behind its name.
-fn run_sample<S: Store, I: Source, O: Sink>(
-    alloc: Global,
-    words: &[String],
-    store: &mut S,
-    input: &mut I,
-    out: &mut O,
-) -> Outcome
-    requires { length words.now + FIRST < 2 ^ 31 }
-    ensures status { result.status
-        ≡ status_of (is_soft_in (planned sample_plan (sample_words FIRST (word_texts words.now))))
-        result.cause }
-    ensures run { Run (planned sample_plan (sample_words FIRST (word_texts words.now)))
-        (outside S.Store I.Source O.Sink store.old input.old out.old)
-        (outside S.Store I.Source O.Sink store.new input.new out.new) result.cause }
-{
-    run_words(alloc, read_sample(alloc, words, FIRST), store, input, out)
-}
-
-// Runs audit by the words behind its name.
-fn run_audit<S: Store, I: Source, O: Sink>(
-    alloc: Global,
-    words: &[String],
-    store: &mut S,
-    input: &mut I,
-    out: &mut O,
-) -> Outcome
-    requires { length words.now + FIRST < 2 ^ 31 }
-    ensures status { result.status
-        ≡ status_of (is_soft_in (planned audit_plan (audit_words FIRST (word_texts words.now))))
-        result.cause }
-    ensures run { Run (planned audit_plan (audit_words FIRST (word_texts words.now)))
-        (outside S.Store I.Source O.Sink store.old input.old out.old)
-        (outside S.Store I.Source O.Sink store.new input.new out.new) result.cause }
-{
-    run_words(alloc, read_audit(alloc, words, FIRST), store, input, out)
-}
-
 // Refuses words that name no tool: any tool's words would do.
 fn refuse_tool<S: Store, I: Source, O: Sink>(
     alloc: Global,
@@ -248,28 +98,48 @@ fn refuse_tool<S: Store, I: Source, O: Sink>(
 // Runs a tool by the words behind its name.
 fn run_named<S: Store, I: Source, O: Sink>(
     alloc: Global,
-    tool: Option<ToolName>,
+    tool: ToolName,
     words: &[String],
     store: &mut S,
     input: &mut I,
     out: &mut O,
 ) -> Outcome
     requires { length words.now + FIRST < 2 ^ 31 }
-    ensures status { result.status ≡ status_of (is_soft_in (asked_for tool (word_texts words.now)))
-        result.cause }
-    ensures run { Run (asked_for tool (word_texts words.now))
+    ensures status { result.status
+        ≡ status_of (is_soft_in (asked_for (Some tool) (word_texts words.now))) result.cause }
+    ensures run { Run (asked_for (Some tool) (word_texts words.now))
         (outside S.Store I.Source O.Sink store.old input.old out.old)
         (outside S.Store I.Source O.Sink store.new input.new out.new) result.cause }
 {
     match tool {
-        Some(ToolName::Setfiles) => run_setfiles(alloc, words, store, input, out),
-        Some(ToolName::Restorecon) => run_restorecon(alloc, words, store, input, out),
-        Some(ToolName::Matchpathcon) => run_lookup(alloc, words, store, input, out),
-        Some(ToolName::Genhomedircon) => run_homes(alloc, words, store, input, out),
-        Some(ToolName::Rehearse) => run_rehearse(alloc, words, store, input, out),
-        Some(ToolName::Sample) => run_sample(alloc, words, store, input, out),
-        Some(ToolName::Audit) => run_audit(alloc, words, store, input, out),
-        None => refuse_tool(alloc, store, input, out),
+        ToolName::Setfiles => {
+            let asked = read_setfiles(alloc, words, FIRST);
+            run_words(alloc, asked, store, input, out)
+        }
+        ToolName::Restorecon => {
+            let asked = read_restorecon(alloc, words, FIRST);
+            run_words(alloc, asked, store, input, out)
+        }
+        ToolName::Matchpathcon => {
+            let asked = read_lookup(alloc, words, FIRST);
+            run_words(alloc, asked, store, input, out)
+        }
+        ToolName::Genhomedircon => {
+            let asked = read_homes(alloc, words, FIRST);
+            run_words(alloc, asked, store, input, out)
+        }
+        ToolName::Rehearse => {
+            let asked = read_rehearse(alloc, words, FIRST);
+            run_words(alloc, asked, store, input, out)
+        }
+        ToolName::Sample => {
+            let asked = read_sample(alloc, words, FIRST);
+            run_words(alloc, asked, store, input, out)
+        }
+        ToolName::Audit => {
+            let asked = read_audit(alloc, words, FIRST);
+            run_words(alloc, asked, store, input, out)
+        }
     }
 }
 
@@ -291,7 +161,10 @@ fn run_asked<S: Store, I: Source, O: Sink>(
     let [word, rest @ ..] = words else {
         return refuse_tool(alloc, store, input, out);
     };
-    run_named(alloc, tool_named(word.as_str()), rest, store, input, out)
+    match tool_named(word.as_str()) {
+        Some(tool) => run_named(alloc, tool, rest, store, input, out),
+        None => refuse_tool(alloc, store, input, out),
+    }
 }
 
 /// Runs the tool that the first word names, with one worker, whatever number its words ask for.
@@ -378,7 +251,7 @@ fn run_read<R: Threads + Wait + Sync, S: Store, I: Source, O: Sink>(
 fn run_named_by<R: Threads + Wait + Sync, S: Store, I: Source, O: Sink>(
     rt: &R,
     alloc: Global,
-    tool: Option<ToolName>,
+    tool: ToolName,
     words: &[String],
     cores: u32,
     store: &mut S,
@@ -386,18 +259,18 @@ fn run_named_by<R: Threads + Wait + Sync, S: Store, I: Source, O: Sink>(
     out: &mut O,
 ) -> Outcome
     requires { length words.now + FIRST < 2 ^ 31 }
-    ensures status { result.status ≡ status_of (is_soft_in (asked_for tool (word_texts words.now)))
-        result.cause }
-    ensures run { Run (asked_for tool (word_texts words.now))
+    ensures status { result.status
+        ≡ status_of (is_soft_in (asked_for (Some tool) (word_texts words.now))) result.cause }
+    ensures run { Run (asked_for (Some tool) (word_texts words.now))
         (outside S.Store I.Source O.Sink store.old input.old out.old)
         (outside S.Store I.Source O.Sink store.new input.new out.new) result.cause }
 {
     match tool {
-        Some(ToolName::Setfiles) => {
+        ToolName::Setfiles => {
             let asked = read_setfiles(alloc, words, FIRST);
             run_read(rt, alloc, asked, cores, store, input, out)
         }
-        Some(ToolName::Restorecon) => {
+        ToolName::Restorecon => {
             let asked = read_restorecon(alloc, words, FIRST);
             run_read(rt, alloc, asked, cores, store, input, out)
         }
@@ -425,16 +298,10 @@ fn run_asked_by<R: Threads + Wait + Sync, S: Store, I: Source, O: Sink>(
     let [word, rest @ ..] = words else {
         return refuse_tool(alloc, store, input, out);
     };
-    run_named_by(
-        rt,
-        alloc,
-        tool_named(word.as_str()),
-        rest,
-        cores,
-        store,
-        input,
-        out,
-    )
+    match tool_named(word.as_str()) {
+        Some(tool) => run_named_by(rt, alloc, tool, rest, cores, store, input, out),
+        None => refuse_tool(alloc, store, input, out),
+    }
 }
 
 /// Runs the tool that the first word names. `cores` is the number of processors, which is the
