@@ -1,17 +1,16 @@
 -- Pieces compared with a file, one after the other.
-use Rattle.std.proofs.Common.{◌≡◌, ◌∙◌, sym, refl, ap, ap₂, ℕ, zero, suc, ◌+◌, ◌<◌, ◌≤◌, ◌||◌, ◌==◌}
+use Rattle.std.proofs.Common.{◌≡◌, ◌∙◌, sym, refl, ap, ap₂, ℕ, zero, suc, ◌+◌, ◌<◌, ◌≤◌, ◌||◌}
 use Rattle.std.proofs.Common.{Bool, true, false, List, [], ◌∷◌, ◌++◌, drop, get_or, length, map}
 use Rattle.std.proofs.Common.{replicate, set, Option, Some, None, inl, inr, arith, eq-eqb, ne_eqb}
-use Rattle.std.proofs.Common.{add-one, append_assoc, if◌then◌else◌}
-use Rattle.std.specs.Prelude.{is_none, is_some, nat_lt, slice_get}
+use Rattle.std.proofs.Common.{add-one, if◌then◌else◌}
+use Rattle.std.specs.Prelude.{is_none, is_some, slice_get}
 use Rattle.std.proofs.Math.Bool.{or-false, or-true}
 use Rattle.std.proofs.lemmas.Bool.{cases_eq, cases_lt, le-ltb, lt-ltb}
 use Rattle.std.proofs.lemmas.List.{at_drop_all, at_drop_more, get_or-replicate, get_or-set_other}
 use Rattle.std.proofs.lemmas.List.{get_or-set_same, length-replicate, length-set, map-append}
 use Rattle.label_base.specs.Bounded.{all_numbers, any_below}
-use Rattle.relabel_core.specs.Report.{AreRaised, optional_text, raised_at, unflagged_line}
+use Rattle.relabel_core.specs.Report.{AreRaised, optional_text, raised_at}
 use Rattle.relabel_core.specs.Walk.{Walk, walk_count, deciding, is_found_at, line_of_spec}
-use Rattle.relabel_core.specs.Walk.{unmatched_line}
 use Rattle.run_faults.specs.declared.finding.Piece.{Piece}
 use Rattle.run_faults.specs.declared.finding.Piece.TheVariants.{Rule}
 use Rattle.label_audit.specs.Compared.{behind_of, differs_or, is_compared_open, unflagged_piece}

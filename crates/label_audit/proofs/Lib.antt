@@ -5,3 +5,4 @@ pub mod AheadLemmas
 pub mod WholeLemmas
 pub mod FoundLemmas
 pub mod AnswerLemmas
+pub mod AgreementLemmas

@@ -1,5 +1,5 @@
 -- All pieces stand exactly where the bytes are their texts, joined.
-use Rattle.std.proofs.Common.{◌≡◌, ◌∙◌, sym, refl, ap, ap₂, ℕ, zero, suc, ◌+◌, Bool, true, false}
+use Rattle.std.proofs.Common.{◌≡◌, ◌∙◌, sym, refl, ap, ap₂, ℕ, zero, suc, Bool, true, false}
 use Rattle.std.proofs.Common.{List, [], ◌∷◌, ◌++◌, drop, get_or, length, map, take, Option, Some}
 use Rattle.std.proofs.Common.{None, inl, inr, add-one, append_assoc, append-nil, if◌then◌else◌}
 use Rattle.std.specs.Prelude.{◌↔◌, IfSome}
@@ -13,7 +13,7 @@ use Rattle.file_paths.specs.Path.{Path}
 use Rattle.report_text.specs.Message.{Absent, MessageValue}
 use Rattle.report_text.specs.Texts.{message_line, report_of}
 use Rattle.setfattr_dump.specs.Texts.{dump_text}
-use Rattle.run_faults.specs.declared.finding.Finding.TheVariants.{Agrees, InReport, InDump}
+use Rattle.run_faults.specs.declared.finding.Finding.TheVariants.{Agrees}
 use Rattle.run_faults.specs.declared.finding.Piece.{Piece}
 use Rattle.run_faults.specs.declared.finding.Piece.TheVariants.{Entry, Rule}
 use Rattle.relabel_core.specs.Changes.{changes, optional_section, section_at}
@@ -25,7 +25,7 @@ use Rattle.relabel_core.proofs.DumpLemmas.{section_more, sections_below}
 use Rattle.relabel_core.proofs.ReportLemmas.{report_append, text_more}
 use Rattle.label_audit.specs.Finding.{finding_by, finding_of}
 use Rattle.label_audit.specs.Pieces.{PlacedPiece, begins, differing, differing_in, dump_pieces}
-use Rattle.label_audit.specs.Pieces.{end_differs, entry_piece, entry_pieces, operand_piece}
+use Rattle.label_audit.specs.Pieces.{end_differs, entry_pieces, operand_piece}
 use Rattle.label_audit.specs.Pieces.{operand_pieces, piece_placed, report_pieces, section_piece}
 use Rattle.label_audit.specs.Pieces.{spec_piece, spec_pieces}
 use Rattle.label_audit.specs.Whole.{AreWhole}

@@ -4,7 +4,6 @@ use Rattle.file_paths.specs.Path.{Path}
 use Rattle.find_records.specs.Record.{Record}
 use Rattle.spec_reader.specs.SpecValue.{SpecValue}
 use Rattle.report_text.specs.Texts.{shown_path}
-use Rattle.tree_model.specs.Extents.{entry_at}
 use Rattle.tree_model.specs.Selection.{selected_by}
 use Rattle.run_faults.specs.declared.finding.Finding.{Finding}
 use Rattle.run_faults.specs.declared.finding.Finding.TheVariants.{Agrees, InReport, InDump}

@@ -11,3 +11,4 @@ pub mod Found
 pub mod Answer
 pub mod Plan
 pub mod Constants
+pub mod Agreement

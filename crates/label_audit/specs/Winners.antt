@@ -1,5 +1,5 @@
 -- The winners of groups, and what is kept of them.
-use Rattle.std.specs.Prelude.{◌≡◌, ℕ, Option, Some, None, option_and_then, IfSome, if◌then◌else◌}
+use Rattle.std.specs.Prelude.{◌≡◌, ℕ, Some, None, option_and_then, IfSome, if◌then◌else◌}
 use Rattle.std.specs.BTreeMap.{BTreeMap, get}
 use Rattle.std.specs.Ordering.{nat_cmp}
 use Rattle.relabel_core.specs.Walk.{Walk, deciding, is_wanted, winner}

@@ -21,7 +21,7 @@ mod words;
 
 pub use auditing::audit;
 pub use found::AuditFiles;
-pub use laws::{agrees_where_whole, constants_are_stated};
+pub use laws::{agrees_where_whole, audit_tells_of_run, constants_are_stated};
 pub use run_faults::{Finding, Piece};
 pub use words::{AuditWords, read_audit};
 

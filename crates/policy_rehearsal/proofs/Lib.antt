@@ -5,4 +5,9 @@ pub mod FileLemmas
 pub mod TextLemmas
 pub mod StandingLemmas
 pub mod WordLemmas
+pub mod AcceptedLines
+pub mod AcceptedTypes
+pub mod AcceptedPaths
+pub mod AcceptedRules
+pub mod AcceptedRuns
 pub mod ShownLemmas

@@ -1,16 +1,15 @@
 -- Verdicts and labels of a walk over a tree whose groups have other labels by now.
-use Rattle.std.proofs.Common.{◌≡◌, ◌∙◌, ap, ap₂, sym, subst, refl, ℕ, ◌<◌, Bool, true, false, List}
+use Rattle.std.proofs.Common.{◌≡◌, ◌∙◌, ap, ap₂, sym, subst, refl, ℕ, ◌<◌, Bool, false, List}
 use Rattle.std.proofs.Common.{length, get_or}
 use Rattle.std.specs.Prelude.{if◌then◌else◌, is_some, option_and_then, Option, Some, None}
 use Rattle.context_syntax.specs.Context.{ContextValue}
-use Rattle.context_syntax.specs.TypeNames.{NameSet}
 use Rattle.context_syntax.specs.declared.label.Label.{Label}
 use Rattle.tree_model.specs.Groups.{group_of, groups_in, label_in, names_in}
 use Rattle.tree_model.proofs.GroupLemmas.{has_first}
 use Rattle.find_records.specs.Record.{Record}
 use Rattle.label_rules.specs.Decide.{VerdictValue, given_in, label_by}
 use Rattle.label_rules.specs.declared.rules.Rules.{Rules}
-use Rattle.relabel_core.specs.Changes.{change_at, group_change}
+use Rattle.relabel_core.specs.Changes.{change_at}
 use Rattle.relabel_core.specs.Walk.{Walk, group_winner, is_found_at, is_changed_name, new_label}
 use Rattle.relabel_core.specs.Walk.{verdict, verdict_where, wanted, winner}
 use Rattle.relabel_core.proofs.ChangeLemmas.{changed_name_is}

@@ -1,14 +1,13 @@
 -- The changes that are told lead to the labels at the end.
-use Rattle.std.proofs.Common.{◌≡◌, ◌∙◌, ap, ap₂, sym, subst, refl, ℕ, zero, suc, ◌+◌, ◌<◌, ◌==◌}
-use Rattle.std.proofs.Common.{Bool, true, false, List, [], ◌∷◌, ◌++◌, map, add-one, arith, inl, inr}
+use Rattle.std.proofs.Common.{◌≡◌, ◌∙◌, ap, sym, subst, refl, ℕ, zero, suc, ◌<◌, ◌==◌}
+use Rattle.std.proofs.Common.{Bool, true, false, List, [], ◌∷◌, ◌++◌, map, arith, inl, inr}
 use Rattle.std.proofs.Common.{eq-eqb, eqb-true}
-use Rattle.std.specs.Prelude.{◌&&◌, nat_lt, if◌then◌else◌, is_some, length, Option, Some, None}
-use Rattle.std.specs.Prelude.{Result, Ok, Err, option_and_then}
+use Rattle.std.specs.Prelude.{nat_lt, if◌then◌else◌, is_some, length, Option, Some, None}
+use Rattle.std.specs.Prelude.{Result, Ok, Err}
 use Rattle.std.specs.Cmp.{first_so}
 use Rattle.std.specs.List.{cons_option, filter_map}
 use Rattle.std.specs.Result.{result_ok}
 use Rattle.std.proofs.lemmas.Bool.{cases_lt, false≢true, lt-ltb, le-ltb}
-use Rattle.std.proofs.lemmas.List.{map-append}
 use Rattle.std.proofs.lemmas.List.Elements.{filter_map-append}
 use Rattle.std.proofs.lemmas.Option.{same_Some}
 use Rattle.label_base.specs.Bounded.{all_numbers}
@@ -31,22 +30,23 @@ use Rattle.tool_runs.specs.Plan.{answer_by}
 use Rattle.relabel_core.specs.Changes.{change_at, change_with, group_change}
 use Rattle.relabel_core.specs.Walk.{Walk, can_win, walk_count, is_found_at, new_label}
 use Rattle.relabel_core.specs.Walk.{new_label_with, verdict_with, wanted, winner}
-use Rattle.relabel_runs.specs.Premises.{AreTreeRuns}
-use Rattle.relabel_runs.specs.Runs.{TreeRun, TreeState, state_after, end, end_off, tree_labelled}
+use Rattle.relabel_runs.specs.Premises.{AreTreeRuns, NoDigestClash}
+use Rattle.relabel_runs.specs.Runs.{TreeRun, TreeState, state_after, end}
 use Rattle.relabel_runs.specs.Runs.{records_read_as, walk_at}
-use Rattle.relabel_runs.proofs.LabelledLemmas.{alike_read, alike_seen}
-use Rattle.relabel_runs.proofs.OutlineLemmas.{SameOutline, group_same}
+use Rattle.relabel_runs.proofs.LabelledLemmas.{alike_seen}
+use Rattle.relabel_runs.proofs.OutlineLemmas.{group_same}
 use Rattle.policy_rehearsal.specs.Answer.{rehearsal_of}
 use Rattle.policy_rehearsal.specs.Files.{files_named, rules_read}
 use Rattle.policy_rehearsal.specs.Plan.{rehearse_plan}
-use Rattle.policy_rehearsal.specs.Rehearsal.{ChangeValue, RunsKeepLabels, TurnValue, change_to}
-use Rattle.policy_rehearsal.specs.Rehearsal.{changes_in, bare_state, rehearsed, rehearsed_by}
-use Rattle.policy_rehearsal.specs.Rehearsal.{runs_of, turn_in, turns_from}
-use Rattle.policy_rehearsal.specs.Reported.{ReportKeeps, label_at_end, label_behind, label_changed}
-use Rattle.policy_rehearsal.specs.Reported.{labels_at_end}
+use Rattle.policy_rehearsal.specs.Rehearsal.{ChangeValue, change_to}
+use Rattle.policy_rehearsal.specs.Rehearsal.{changes_in, bare_state, rehearsed_by}
+use Rattle.policy_rehearsal.specs.Rehearsal.{runs_of, turns_from}
+use Rattle.policy_rehearsal.specs.Reported.{LabelsUnlessClash, ReportKeeps, label_at_end}
+use Rattle.policy_rehearsal.specs.Reported.{label_behind, label_changed, labels_at_end}
+use Rattle.policy_rehearsal.proofs.AcceptedRuns.{policies_are_runs}
 use Rattle.policy_rehearsal.specs.declared.words.RehearseWords.{RehearseWords}
 use Rattle.policy_rehearsal.proofs.StandingLemmas.{keeps_labels, same_below}
-use Rattle.policy_rehearsal.proofs.TurnLemmas.{change_there, changes_more}
+use Rattle.policy_rehearsal.proofs.TurnLemmas.{change_there}
 use Rattle.policy_rehearsal.proofs.Unlabelled.{label_is}
 
 -- ---- one entry more
@@ -268,8 +268,10 @@ changes_lead entries runs =
 -- ---- what is answered
 
 shown_keeps : (entries : List Record) (runs : List TreeRun)
-    → RunsKeepLabels entries runs (labels_at_end entries (rehearsed_by entries runs).turns)
-shown_keeps entries runs = λ are. changes_lead entries runs ∙ keeps_labels entries runs are
+    → (NoDigestClash entries runs → AreTreeRuns entries runs)
+    → LabelsUnlessClash entries runs (labels_at_end entries (rehearsed_by entries runs).turns)
+shown_keeps entries runs are = λ none. changes_lead entries runs
+    ∙ keeps_labels entries runs (are none)
 
 shown_by : (words : RehearseWords) (known : Files) (input : List ℕ) (IsReport : List ℕ → Type 0)
     (ending : Ending)
@@ -290,7 +292,9 @@ shown_by words known input IsReport ending (Ok policies)
       input_says = input_says;
       report = subst (λ (e : Ending). IsReport e.report) (sym (same_Some _ _ (ap result_ok is)))
           shown;
-      keeps = shown_keeps entries (runs_of words.choice words.options policies);
+      keeps = shown_keeps entries (runs_of words.choice words.options policies)
+          (policies_are_runs words.options.format input entries (files_named words.bases)
+          (length words.bases) known policies words.choice words.options input_says files_say);
     }
 shown_by words known input IsReport ending (Ok policies) (Err cause) files_say input_says is shown =
     absurd cc

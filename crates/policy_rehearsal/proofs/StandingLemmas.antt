@@ -1,7 +1,7 @@
 -- A rehearsal, version by version.
-use Rattle.std.proofs.Common.{◌≡◌, ◌∙◌, ap, ap₂, sym, subst, refl, ℕ, zero, suc, ◌+◌, ◌<◌, ◌≤◌}
-use Rattle.std.proofs.Common.{List, [], ◌∷◌, ◌++◌, length, map, get_or, take, drop, add-one, arith}
-use Rattle.std.specs.Prelude.{false, slice_get, Option, Some, None, Result, Ok, Err, IfOk}
+use Rattle.std.proofs.Common.{◌≡◌, ◌∙◌, ap, ap₂, sym, subst, refl, ℕ, zero, suc, ◌+◌, ◌<◌}
+use Rattle.std.proofs.Common.{List, [], ◌∷◌, ◌++◌, length, map, get_or, take, arith}
+use Rattle.std.specs.Prelude.{false, slice_get, Some, None, Result, Ok, Err, IfOk}
 use Rattle.std.proofs.lemmas.List.{ext_get_or, length-map, map-append, take_more}
 use Rattle.std.proofs.lemmas.Option.{get_or_from_slice_get}
 use Rattle.label_base.specs.Bounded.{all_numbers}
@@ -12,9 +12,8 @@ use Rattle.find_records.specs.Record.{AreOfFormat, CountsBy, Record}
 use Rattle.find_records.specs.declared.format.Format.{Format}
 use Rattle.find_records.specs.declared.format.Format.TheVariants.{One, Two}
 use Rattle.tree_model.specs.Extents.{is_directory}
-use Rattle.tree_model.specs.Groups.{group_of, groups_in, label_in}
+use Rattle.tree_model.specs.Groups.{groups_in, label_in}
 use Rattle.tree_model.specs.Labelled as tree
-use Rattle.tree_model.specs.Selection.{selected_by}
 use Rattle.tree_model.specs.declared.choice.Choice.{Choice}
 use Rattle.tree_model.proofs.GroupLemmas.{has_first}
 use Rattle.tree_model.proofs.LabelledLemmas.{mapped_at}

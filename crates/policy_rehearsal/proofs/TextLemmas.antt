@@ -1,8 +1,7 @@
 -- One line more, and one turn more.
 use Rattle.std.proofs.Common.{◌≡◌, ◌∙◌, ap, sym, refl, ℕ, zero, suc, ◌+◌, ◌<◌, ◌≤◌, List, [], ◌∷◌}
 use Rattle.std.proofs.Common.{◌++◌, drop, length, map, get_or, add-one, append_assoc, append-nil}
-use Rattle.std.proofs.Common.{arith}
-use Rattle.std.specs.Prelude.{slice_get, option_map, Option, Some, None}
+use Rattle.std.specs.Prelude.{slice_get, option_map, Some}
 use Rattle.std.specs.List.{flat_map}
 use Rattle.std.proofs.lemmas.Grind.{flat_map-append}
 use Rattle.std.proofs.lemmas.List.{at_drop_more, drop_all, length-map}
@@ -68,16 +67,14 @@ lines_end entries changes k before all l so_far =
 
 -- ---- turns
 
-slice_get_map : (turns : List VersionChanges) (k : ℕ) (turn : VersionChanges)
-    → slice_get turns k ≡ Some turn
+slice_get_map : (turns : List VersionChanges) (k : ℕ) (turn : VersionChanges) → slice_get turns k ≡ Some turn
     → slice_get (map turn_lent turns) k ≡ Some (turn_lent turn)
 slice_get_map [] k turn is = absurd cc
 slice_get_map (t ∷ turns) zero turn is = ap (option_map turn_lent) is
 slice_get_map (t ∷ turns) (suc k) turn is = slice_get_map turns k turn is
 
 -- the text of the turn at a place
-pub next_turn : (entries : List Record) (names : List (List ℕ)) (turns : List VersionChanges)
-    (k : ℕ)
+pub next_turn : (entries : List Record) (names : List (List ℕ)) (turns : List VersionChanges) (k : ℕ)
     (before now name : List ℕ) (turn : VersionChanges)
     → name ≡ get_or names k [] → slice_get turns k ≡ Some turn
     → now ≡ before ++ turn_text entries (k + 1) name (turn_lent turn)
@@ -88,6 +85,5 @@ next_turn entries names turns k before now name turn named is added =
     (slice_get_map turns k turn is) in
     added ∙ (λ i. before ++ turn_text entries (k + 1) (named i) (sym there i))
 
-pub all_turns : (turns : List VersionChanges) (k : ℕ) → k ≡ length turns → k
-    ≡ length (map turn_lent turns)
+pub all_turns : (turns : List VersionChanges) (k : ℕ) → k ≡ length turns → k ≡ length (map turn_lent turns)
 all_turns turns k is = is ∙ sym (length-map turns turn_lent)

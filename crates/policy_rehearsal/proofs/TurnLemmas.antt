@@ -1,5 +1,5 @@
 -- What is told of a version, and the digests that it leaves.
-use Rattle.std.proofs.Common.{◌≡◌, ◌∙◌, ap, ap₂, sym, subst, refl, ℕ, ◌+◌, ◌<◌, ◌≤◌, Bool, true}
+use Rattle.std.proofs.Common.{◌≡◌, ◌∙◌, ap, ap₂, sym, subst, ℕ, ◌+◌, ◌<◌, ◌≤◌, Bool}
 use Rattle.std.proofs.Common.{false, List, [], ◌∷◌, ◌++◌, length, filter, map, get_or, add-one}
 use Rattle.std.proofs.Common.{arith, inl, inr}
 use std.Path.{fun_ext}
@@ -22,7 +22,6 @@ use Rattle.find_records.specs.Places.{no_record}
 use Rattle.find_records.specs.Record.{Record}
 use Rattle.tree_model.specs.Extents.{in_extent, is_directory}
 use Rattle.tree_model.specs.Groups.{group_of, groups_in, label_in}
-use Rattle.tree_model.specs.Labelled.{DifferInLabels}
 use Rattle.tree_model.proofs.LabelledLemmas.{mapped_at}
 use Rattle.relabel_core.specs.Changes.{change_at, label_before}
 use Rattle.relabel_core.specs.Counts.{AreWalkCounts, count_at}
@@ -30,7 +29,6 @@ use Rattle.relabel_core.specs.Swept.{renewal}
 use Rattle.relabel_core.specs.Stored.{digests_listed, digests_of}
 use Rattle.relabel_core.specs.declared.stored.Stored.{Stored}
 use Rattle.relabel_core.specs.Walk.{Walk, walk_count, digest_after, digests, has_changed_name}
-use Rattle.relabel_core.specs.Walk.{is_skipped_first}
 use Rattle.relabel_core.proofs.ChangeLemmas.{after_other, after_renewed}
 use Rattle.relabel_core.proofs.CountsLemmas.{rise_is}
 use Rattle.relabel_core.proofs.NextLemmas.{none_there}

@@ -1,7 +1,7 @@
 -- What a walk decides, skips and digests depends on no label.
-use Rattle.std.proofs.Common.{◌≡◌, ◌∙◌, ap, sym, subst, refl, ℕ, ◌<◌, ◌==◌, Bool, true, false, List}
+use Rattle.std.proofs.Common.{◌≡◌, subst, ℕ, ◌<◌, ◌==◌, false, List}
 use Rattle.std.proofs.Common.{get_or}
-use Rattle.std.specs.Prelude.{◌&&◌, ◌||◌, not, if◌then◌else◌, is_some, Option, Some, None}
+use Rattle.std.specs.Prelude.{◌&&◌, ◌||◌, not, if◌then◌else◌, is_some, Some, None}
 use Rattle.label_base.specs.Bounded.{any_below, least_below}
 use Rattle.label_base.specs.declared.kind.Asked.TheVariants.{Of}
 use Rattle.file_paths.specs.Path.{at_or_below}
@@ -9,19 +9,18 @@ use Rattle.context_syntax.specs.TypeNames.{names_in_order}
 use Rattle.context_syntax.specs.declared.label.Label.{Label}
 use Rattle.dir_digest.specs.Digest.{digest_at}
 use Rattle.find_records.specs.Record.{Record}
-use Rattle.tree_model.specs.Groups.{group_of, groups_in, label_in}
+use Rattle.tree_model.specs.Groups.{groups_in, label_in}
 use Rattle.tree_model.specs.Labelled.{DifferInLabels}
 use Rattle.tree_model.proofs.GroupLemmas.{has_first}
 use Rattle.tree_model.proofs.LabelledLemmas.{differ}
 use Rattle.label_rules.specs.LookUp.{given_at, index_asked}
 use Rattle.relabel_core.specs.Swept.{renewal}
-use Rattle.relabel_core.specs.Walk.{Walk, can_win, walk_count, deciding, digest_now, group_winner}
+use Rattle.relabel_core.specs.Walk.{Walk, deciding, digest_now}
 use Rattle.relabel_core.specs.Walk.{is_current, is_renewed, is_skipped, is_skipped_first, skippable}
 use Rattle.relabel_core.specs.Walk.{skips, walked, wanted, winner}
 use Rattle.relabel_runs.specs.Runs.{tree_labelled}
 use Rattle.relabel_runs.proofs.LabelledLemmas.{alike_labelled, label_set, links_labelled}
 use Rattle.relabel_runs.proofs.OutlineLemmas.{count_same, inodes_same, kinds_same, paths_same}
-use Rattle.policy_rehearsal.specs.Seen.{walk_over}
 
 -- the same walk over other entries
 abbrev pub over : Walk → List Record → Walk

@@ -1,7 +1,7 @@
 -- What is asked for is few, and what is written saves nothing.
 use Rattle.std.proofs.Common.{◌≡◌, ◌∙◌, ap, subst, sym, ℕ, ◌<◌, ◌≤◌, ◌+◌, ◌^◌, List, [], length}
 use Rattle.std.proofs.Common.{arith}
-use Rattle.std.specs.Prelude.{Bool, true, false, if◌then◌else◌, Result, Ok, Err, IfOk, Option, None}
+use Rattle.std.specs.Prelude.{Bool, true, false, if◌then◌else◌, Result, Ok, Err, IfOk, None}
 use Rattle.std.specs.Prelude.{option_map}
 use Rattle.find_records.specs.Record.{Record}
 use Rattle.label_rules.specs.declared.rules.Rules.{Rules}

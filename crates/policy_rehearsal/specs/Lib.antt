@@ -7,6 +7,7 @@ pub mod Letters
 pub mod Plan
 pub mod Rehearsal
 pub mod Reported
+pub mod Accepted
 pub mod Seen
 pub mod Standing
 pub mod Text

@@ -15,8 +15,9 @@ use Rattle.run_faults.specs.declared.cause.Cause.{Cause}
 use Rattle.run_input.specs.Records.{records_read}
 use Rattle.policy_rehearsal.specs.Answer.{rehearsal_of}
 use Rattle.policy_rehearsal.specs.Files.{files_named, rules_read}
-use Rattle.policy_rehearsal.specs.Rehearsal.{ChangeValue, RunsKeepLabels, TurnValue, rehearsed}
-use Rattle.policy_rehearsal.specs.Rehearsal.{runs_of}
+use Rattle.relabel_runs.specs.Premises.{NoDigestClash}
+use Rattle.relabel_runs.specs.Runs.{TreeRun, end_off}
+use Rattle.policy_rehearsal.specs.Rehearsal.{ChangeValue, TurnValue, bare_state, rehearsed, runs_of}
 use Rattle.policy_rehearsal.specs.declared.words.RehearseWords.{RehearseWords}
 
 -- the label of a group behind a change of an entry's label
@@ -41,6 +42,14 @@ abbrev pub labels_at_end : List Record → List TurnValue → List Label
 labels_at_end entries turns =
     map (λ g. label_at_end entries g turns (label_in entries g)) (all_numbers (groups_in entries))
 
+-- these are the labels that the runs leave with skipping off, where no listings clash; nothing else
+-- is supposed
+abbrev pub LabelsUnlessClash : List Record → List TreeRun → List Label → Type 0
+LabelsUnlessClash entries runs labels =
+    NoDigestClash entries runs
+    → labels
+    ≡ map (end_off entries (bare_state entries) runs).labels (all_numbers (groups_in entries))
+
 -- The report of words that ask for rehearse, by their files and their input: where no listings
 -- clash, its changes lead to the labels that the same runs leave with skipping off.
 pub record ReportKeeps (words : RehearseWords) (known : Files) (input : List ℕ)
@@ -51,7 +60,7 @@ pub record ReportKeeps (words : RehearseWords) (known : Files) (input : List ℕ
       ≡ Ok policies
   pub input_says : records_read words.options.format input ≡ Ok entries
   pub report : IsReport (rehearsal_of words policies entries).report
-  pub keeps : RunsKeepLabels entries (runs_of words.choice words.options policies)
+  pub keeps : LabelsUnlessClash entries (runs_of words.choice words.options policies)
       (labels_at_end entries (rehearsed entries words.choice words.options policies).turns)
 
 -- so it is after a run by such words which wrote its report, where files, input and sink are known

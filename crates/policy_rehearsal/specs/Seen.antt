@@ -1,10 +1,9 @@
 -- A walk over a tree whose groups have other labels by now.
-use Rattle.std.specs.Prelude.{◌≡◌, ℕ, Bool, false, List, [], length, slice_get, Option, Some, None}
+use Rattle.std.specs.Prelude.{◌≡◌, ℕ, Bool, false, List, length, slice_get, Option, Some, None}
 use Rattle.context_syntax.specs.Context.{ContextValue}
 use Rattle.context_syntax.specs.TypeNames.{NameSet}
 use Rattle.context_syntax.specs.declared.label.Label.{Label}
 use Rattle.context_syntax.specs.declared.label.Label.TheVariants.{Absent}
-use Rattle.find_records.specs.Record.{Record}
 use Rattle.label_rules.specs.Decide.{VerdictValue, Keep, verdict_for}
 use Rattle.label_rules.specs.LabelAfter.{label_seen}
 use Rattle.label_rules.specs.declared.label_after.LabelAfter.{LabelAfter}

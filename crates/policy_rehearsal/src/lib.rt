@@ -15,7 +15,10 @@ mod tool;
 mod turn;
 mod words;
 
-pub use laws::{answers_keep_labels, changes_lead_there, constants_are_stated};
+pub use laws::{
+    answers_keep_labels, changes_lead_there, constants_are_stated, read_files_give_listings,
+    read_policies_are_runs, read_runs_are_runs,
+};
 pub use letters::MOST_POLICIES;
 pub use rehearsal::{RehearsalInput, rehearse};
 pub use rehearsed::{Change, Rehearsed, VersionChanges};

@@ -163,8 +163,9 @@ fn take_turns<'a>(
 /// digests. Each entry has to have a link count where the options' format has one, and none else;
 /// entries and operands together have to be fewer than 2^32. The tree isn't copied.
 ///
-/// Where no two listings of directories have one digest, the labels at the end are those that the
-/// same versions leave with skipping off.
+/// Where the files were accepted, paths are names and no two different listings that the versions
+/// digest have one digest, the labels at the end are those that the same versions leave with
+/// skipping off.
 pub fn rehearse<'a>(
     alloc: Global,
     asked: &RehearsalInput<'_, 'a>,

@@ -1,5 +1,6 @@
--- That each rule of skipping, and each premise of the theorem, is needed: other ways of skipping,
--- or runs without one of the premises, after which some label is another than with skipping off.
+-- That rules of skipping and premises of the theorem are needed: other ways of skipping, or runs
+-- without one of the premises, after which some label is another than with skipping off. Nothing
+-- here says that a run which renews has to skip nothing: labels don't need that rule.
 use Rattle.std.specs.Prelude.{◌≡◌, ◌≢◌, ℕ, Bool, true, false, not, ◌==◌, ◌&&◌, if◌then◌else◌, List}
 use Rattle.std.specs.Prelude.{[], ◌∷◌, Option, Some, None}
 use Rattle.label_base.specs.Bounded.{all_below, implies}
@@ -57,24 +58,31 @@ after_all_by way t s [] = s
 after_all_by way t s (r ∷ runs) =
     after_all_by way t (leaves_by way t r (walked_in t r (skip_by way t r s)) s) runs
 
+-- how numbers are compared and digested
+pub record Comparing : Type 0 where
+  pub same_label : ℕ → ℕ → Bool
+  pub same_digest : ℕ → ℕ → Bool
+  pub digest_of : ℕ → ℕ
+
 -- Labels, contexts, listings and digests are numbers.
-abbrev pub numbers_by : (ℕ → ℕ) → Kinds
-numbers_by digest_of =
+abbrev pub numbers_by : Comparing → Kinds
+numbers_by by =
     record {
       Label = ℕ;
       Context = ℕ;
       Listing = ℕ;
       Digest = ℕ;
-      same_label = ◌==◌;
-      same_digest = ◌==◌;
-      digest_of = digest_of;
+      same_label = by.same_label;
+      same_digest = by.same_digest;
+      digest_of = by.digest_of;
       zero_digest = 0;
     }
 
-abbrev pub itself : ℕ → ℕ
-itself listing = listing
+-- comparisons are exact, and a listing is its own digest
+abbrev pub itself : Comparing
+itself =
+    record { same_label = ◌==◌; same_digest = ◌==◌; digest_of = λ listing. listing }
 
--- a listing is its own digest
 abbrev pub numbers : Kinds
 numbers = numbers_by itself
 
@@ -139,8 +147,22 @@ pub record Differ (K : Kinds) (Asked : WalkedTree → (Relabelling K → Type 0)
   pub other : (after_all t s runs).labels group ≢ (after_all_off t s runs).labels group
 
 -- each listing has the digest 1
-abbrev pub one_digest : ℕ → ℕ
-one_digest listing = 1
+abbrev pub one_digest : Comparing
+one_digest = record itself { digest_of = λ listing. 1 }
+
+-- no two labels are told apart
+abbrev pub loose_labels : Comparing
+loose_labels = record itself { same_label = λ a b. true }
+
+-- no two digests are told apart, but for the zero digest
+abbrev pub loose_digests : Comparing
+loose_digests =
+    record itself { same_digest = λ a b. if a == 0 then b == 0 else not (b == 0) }
+
+-- all that is asked of runs, where comparisons are these
+abbrev pub DifferComparing : Comparing → Type 0
+DifferComparing by =
+    Differ (numbers_by by) (λ t Among s. AreRelabellings t Among × IsBare s)
 
 -- all that is asked, but that no two listings clash
 abbrev pub DifferByClash : Type 0

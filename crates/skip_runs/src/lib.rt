@@ -11,8 +11,9 @@ ghost use Rattle.skip_runs.specs.Skipping.{AlikeStaysAlike, OneMoreKeepsLabels};
 ghost use Rattle.skip_runs.specs.Skipping.{SkippingKeepsLabelsOf};
 ghost use Rattle.skip_runs.specs.Ways.{Breaks, DifferByClash, DifferByClosed, DifferByListings};
 ghost use Rattle.skip_runs.specs.Ways.{DifferByOldDigests, DifferByUnsettled, Happens, dry_renews};
-ghost use Rattle.skip_runs.specs.Ways.{left_standing, names_outside, numbers, right_way};
-ghost use Rattle.skip_runs.specs.Ways.{with_exclusions, zero_counts};
+ghost use Rattle.skip_runs.specs.Ways.{DifferComparing, left_standing, loose_digests, loose_labels};
+ghost use Rattle.skip_runs.specs.Ways.{names_outside, numbers, right_way, with_exclusions};
+ghost use Rattle.skip_runs.specs.Ways.{zero_counts};
 
 /// From a state without digests, runs leave the labels that the same runs leave with skipping off.
 ///
@@ -96,4 +97,14 @@ pub fn settling_matters()
 /// Were there digests to begin with, labels would differ.
 pub fn old_digests_matter()
     ensures { DifferByOldDigests }
+{}
+
+/// Were labels not compared exactly, labels would differ: a change isn't noticed.
+pub fn exact_labels_matter()
+    ensures { DifferComparing loose_labels }
+{}
+
+/// Were digests not compared exactly, labels would differ: an old one counts.
+pub fn exact_digests_matter()
+    ensures { DifferComparing loose_digests }
 {}

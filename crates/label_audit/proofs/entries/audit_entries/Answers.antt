@@ -1,8 +1,7 @@
-use Rattle.std.proofs.Common.{◌≡◌, ◌<◌, ◌∙◌, refl, sym, subst, arith}
+use Rattle.std.proofs.Common.{◌<◌, refl, arith}
 use Rattle.std.proofs.lemmas.List.{length-map}
 use Rattle.label_base.specs.Bounded.{all_numbers}
 use Rattle.label_base.proofs.BoundedLemmas.{count_numbers}
-use Rattle.relabel_core.specs.Report.{AreRaised}
 use Rattle.relabel_core.specs.Walk.{walk_count}
 use Rattle.relabel_core.specs.Walked.{walk_of}
 use Rattle.tree_model.proofs.LabelledLemmas.{mapped_at}

@@ -1,4 +1,4 @@
-use Rattle.std.proofs.Common.{◌∙◌, sym, arith, refl}
+use Rattle.std.proofs.Common.{◌∙◌, sym, arith}
 use Rattle.tree_model.specs.Groups.{group_of}
 use Rattle.relabel_core.specs.Walked.{walk_of}
 use Rattle.label_audit.proofs.GroupLemmas.{name_fails, name_left, name_wins, name_within}

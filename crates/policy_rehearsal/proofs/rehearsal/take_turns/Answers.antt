@@ -1,6 +1,6 @@
 use Rattle.std.proofs.Common.{◌≡◌, ◌∙◌, ap, refl, take, arith}
 use Rattle.std.proofs.lemmas.List.{take_all}
-use Rattle.policy_rehearsal.specs.Rehearsal.{rehearsed_by, rehearsed_run, runs_of}
+use Rattle.policy_rehearsal.specs.Rehearsal.{rehearsed_by, runs_of}
 use Rattle.policy_rehearsal.proofs.StandingLemmas.{all_shown, at_more, runs_more, shown_more}
 use Rattle.policy_rehearsal.proofs.rehearsal.take_turns.Goals as goal
 

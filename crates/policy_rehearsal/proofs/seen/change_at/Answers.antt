@@ -4,7 +4,7 @@ use Rattle.label_rules.specs.Decide.{given_in}
 use Rattle.tree_model.specs.Groups.{group_of}
 use Rattle.relabel_core.specs.Answer.{walk_in}
 use Rattle.relabel_core.specs.Walk.{is_found_at, verdict}
-use Rattle.policy_rehearsal.specs.Seen.{labels_listed, walk_over, walk_seen}
+use Rattle.policy_rehearsal.specs.Seen.{labels_listed, walk_seen}
 use Rattle.policy_rehearsal.proofs.SeenLemmas.{change_seen}
 use Rattle.policy_rehearsal.proofs.seen.change_at.Goals as goal
 

@@ -1,7 +1,4 @@
-use Rattle.std.proofs.Common.{◌≡◌, ◌∙◌, ap, sym, subst, length, ◌<◌}
-use Rattle.std.specs.Option.{option_copied}
-use Rattle.label_rules.specs.LabelAfter.{label_seen}
-use Rattle.tree_model.specs.Groups.{group_of}
+use Rattle.std.proofs.Common.{◌∙◌, ap}
 use Rattle.relabel_core.specs.Answer.{walk_in}
 use Rattle.policy_rehearsal.specs.Seen.{labels_listed}
 use Rattle.policy_rehearsal.proofs.SeenLemmas.{verdict_seen}

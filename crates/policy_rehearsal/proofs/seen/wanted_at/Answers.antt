@@ -1,7 +1,6 @@
-use Rattle.std.proofs.Common.{◌∙◌, ap, ap₂, sym}
+use Rattle.std.proofs.Common.{◌∙◌, ap₂, sym}
 use Rattle.label_rules.specs.LookUp.{given_at}
 use Rattle.label_rules.specs.declared.rules.Rules.{Rules}
-use Rattle.relabel_core.specs.Answer.{walk_in}
 use Rattle.relabel_core.specs.Walk.{wanted}
 use Rattle.policy_rehearsal.proofs.seen.wanted_at.Goals as goal
 

@@ -1,4 +1,4 @@
-use Rattle.std.proofs.Common.{◌∙◌, arith}
+use Rattle.std.proofs.Common.{arith}
 use Rattle.policy_rehearsal.proofs.TextLemmas.{lines_end, lines_next}
 use Rattle.policy_rehearsal.proofs.texts.add_changes.Goals as goal
 

@@ -1,4 +1,4 @@
-use Rattle.std.proofs.Common.{◌≡◌, ◌∙◌, ap, ◌++◌, [], get_or, sym, append-nil, length, arith}
+use Rattle.std.proofs.Common.{◌∙◌, ap, ◌++◌, [], get_or, sym, append-nil, arith}
 use Rattle.std.specs.List.{flat_map}
 use Rattle.label_base.specs.Bounded.{all_numbers}
 use Rattle.policy_rehearsal.specs.Lent.{rehearsed_lent}

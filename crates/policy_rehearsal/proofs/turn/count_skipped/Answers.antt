@@ -1,4 +1,4 @@
-use Rattle.std.proofs.Common.{◌≡◌, ◌∙◌, ap, sym, ◌+◌, filter, length, add-one, arith}
+use Rattle.std.proofs.Common.{◌≡◌, ◌∙◌, ap, ◌+◌, filter, length, add-one, arith}
 use Rattle.label_base.specs.Bounded.{all_numbers}
 use Rattle.relabel_core.specs.Answer.{walk_in}
 use Rattle.relabel_core.specs.Walk.{walk_count, is_skipped_first, one_if}

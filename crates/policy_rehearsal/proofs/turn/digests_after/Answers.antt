@@ -3,7 +3,7 @@ use Rattle.std.specs.Prelude.{map}
 use Rattle.std.proofs.lemmas.List.{map-append}
 use Rattle.label_base.specs.Bounded.{all_numbers}
 use Rattle.relabel_core.specs.Answer.{walk_in}
-use Rattle.relabel_core.specs.Walk.{walk_count, digest_after}
+use Rattle.relabel_core.specs.Walk.{digest_after}
 use Rattle.policy_rehearsal.specs.Seen.{labels_listed, walk_seen}
 use Rattle.policy_rehearsal.proofs.TurnLemmas.{entries_over}
 use Rattle.policy_rehearsal.proofs.turn.digests_after.Goals as goal

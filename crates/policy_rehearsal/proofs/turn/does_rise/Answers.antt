@@ -1,4 +1,4 @@
-use Rattle.std.proofs.Common.{◌∙◌, ap₂, arith}
+use Rattle.std.proofs.Common.{◌∙◌, ap₂}
 use Rattle.std.specs.Prelude.{nat_lt}
 use Rattle.relabel_core.specs.Answer.{walk_in}
 use Rattle.policy_rehearsal.specs.Seen.{labels_listed}
