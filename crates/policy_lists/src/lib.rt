@@ -1,0 +1,15 @@
+//! Lists of the lines of a policy that can still decide behind a text, each with states of its
+//! pattern, and the steps by bytes from one to another.
+#![tactic(auto)]
+
+mod line;
+mod lists;
+mod nodes;
+mod policy;
+mod rows;
+
+pub use line::Line;
+pub use lists::{first_fit, start_list, step_list};
+pub use nodes::Nodes;
+pub use policy::lines_of;
+pub use rows::Rows;
