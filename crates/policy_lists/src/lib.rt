@@ -5,11 +5,11 @@
 mod line;
 mod lists;
 mod nodes;
+mod numbered;
 mod policy;
 mod rows;
 
 pub use line::Line;
-pub use lists::{first_fit, start_list, step_list};
-pub use nodes::Nodes;
+pub use numbered::Lists;
 pub use policy::lines_of;
 pub use rows::Rows;
