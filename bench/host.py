@@ -10,8 +10,8 @@ then all of them once more below /copy1 and so on, as empty files and directorie
 namespace of its own: on a tmpfs, or with --disk on ext4 in a file, through a loop device. Before
 each first run all have the label lib_t; the second follows it. find reads names, inodes and labels,
 and writes them nowhere. --before names another relabel-tree, to be measured too. --alone leaves out
-find and setfiles. Prints seconds by the clock and of the processor and the most memory of a
-process, medians of T turns (3). --check looks after each first run that setfiles -n -v finds
+find and setfiles. Prints seconds by the clock and of the processor, medians of T turns
+(3). --check looks after each first run that setfiles -n -v finds
 nothing to change. SETFILES names the command, as '/opt/3.11/run setfiles'; RELABEL_TREE and RELABEL
 other programs. Needs Python alone, and for --disk mke2fs.
 """
@@ -80,7 +80,7 @@ def reset(paths):
 
 
 def timed(words):
-    """Seconds by the clock and of the processor, the most memory in MB, and what was said."""
+    """Seconds by the clock and of the processor, and what was said."""
     with tempfile.TemporaryFile() as told:
         start = time.monotonic()
         started = subprocess.Popen(words, stdout=subprocess.DEVNULL, stderr=told)
@@ -91,7 +91,7 @@ def timed(words):
         text = told.read().decode(errors="replace").strip()
     if started.returncode != 0:
         sys.exit(f"{words} ended with status {started.returncode}: {text[-2000:]}")
-    return (clock, used.ru_utime + used.ru_stime, used.ru_maxrss / 1000), text
+    return (clock, used.ru_utime + used.ru_stime), text
 
 
 def check(root, spec):
@@ -131,9 +131,8 @@ def measure(root, paths, given):
             if given.check and sets:
                 check(root, str(Path(given.spec).resolve()))
     for (name, which), rows in taken.items():
-        clock, used, memory = (statistics.median(column) for column in zip(*rows))
-        print(f"{name}, {which}: {clock:.2f} s, processor {used:.2f} s, {memory:.0f} MB",
-              flush=True)
+        clock, used = (statistics.median(column) for column in zip(*rows))
+        print(f"{name}, {which}: {clock:.2f} s, processor {used:.2f} s", flush=True)
 
 
 def mount(room, given):
