@@ -51,7 +51,8 @@ wide_on lines n item old new within is l this all i below =
 pub first_without : (p : ℕ → Bool) (front rest : List ℕ) (i : ℕ) → p i ≡ false
     → find p (front ++ rest) ≡ find p (front ++ i ∷ rest)
 first_without p front rest i e =
-    find-append p front rest ∙ ap (option_or (find p front)) (at rest) ∙ sym (find-append p front (i ∷ rest))
+    find-append p front rest ∙ ap (option_or (find p front)) (at rest) ∙ sym (find-append p front
+    (i ∷ rest))
   where
     at : (rest : List ℕ) → find p rest ≡ find p (i ∷ rest)
     at rest = rw e refl
@@ -60,7 +61,8 @@ first_without p front rest i e =
 pub first_up_to : (p : ℕ → Bool) (front rest : List ℕ) (i : ℕ) → p i ≡ true
     → find p (front ++ i ∷ []) ≡ find p (front ++ i ∷ rest)
 first_up_to p front rest i e =
-    find-append p front (i ∷ []) ∙ ap (option_or (find p front)) (at rest) ∙ sym (find-append p front (i ∷ rest))
+    find-append p front (i ∷ []) ∙ ap (option_or (find p front)) (at rest) ∙ sym
+    (find-append p front (i ∷ rest))
   where
     at : (rest : List ℕ) → find p (i ∷ []) ≡ find p (i ∷ rest)
     at rest = rw e refl

@@ -1,7 +1,8 @@
 -- Lists of nodes, a byte on.
 use Rattle.std.proofs.Common.{◌≡◌, ◌∙◌, sym, refl, ap, ap₂, subst, ℕ, zero, suc, ◌+◌, ◌<◌, ◌≤◌, inl}
 use Rattle.std.proofs.Common.{inr, Bool, true, false, ◌&&◌, List, [], ◌∷◌, ◌++◌, length, map, drop}
-use Rattle.std.proofs.Common.{Option, Some, None, slice_get, get_or, append-nil, append_assoc, arith}
+use Rattle.std.proofs.Common.{Option, Some, None, slice_get, get_or, append-nil, append_assoc}
+use Rattle.std.proofs.Common.{arith}
 use Rattle.std.proofs.Common.{true≢false}
 use Rattle.std.proofs.lemmas.List.{at_drop_more, drop_all, get_or_default, map_push}
 use Rattle.std.specs.List.{find}
@@ -19,9 +20,11 @@ use Rattle.policy_lists.specs.Nodes.{Accepts, Covers, IsBegun, LeadsTo, StandsAt
 use Rattle.policy_lists.specs.Nodes.{node_pattern}
 use Rattle.policy_lists.specs.Rows.{AreMore, AreRowNumbers, row_at, rows_at}
 use Rattle.policy_lists.specs.declared.line.Line.{Line}
-use Rattle.policy_lists.proofs.LineLemmas.{first_up_to, first_without, pattern_here, pattern_of_spec}
+use Rattle.policy_lists.proofs.LineLemmas.{first_up_to, first_without, pattern_here}
+use Rattle.policy_lists.proofs.LineLemmas.{pattern_of_spec}
 use Rattle.policy_lists.proofs.LineLemmas.{spec_here}
-use Rattle.policy_lists.proofs.RowLemmas.{number_at, numbers_kept, numbers_push, row_kept, rows_kept}
+use Rattle.policy_lists.proofs.RowLemmas.{number_at, numbers_kept, numbers_push, row_kept}
+use Rattle.policy_lists.proofs.RowLemmas.{rows_kept}
 use Rattle.policy_lists.proofs.RowLemmas.{rows_push}
 use Rattle.spec_match.proofs.AnswerLemmas.{dead_behind}
 use Rattle.spec_match.specs.LastMatch.{fits}

@@ -72,7 +72,8 @@ reached_kept : (lines : List Line) (byte : ℕ) (from : List ℕ) (old new : Lis
     → LeadsTo lines byte from (node_coded new v)
 reached_kept lines byte from old new zero m l h = h
 reached_kept lines byte from old new (suc to) m l h =
-    subst (λ row. LeadsTo lines byte from (Some row)) (sym (row_kept old new to m (omega (arith, l))))
+    subst (λ row. LeadsTo lines byte from (Some row)) (sym (row_kept old new to m (omega
+    (arith, l))))
     h
 
 noted_kept : (lines : List Line) (old new : List (List ℕ)) (p v : ℕ) → AreMore old new
@@ -166,7 +167,8 @@ step_noted lines nodes next ends takes width from byte code to h l b coded reach
     by_code (suc n) g = (omega (arith, g.0), g.1)
 
     one : (v : ℕ) → to ≡ decoded v → IsNoted lines nodes (256 * from + byte) v
-    one v e = let g = by_code v (subst (HasReached lines byte (row_at nodes from) nodes) e reached) in
+    one v e = let g = by_code v (subst (HasReached lines byte
+        (row_at nodes from) nodes) e reached) in
         record {
           from = omega (arith, q, l);
           to = g.0;
@@ -175,7 +177,8 @@ step_noted lines nodes next ends takes width from byte code to h l b coded reach
 
 moved : (lines : List Line) (nodes : List (List ℕ)) (p from byte : ℕ) (to : Option (List ℕ))
     → p / 256 ≡ from → p % 256 ≡ byte
-    → LeadsTo lines (p % 256) (row_at nodes (p / 256)) to → LeadsTo lines byte (row_at nodes from) to
+    → LeadsTo lines (p % 256) (row_at nodes (p / 256)) to
+    → LeadsTo lines byte (row_at nodes from) to
 moved lines nodes p from byte to q r h =
     subst (λ b. LeadsTo lines b (row_at nodes from) to) r
     (subst (λ n. LeadsTo lines (p % 256) (row_at nodes n) to) q h)

@@ -29,7 +29,8 @@ use Rattle.run_faults.specs.Causes.{and_then}
 use Rattle.run_faults.specs.declared.cause.Cause.{Cause}
 use Rattle.run_faults.specs.declared.cause.Cause.TheVariants.{Limit}
 use Rattle.run_faults.specs.declared.cause.LimitKind.TheVariants.{File}
-use Rattle.run_input.specs.Files.{FilesSay, absent, file_bytes, just, part_bytes, part_says, read_on}
+use Rattle.run_input.specs.Files.{FilesSay, absent, file_bytes, just, part_bytes, part_says}
+use Rattle.run_input.specs.Files.{read_on}
 use Rattle.dir_digest.specs.Basis.{AreRead, IsReadSpec}
 use Rattle.dir_digest.specs.ListingBytes.{AreCountable, IsNamesSub}
 use Rattle.policy_files.specs.Files.{part_specs, part_subs, specs_from, subs_for, subs_from}

@@ -67,14 +67,16 @@ lines_end entries changes k before all l so_far =
 
 -- ---- turns
 
-slice_get_map : (turns : List VersionChanges) (k : ℕ) (turn : VersionChanges) → slice_get turns k ≡ Some turn
+slice_get_map : (turns : List VersionChanges) (k : ℕ) (turn : VersionChanges) → slice_get turns k
+    ≡ Some turn
     → slice_get (map turn_lent turns) k ≡ Some (turn_lent turn)
 slice_get_map [] k turn is = absurd cc
 slice_get_map (t ∷ turns) zero turn is = ap (option_map turn_lent) is
 slice_get_map (t ∷ turns) (suc k) turn is = slice_get_map turns k turn is
 
 -- the text of the turn at a place
-pub next_turn : (entries : List Record) (names : List (List ℕ)) (turns : List VersionChanges) (k : ℕ)
+pub next_turn : (entries : List Record) (names : List (List ℕ)) (turns : List VersionChanges)
+    (k : ℕ)
     (before now name : List ℕ) (turn : VersionChanges)
     → name ≡ get_or names k [] → slice_get turns k ≡ Some turn
     → now ≡ before ++ turn_text entries (k + 1) name (turn_lent turn)
@@ -85,5 +87,6 @@ next_turn entries names turns k before now name turn named is added =
     (slice_get_map turns k turn is) in
     added ∙ (λ i. before ++ turn_text entries (k + 1) (named i) (sym there i))
 
-pub all_turns : (turns : List VersionChanges) (k : ℕ) → k ≡ length turns → k ≡ length (map turn_lent turns)
+pub all_turns : (turns : List VersionChanges) (k : ℕ) → k ≡ length turns → k
+    ≡ length (map turn_lent turns)
 all_turns turns k is = is ∙ sym (length-map turns turn_lent)

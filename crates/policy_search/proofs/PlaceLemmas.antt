@@ -261,7 +261,8 @@ ordered_push places place from l e h = record {
                   omega (arith, pk, last, e, h.near p before)
                   )
               | inr both ↦ (
-                  let lp = ap (λ (x : Place). x.depth) (get_or_push places place first_place p both) in
+                  let lp = ap (λ (x : Place). x.depth)
+                  (get_or_push places place first_place p both) in
                   omega (arith, lp, last)
                   )
             ]

@@ -1,5 +1,6 @@
 -- Places: a stage of a path and a list of each of two policies.
-use Rattle.std.specs.Prelude.{◌≡◌, ℕ, zero, suc, ◌+◌, ◌<◌, ◌≤◌, ◌⊎◌, List, [], ◌∷◌, ◌++◌, Some, length}
+use Rattle.std.specs.Prelude.{◌≡◌, ℕ, zero, suc, ◌+◌, ◌<◌, ◌≤◌, ◌⊎◌, List, [], ◌∷◌, ◌++◌}
+use Rattle.std.specs.Prelude.{Some, length}
 use Rattle.std.specs.List.{slice_index_or}
 use Rattle.policy_lists.specs.Lists.{AreWithin, IsListOf}
 use Rattle.policy_lists.specs.Numbered.{AreLists, NodeList, list_at, lists_in}

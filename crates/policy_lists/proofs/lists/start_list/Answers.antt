@@ -13,7 +13,9 @@ order-init c = record {
 
 pub begin-requires-clause-within : goal.begin-requires-clause-within
 begin-requires-clause-within c =
-    order_within (length c.args.lines.now) c.args.order.now c.order.line-index 0 c.order-test.true c.requires.order
+    order_within
+    (length c.args.lines.now) c.args.order.now c.order.line-index 0 c.order-test.true
+    c.requires.order
 
 pub order-preserved : goal.order-preserved
 order-preserved c = record {
@@ -22,7 +24,8 @@ order-preserved c = record {
       c.order.invariant.more c.in_ok-node.ensures.begun.more;
   begun = begun_on c.args.lines.now c.args.order.now c.order.nodes.rows c.begin.new.self.rows
       c.order.line-index 0 c.in_ok-node.node c.order.list.items c.push.new.self.items
-      c.order-test.true c.in_ok-node.ensures.begun c.in_ok-push.ensures.items c.order.invariant.begun;
+      c.order-test.true c.in_ok-node.ensures.begun c.in_ok-push.ensures.items
+      c.order.invariant.begun;
 }
 
 pub returns-clause-within : goal.returns-clause-within

@@ -10,23 +10,28 @@ returns-in-Setfiles-clause-run g c =
 
 pub returns-in-Restorecon-clause-status : goal.returns-in-Restorecon-clause-status
 returns-in-Restorecon-clause-status g c =
-    rw c.in-Restorecon.is (c.run_words-in-Restorecon.ensures.status _ c.read_restorecon-asked.ensures.meant)
+    rw c.in-Restorecon.is
+    (c.run_words-in-Restorecon.ensures.status _ c.read_restorecon-asked.ensures.meant)
 
 pub returns-in-Restorecon-clause-run : goal.returns-in-Restorecon-clause-run
 returns-in-Restorecon-clause-run g c =
-    rw c.in-Restorecon.is (c.run_words-in-Restorecon.ensures.run _ c.read_restorecon-asked.ensures.meant)
+    rw c.in-Restorecon.is
+    (c.run_words-in-Restorecon.ensures.run _ c.read_restorecon-asked.ensures.meant)
 
 pub returns-in-Matchpathcon-clause-status : goal.returns-in-Matchpathcon-clause-status
 returns-in-Matchpathcon-clause-status g c =
-    rw c.in-Matchpathcon.is (c.run_words-in-Matchpathcon.ensures.status _ c.read_lookup-asked.ensures.meant)
+    rw c.in-Matchpathcon.is
+    (c.run_words-in-Matchpathcon.ensures.status _ c.read_lookup-asked.ensures.meant)
 
 pub returns-in-Matchpathcon-clause-run : goal.returns-in-Matchpathcon-clause-run
 returns-in-Matchpathcon-clause-run g c =
-    rw c.in-Matchpathcon.is (c.run_words-in-Matchpathcon.ensures.run _ c.read_lookup-asked.ensures.meant)
+    rw c.in-Matchpathcon.is
+    (c.run_words-in-Matchpathcon.ensures.run _ c.read_lookup-asked.ensures.meant)
 
 pub returns-in-Genhomedircon-clause-status : goal.returns-in-Genhomedircon-clause-status
 returns-in-Genhomedircon-clause-status g c =
-    rw c.in-Genhomedircon.is (c.run_words-in-Genhomedircon.ensures.status _ c.read_homes-asked.ensures)
+    rw c.in-Genhomedircon.is
+    (c.run_words-in-Genhomedircon.ensures.status _ c.read_homes-asked.ensures)
 
 pub returns-in-Genhomedircon-clause-run : goal.returns-in-Genhomedircon-clause-run
 returns-in-Genhomedircon-clause-run g c =
@@ -34,7 +39,8 @@ returns-in-Genhomedircon-clause-run g c =
 
 pub returns-in-Rehearse-clause-status : goal.returns-in-Rehearse-clause-status
 returns-in-Rehearse-clause-status g c =
-    rw c.in-Rehearse.is (c.run_words-in-Rehearse.ensures.status _ c.read_rehearse-asked.ensures.meant)
+    rw c.in-Rehearse.is
+    (c.run_words-in-Rehearse.ensures.status _ c.read_rehearse-asked.ensures.meant)
 
 pub returns-in-Rehearse-clause-run : goal.returns-in-Rehearse-clause-run
 returns-in-Rehearse-clause-run g c =

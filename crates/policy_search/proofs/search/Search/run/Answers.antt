@@ -24,7 +24,8 @@ returns-then-from-len-clause-grown c = c.places.invariant.grown
 pub returns-then-from-len-clause-all : goal.returns-then-from-len-clause-all
 returns-then-from-len-clause-all c = λ _.
     subst (AreDone c.args.wanted (policies c.args.aims.now) (lists_in c.places.self.lists)
-    c.places.self.places.items) (omega (arith, c.if-from-len.true, c.len.ensures)) c.places.invariant.done
+    c.places.self.places.items) (omega
+    (arith, c.if-from-len.true, c.len.ensures)) c.places.invariant.done
 
 pub returns-then-from-len-clause-reached : goal.returns-then-from-len-clause-reached
 returns-then-from-len-clause-reached c = λ _.
