@@ -144,11 +144,11 @@ fn content_of(name: &[u8]) -> Outcome<Vec<u8>> {
 /// A record of find's format '%y %D %i %Z %p', or '%y %D %i %n %Z %p'.
 #[derive(Debug, PartialEq, Eq)]
 pub struct Record<'a> {
-    kind: Kind,
-    device: u64,
-    inode: u64,
-    label: &'a [u8],
-    path: Cow<'a, [u8]>,
+    pub kind: Kind,
+    pub device: u64,
+    pub inode: u64,
+    pub label: &'a [u8],
+    pub path: Cow<'a, [u8]>,
 }
 
 fn number(field: &[u8]) -> Option<u64> {

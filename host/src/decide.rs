@@ -42,7 +42,7 @@ pub struct Running {
 pub struct Answer {
     pub report: Vec<u8>,
     pub dump: Vec<u8>,
-    status: ExitStatus,
+    pub status: ExitStatus,
 }
 
 fn by_number(file: &File) -> OsString {

@@ -98,7 +98,7 @@ fn type_of_config(root: &Root) -> Outcome<Vec<u8>> {
 }
 
 /// The last SELINUXTYPE of a file of settings.
-fn type_in(text: &[u8]) -> Option<Vec<u8>> {
+pub fn type_in(text: &[u8]) -> Option<Vec<u8>> {
     let is_blank = |byte: &u8| matches!(byte, b' ' | b'\t');
     let trim = |text: &'_ [u8]| text.iter().take_while(|byte| is_blank(byte)).count();
     let of_line = |line: &[u8]| {
@@ -116,7 +116,10 @@ fn type_in(text: &[u8]) -> Option<Vec<u8>> {
 /// The folders of etc/selinux/fixfiles_exclude_dirs: its lines that begin with a slash.
 pub fn listed_exclusions(root: &Root) -> Vec<Vec<u8>> {
     let file = [&root.at[..], b"/etc/selinux/fixfiles_exclude_dirs"].concat();
-    let text = text_of(&file).unwrap_or_default();
+    listed_in(&text_of(&file).unwrap_or_default())
+}
+
+pub fn listed_in(text: &[u8]) -> Vec<Vec<u8>> {
     let lines = text.split(|&byte| byte == b'\n');
     let first = |line: &'_ [u8]| {
         let fields = line.split(u8::is_ascii_whitespace);

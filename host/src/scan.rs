@@ -692,7 +692,7 @@ const ENTRY_LENGTH: usize = 16;
 const ENTRY_NAME: usize = 19;
 
 /// The names in what the kernel tells of a folder, but for those of itself and of the one above.
-fn names_in(entries: &[u8]) -> impl Iterator<Item = &CStr> {
+pub fn names_in(entries: &[u8]) -> impl Iterator<Item = &CStr> {
     let mut rest = entries;
     std::iter::from_fn(move || loop {
         let length = rest.get(ENTRY_LENGTH..ENTRY_LENGTH + 2)?;
