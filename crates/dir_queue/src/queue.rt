@@ -14,6 +14,7 @@ use label_base::{OutOfMemory, Row};
 use std::alloc::{AllocError, Global};
 use std::snapshot::Snapshot;
 use std::sync::Wait;
+use std::sync::atomic::{AtomicBool, Ordering};
 use walk_steps::Shape;
 
 /// The right to take and to give, one for each thread. It has no bytes.
@@ -30,6 +31,8 @@ pub struct QueuePass {
 pub struct DirQueue {
     queue: RuledArrayQueue<Job, QueueView, NothingLostOrDoubled>,
     plan: QueuePlan,
+    // Whether somebody gave up. No clause speaks of it.
+    stopped: AtomicBool,
     pub ghost roomy: { ruled_capacity queue ≡ length plan.shape.value.parents + 1 },
 }
 
@@ -81,7 +84,12 @@ impl DirQueue {
             passes,
         };
         let (queue, pass) = RuledArrayQueue::ruled(alloc, shape.parents.as_slice().len() + 1)?;
-        Ok((DirQueue { queue, plan }, pass))
+        let queue = DirQueue {
+            queue,
+            plan,
+            stopped: AtomicBool::new(false),
+        };
+        Ok((queue, pass))
     }
 
     fn job(&self, number: u32) -> Job
@@ -147,6 +155,17 @@ impl DirQueue {
         }
         all.push(pass)?;
         Ok(all)
+    }
+
+    /// Tells all who share the queue that somebody gave up, so that they can end early. Whoever takes
+    /// jobs all the same finds them as before.
+    pub fn stop(&self) {
+        self.stopped.store(true, Ordering::SeqCst);
+    }
+
+    /// Whether [`stop`](DirQueue::stop) was called.
+    pub fn is_stopped(&self) -> bool {
+        self.stopped.load(Ordering::SeqCst)
     }
 
     /// Gives a job whose parent this pass took and that it did not give yet. There is always room.

@@ -28,7 +28,7 @@ pub struct Claims {
     // The word of group g stands at g + 1, since a cut and a join of passes read the first one.
     table: Table<u8, ClaimView, ClaimsPlan, Least, Global>,
     groups: usize,
-    // Reserved at once, so that `close` takes no memory.
+    // What the words were laid from. It has room for them, so that `close` takes no memory.
     room: Vec<u64>,
     pub ghost sized: { table.shared.table_id.words ≡ table.shared.key.groups + 1 },
     pub ghost bare: { table.shared.table_id.slots ≡ 0 },
@@ -77,22 +77,18 @@ impl Claims {
             (λ r. (r.1.table_id ≡ r.0.table.shared.table_id)
             × (r.1.me ≡ (fresh_claims passes, []))) }
     {
-        let count = groups as usize;
-        let words = Vec::from_elem(alloc, NONE_WORD, count + 1)?;
-        let room = Vec::with_capacity(alloc, count)?;
-        Claims::over(alloc, groups, passes, words.as_slice(), room)
+        let words = Vec::from_elem(alloc, NONE_WORD, groups as usize + 1)?;
+        Claims::over(alloc, groups, passes, words)
     }
 
     fn over(
         alloc: Global,
         groups: u32,
         passes: u32,
-        words: &[u64],
-        room: Vec<u64>,
+        mut words: Vec<u64>,
     ) -> Result<(Claims, Seat<u8, ClaimView>), AllocError>
         requires some { 0 < passes }
-        requires words { words.now ≡ replicate (groups + 1) NONE_WORD }
-        requires room { (room.items ≡ []) × (groups ≤ vec_capacity room) }
+        requires words { words.items ≡ replicate (groups + 1) NONE_WORD }
         ensures made { IfOk result (λ r.
             (groups_of r.0 ≡ groups) × (passes_of_claims r.0 ≡ passes)) }
         ensures seat { IfOk result
@@ -100,11 +96,12 @@ impl Claims {
             × (r.1.me ≡ (fresh_claims passes, []))) }
     {
         let plan = ClaimsPlan { groups, passes };
-        let (table, seat) = Table::of_words(alloc, words, &plan)?;
+        let (table, seat) = Table::of_words(alloc, words.as_slice(), &plan)?;
+        words.clear();
         let claims = Claims {
             table,
             groups: groups as usize,
-            room,
+            room: words,
         };
         Ok((claims, seat))
     }

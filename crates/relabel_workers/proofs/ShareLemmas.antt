@@ -28,11 +28,13 @@ use Rattle.tree_model.specs.Jobs as jobs
 use Rattle.tree_model.specs.Jobs.{directories_in, entries_of_job, entry_home, job_of}
 use Rattle.relabel_core.specs.Walk.{Walk, walk_count, skippable}
 use Rattle.relabel_workers.specs.Alone.{IsNoteOf, decided_alone, gives_alone}
-use Rattle.relabel_workers.specs.Held.{AreFreshPasses, Common, HasWorked, IsReady}
+use Rattle.relabel_workers.specs.Held.{AreFreshPasses, Common, HasHandWorked, HasWorked}
+use Rattle.relabel_workers.specs.Held.{IsHandReady, IsReady}
 use Rattle.relabel_workers.specs.Held.{StandFor, claims_stand, queue_stands}
 use Rattle.relabel_workers.specs.Worked.{AddsCall, IsDone, given_with, is_to_be_given}
 use Rattle.relabel_workers.specs.Worked.{jobs_given}
 use Rattle.relabel_workers.specs.declared.share.Share.{Share}
+use Rattle.relabel_workers.specs.declared.share.Hand.{Hand}
 use Rattle.relabel_workers.specs.declared.note.Note.{Note}
 use Rattle.relabel_workers.proofs.EndLemmas.{job_within, parent_home}
 use Rattle.relabel_workers.proofs.ListLemmas.{held_few, passes_on, passing_few}
@@ -225,24 +227,27 @@ stands_on a b c m n k x y s = record {
 pub ended : {c : Common} {a b : Share} {n : ℕ} → HasWorked c a n b → IsReady c b
 ended w = record { own = w.own; done = w.done }
 
--- the work of two that stand for themselves and for the rest of the row
-pub queue_both : {E : Type 0} (a b c d : Share) (n : ℕ) (r : Result Share E) → StandFor a 0 b
-    → StandFor c n d
-    → IfOk r (λ share. (queue_stands share ≡ queue_stands b + queue_stands d)
-    × (claims_stand share ≡ claims_stand b + claims_stand d))
-    → IfOk r (λ after. queue_stands after ≡ queue_stands a + queue_stands c + n)
-queue_both a b c d n (Ok h) x y s = let p = x.queue_more in let q = y.queue_more in let z = s.0 in
-    omega (arith, p, q, z)
-queue_both a b c d n (Err e) x y s = tt
+pub hand_ended : {c : Common} {a b : Hand} {n : ℕ} → HasHandWorked c a n b → IsHandReady c b
+hand_ended w = record { ready = ended w.worked; scratch = w.scratch }
 
-pub claims_both : {E : Type 0} (a b c d : Share) (n : ℕ) (r : Result Share E) → StandFor a 0 b
-    → StandFor c n d
-    → IfOk r (λ share. (queue_stands share ≡ queue_stands b + queue_stands d)
-    × (claims_stand share ≡ claims_stand b + claims_stand d))
-    → IfOk r (λ after. claims_stand after ≡ claims_stand a + claims_stand c + n)
-claims_both a b c d n (Ok h) x y s = let p = x.claims_more in let q = y.claims_more in
+-- what a thread and the caller brought back, who stand for themselves and for the rest of the row
+pub hand_queue : {E : Type 0} (a b c d : Share) (n : ℕ) (r : Result Hand E) → StandFor a n b
+    → StandFor c 0 d
+    → IfOk r (λ after. (queue_stands after.share ≡ queue_stands b + queue_stands d)
+    × (claims_stand after.share ≡ claims_stand b + claims_stand d))
+    → IfOk r (λ after. queue_stands after.share ≡ queue_stands a + queue_stands c + n)
+hand_queue a b c d n (Ok h) x y s = let p = x.queue_more in let q = y.queue_more in let z = s.0 in
+    omega (arith, p, q, z)
+hand_queue a b c d n (Err e) x y s = tt
+
+pub hand_claims : {E : Type 0} (a b c d : Share) (n : ℕ) (r : Result Hand E) → StandFor a n b
+    → StandFor c 0 d
+    → IfOk r (λ after. (queue_stands after.share ≡ queue_stands b + queue_stands d)
+    × (claims_stand after.share ≡ claims_stand b + claims_stand d))
+    → IfOk r (λ after. claims_stand after.share ≡ claims_stand a + claims_stand c + n)
+hand_claims a b c d n (Ok h) x y s = let p = x.claims_more in let q = y.claims_more in
     let z = s.1 in omega (arith, p, q, z)
-claims_both a b c d n (Err e) x y s = tt
+hand_claims a b c d n (Err e) x y s = tt
 
 -- ---- a job may be given
 

@@ -23,6 +23,7 @@ use Rattle.relabel_core.specs.declared.stored.Stored.{Stored}
 use Rattle.relabel_workers.specs.Worked.{IsDone, jobs_given}
 use Rattle.spec_match.specs.Scratches.{IsScratchOf}
 use Rattle.relabel_workers.specs.Alone.{AreListingsFor}
+use Rattle.relabel_workers.specs.declared.share.Hand.{Hand}
 use Rattle.relabel_workers.specs.declared.share.Share.{Share}
 use Rattle.relabel_workers.specs.declared.site.Site.{Site}
 use Rattle.relabel_workers.specs.declared.site.Worker.{Worker}
@@ -95,6 +96,16 @@ pub record HasWorked (c : Common) (old : Share) (more : ℕ) (new : Share) : Typ
   pub own : IsShareOf c new
   pub done : AreDone (walk_of c.input) [] new
   pub stands : StandFor old more new
+
+-- a worker on the caller's thread may begin with this
+pub record IsHandReady (c : Common) (hand : Hand) : Type 0 where
+  pub ready : IsReady c hand.share
+  pub scratch : IsScratchOf c.input.rules.now.rules hand.buffers.scratch
+
+-- and so it is at its end, where it stands for so many passes more than at its beginning
+pub record HasHandWorked (c : Common) (old : Hand) (more : ℕ) (new : Hand) : Type 0 where
+  pub worked : HasWorked c old.share more new.share
+  pub scratch : IsScratchOf c.input.rules.now.rules new.buffers.scratch
 
 -- what a step took: nothing, or a job whose entries give so many
 abbrev pub TakesOne : Walk → (old new : Share) → Option ℕ → Type 0

@@ -8,18 +8,16 @@ ghost use Rattle.relabel_workers.specs.Held.{common, queue_stands};
 use crate::alone::{drain, start_alone};
 use crate::gate::Gate;
 use crate::running::run_if_any;
-use crate::share::{Share, next_share};
-use crate::site::{Passes, Site};
-use crate::work::worker_for;
+use crate::share::{Hand, Share, next_share};
+use crate::site::{CALLER, Passes, Site, Worker};
+use crate::work::worker_with;
 use label_base::OutOfMemory;
+use relabel_core::buffers_for;
 use std::sync::Wait;
 use std::thread::Threads;
 
-// The number that the caller has as a worker.
-const CALLER: u32 = 0;
-
 /// Lets as many workers as there are passes take all jobs: the caller alone first, then all of
-/// them, and what is left by the caller. It answers what they did, by passes that stand for all.
+/// them, the caller with what it learned, and what is left by the caller. It answers what they did, by passes that stand for all.
 pub fn take_all_jobs<R: Threads + Wait + Sync, G: Gate + Sync>(
     site: &Site<'_, '_, R, G>,
     workers: u32,
@@ -39,9 +37,14 @@ pub fn take_all_jobs<R: Threads + Wait + Sync, G: Gate + Sync>(
     let Some(mut share) = next_share(site, &mut passes) else {
         unreachable!()
     };
-    let mut worker = worker_for(site.alloc, site.input, CALLER)?;
+    let buffers = buffers_for(site.alloc, site.input.rules)?;
+    let mut worker = worker_with(site.alloc, site.input, CALLER, buffers)?;
     let waiting = start_alone(site, workers, &mut worker, &mut share)?;
-    let mut share = run_if_any(site, waiting, passes, share)?;
-    drain(site, &mut worker, &mut share)?;
-    Ok(share)
+    let Worker {
+        number: _,
+        listings: _,
+        buffers,
+    } = worker;
+    let hand = run_if_any(site, waiting, passes, Hand { share, buffers })?;
+    drain(site, CALLER, hand)
 }

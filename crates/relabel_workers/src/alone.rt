@@ -1,13 +1,17 @@
-ghost use Rattle.std.specs.Prelude.{◌≡◌, ◌≤◌, ◌⊎◌, IfOk, OnOk};
+ghost use Rattle.std.specs.Prelude.{◌≡◌, ◌≤◌, ◌⊎◌, IfOk, OnOk, length};
 ghost use Rattle.dir_queue.specs.Answers.{one_worker, passes_of_queue, queue_view, queue_shape};
 ghost use Rattle.walk_steps.specs.Sound.{Sound};
-ghost use Rattle.relabel_workers.specs.Held.{HasWorked, IsReady, IsSite, IsWorkerFor, common};
-ghost use Rattle.relabel_workers.specs.Held.{queue_stands};
+ghost use Rattle.spec_match.specs.Scratches.{IsScratchOf};
+ghost use Rattle.tree_model.specs.Jobs.{directories_in, entries_of_job};
+ghost use Rattle.relabel_core.specs.Walked.{walk_of};
+ghost use Rattle.relabel_workers.specs.Held.{AreDone, HasWorked, IsHandReady, IsReady};
+ghost use Rattle.relabel_workers.specs.Held.{IsShareOf, IsSite, IsWorkerFor, common, queue_stands};
 
 use crate::gate::Gate;
-use crate::share::Share;
+use crate::job::do_entries;
+use crate::share::{Hand, Share};
 use crate::site::{Site, Worker};
-use crate::work::step;
+use crate::work::{step, worker_with};
 use label_base::OutOfMemory;
 use std::sync::Wait;
 
@@ -50,8 +54,8 @@ fn waiting_behind(waiting: u32, found: Option<u32>) -> u32 {
     }
 }
 
-/// Takes what jobs are left, by the caller alone, into whose passes all others were joined.
-pub fn drain<R: Wait, G: Gate>(
+// Takes jobs until none waits.
+fn drain_with<R: Wait, G: Gate>(
     site: &Site<'_, '_, R, G>,
     worker: &mut Worker<'_>,
     share: &mut Share,
@@ -60,8 +64,6 @@ pub fn drain<R: Wait, G: Gate>(
     requires worker { IsWorkerFor site.now.input.now worker.old }
     requires ready { IsReady (common site.now) share.old }
     requires whole { queue_stands share.old ≡ passes_of_queue site.now.queue.now }
-    ensures worker { IsWorkerFor site.now.input.now worker.new }
-    ensures number { worker.new.number ≡ worker.old.number }
     ensures worked { OnOk result (HasWorked (common site.now) share.old 0 share.new) }
     ensures sound { OnOk result
         (Sound (queue_shape site.now.queue.now) (one_worker (queue_view share.new.queue))) }
@@ -73,4 +75,50 @@ pub fn drain<R: Wait, G: Gate>(
         }
     }
     unreachable!()
+}
+
+// Does what is to be done for a job that was taken, and takes what jobs are left.
+fn drain_from<R: Wait, G: Gate>(
+    site: &Site<'_, '_, R, G>,
+    number: u32,
+    job: u32,
+    hand: Hand,
+) -> Result<Share, OutOfMemory>
+    requires site { IsSite (common site.now) }
+    requires job { job ≤ length (directories_in site.now.input.now.tree.now) }
+    requires own { IsScratchOf site.now.input.now.rules.now.rules hand.buffers.scratch }
+    requires share { IsShareOf (common site.now) hand.share }
+    requires left { AreDone (walk_of site.now.input.now)
+        (entries_of_job site.now.input.now.tree.now job) hand.share }
+    requires whole { queue_stands hand.share ≡ passes_of_queue site.now.queue.now }
+    ensures worked { IfOk result (λ after. HasWorked (common site.now) hand.share 0 after) }
+    ensures sound { IfOk result (λ after.
+        Sound (queue_shape site.now.queue.now) (one_worker (queue_view after.queue))) }
+{
+    let Hand { mut share, buffers } = hand;
+    let mut worker = worker_with(site.alloc, site.input, number, buffers)?;
+    do_entries(site, &mut worker, job, &mut share)?;
+    drain_with(site, &mut worker, &mut share)?;
+    Ok(share)
+}
+
+/// Takes what jobs are left, by the caller alone, into whose passes all others were joined. Where
+/// none is left, which is nearly always so, it makes nothing to work by.
+pub fn drain<R: Wait, G: Gate>(
+    site: &Site<'_, '_, R, G>,
+    number: u32,
+    hand: Hand,
+) -> Result<Share, OutOfMemory>
+    requires site { IsSite (common site.now) }
+    requires ready { IsHandReady (common site.now) hand }
+    requires whole { queue_stands hand.share ≡ passes_of_queue site.now.queue.now }
+    ensures worked { IfOk result (λ after. HasWorked (common site.now) hand.share 0 after) }
+    ensures sound { IfOk result (λ after.
+        Sound (queue_shape site.now.queue.now) (one_worker (queue_view after.queue))) }
+{
+    let Hand { mut share, buffers } = hand;
+    let Some(job) = site.queue.drain(site.rt, &mut share.queue) else {
+        return Ok(share);
+    };
+    drain_from(site, number, job, Hand { share, buffers })
 }

@@ -129,8 +129,8 @@ fn do_entry<R: Wait, G: Gate>(
     Ok(given)
 }
 
-/// Does what is to be done for the entries of a job that was taken. It answers how many jobs were
-/// given.
+/// Tells the gate of a job that was taken, and does what is to be done for its entries. It answers
+/// how many jobs were given.
 pub fn do_entries<R: Wait, G: Gate>(
     site: &Site<'_, '_, R, G>,
     worker: &mut Worker<'_>,
@@ -151,6 +151,7 @@ pub fn do_entries<R: Wait, G: Gate>(
         ((queue_view share.new.queue).taken ≡ (queue_view share.old.queue).taken) }
     ensures worked { OnOk result (HasWorked (common site.now) share.old 0 share.new) }
 {
+    site.gate.enter(worker.number, job);
     let mut given = 0u32;
     let input = site.input;
     let mut entries = input.tree.entries_of_job(job);

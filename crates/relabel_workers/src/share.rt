@@ -11,6 +11,7 @@ use crate::site::{Passes, Site};
 use dir_queue::QueuePass;
 use inode_claims::ClaimPass;
 use label_base::OutOfMemory;
+use relabel_core::Buffers;
 use std::sync::Wait;
 
 /// What a worker holds, and brings back: its two passes, and what it found of the entries of the
@@ -20,6 +21,14 @@ pub struct Share {
     pub queue: QueuePass,
     pub claims: ClaimPass,
     pub notes: Notes,
+}
+
+/// What the worker on the caller's thread holds, and the buffers by which it works, so that it goes
+/// on with what it learned.
+#[derive(Drop)]
+pub struct Hand {
+    pub share: Share,
+    pub buffers: Buffers,
 }
 
 /// The passes of one more worker, if there are any left.

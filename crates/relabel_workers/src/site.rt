@@ -5,6 +5,9 @@ use label_base::Row;
 use relabel_core::{Buffers, WalkInput};
 use std::alloc::Global;
 
+/// The number that the caller has as a worker.
+pub const CALLER: u32 = 0;
+
 /// What all workers of a walk share.
 #[derive(Clone, Copy)]
 pub struct Site<'s, 'a, R, G> {

@@ -1,18 +1,19 @@
 ghost use Rattle.std.specs.Prelude.{◌≡◌, IfNone, IfOk, OnOk};
 ghost use Rattle.dir_queue.specs.Answers.{one_worker, passes_of_queue, queue_view, queue_shape};
+ghost use Rattle.spec_match.specs.Scratches.{IsScratchOf};
 ghost use Rattle.walk_steps.specs.Sound.{Sound};
 ghost use Rattle.relabel_workers.specs.Alone.{AreListingsFor};
 ghost use Rattle.relabel_core.specs.Walked.{walk_of};
-ghost use Rattle.relabel_workers.specs.Held.{HasWorked, IsReady, IsSite, IsWorkerFor, TakesOne};
-ghost use Rattle.relabel_workers.specs.Held.{common, queue_stands};
+ghost use Rattle.relabel_workers.specs.Held.{HasHandWorked, HasWorked, IsHandReady, IsReady};
+ghost use Rattle.relabel_workers.specs.Held.{IsSite, IsWorkerFor, TakesOne, common, queue_stands};
 
 use crate::gate::Gate;
 use crate::job::do_entries;
-use crate::share::Share;
+use crate::share::{Hand, Share};
 use crate::site::{Site, Worker};
 use dir_digest::Listings;
 use label_base::OutOfMemory;
-use relabel_core::{WalkInput, buffers_for, listings_by, uses_digests};
+use relabel_core::{Buffers, WalkInput, buffers_for, listings_by, uses_digests};
 use std::alloc::Global;
 use std::sync::Wait;
 use std::thread::yield_now;
@@ -35,17 +36,18 @@ fn listings_for<'a>(
     Ok(Some(listings))
 }
 
-/// What the worker of a number works by.
-pub fn worker_for<'a>(
+/// What the worker of a number works by, with buffers that may have learned from other entries.
+pub fn worker_with<'a>(
     alloc: Global,
     input: &WalkInput<'a>,
     number: u32,
+    buffers: Buffers,
 ) -> Result<Worker<'a>, OutOfMemory>
+    requires own { IsScratchOf input.now.rules.now.rules buffers.scratch }
     ensures worker { IfOk result (λ worker. IsWorkerFor input.now worker) }
     ensures number { IfOk result (λ worker. worker.number ≡ number) }
 {
     let listings = listings_for(alloc, input)?;
-    let buffers = buffers_for(alloc, input.rules)?;
     Ok(Worker {
         number,
         listings,
@@ -75,12 +77,16 @@ pub fn step<R: Wait, G: Gate>(
     let Some(job) = site.queue.take(site.rt, &mut share.queue) else {
         return Ok(None);
     };
-    site.gate.enter(worker.number, job);
     let given = do_entries(site, worker, job, share)?;
     Ok(Some(given))
 }
 
-// Takes jobs until there were none for long.
+// Whether a worker ends: it took nothing for long, or another one gave up.
+fn is_over<R, G>(site: &Site<'_, '_, R, G>, idle: u32) -> bool {
+    idle >= MOST_EMPTY_TAKES || site.queue.is_stopped()
+}
+
+// Takes jobs until there were none for long, or a worker gave up.
 fn work_with<R: Wait, G: Gate>(
     site: &Site<'_, '_, R, G>,
     worker: &mut Worker<'_>,
@@ -89,11 +95,12 @@ fn work_with<R: Wait, G: Gate>(
     requires site { IsSite (common site.now) }
     requires worker { IsWorkerFor site.now.input.now worker.old }
     requires ready { IsReady (common site.now) share.old }
-    ensures { OnOk result (HasWorked (common site.now) share.old 0 share.new) }
+    ensures worker { IsWorkerFor site.now.input.now worker.new }
+    ensures worked { OnOk result (HasWorked (common site.now) share.old 0 share.new) }
 {
     let mut idle = 0u32;
     'steps: for _ in site.rt.forever() {
-        if idle >= MOST_EMPTY_TAKES {
+        if is_over(site, idle) {
             return Ok(());
         }
         let found = step(site, worker, share)?;
@@ -112,17 +119,74 @@ fn idle_behind(idle: u32, found: Option<u32>) -> u32 {
     idle.saturating_add(1)
 }
 
-/// What the worker of a number does: it takes jobs, until there were none for long.
+// Takes jobs by the buffers in the hand.
+fn work_by<R: Wait, G: Gate>(
+    site: &Site<'_, '_, R, G>,
+    number: u32,
+    hand: Hand,
+) -> Result<Hand, OutOfMemory>
+    requires site { IsSite (common site.now) }
+    requires ready { IsHandReady (common site.now) hand }
+    ensures { IfOk result (λ after. HasHandWorked (common site.now) hand 0 after) }
+{
+    let Hand { mut share, buffers } = hand;
+    let mut worker = worker_with(site.alloc, site.input, number, buffers)?;
+    work_with(site, &mut worker, &mut share)?;
+    let Worker {
+        number: _,
+        listings: _,
+        buffers,
+    } = worker;
+    Ok(Hand { share, buffers })
+}
+
+/// What the worker of a number does: it takes jobs, until there were none for long. Where it has no
+/// memory, it tells the others.
 pub fn work<R: Wait, G: Gate>(
     site: &Site<'_, '_, R, G>,
     number: u32,
-    mut share: Share,
+    hand: Hand,
+) -> Result<Hand, OutOfMemory>
+    requires site { IsSite (common site.now) }
+    requires ready { IsHandReady (common site.now) hand }
+    ensures { IfOk result (λ after. HasHandWorked (common site.now) hand 0 after) }
+{
+    let worked = work_by(site, number, hand);
+    if worked.is_err() {
+        site.queue.stop();
+    }
+    worked
+}
+
+// The same with buffers of its own.
+fn work_by_own<R: Wait, G: Gate>(
+    site: &Site<'_, '_, R, G>,
+    number: u32,
+    share: Share,
 ) -> Result<Share, OutOfMemory>
     requires site { IsSite (common site.now) }
     requires ready { IsReady (common site.now) share }
     ensures { IfOk result (λ after. HasWorked (common site.now) share 0 after) }
 {
-    let mut worker = worker_for(site.alloc, site.input, number)?;
-    work_with(site, &mut worker, &mut share)?;
+    let buffers = buffers_for(site.alloc, site.input.rules)?;
+    let hand = work_by(site, number, Hand { share, buffers })?;
+    let Hand { share, buffers: _ } = hand;
     Ok(share)
+}
+
+/// What a worker does that has learned nothing.
+pub fn work_anew<R: Wait, G: Gate>(
+    site: &Site<'_, '_, R, G>,
+    number: u32,
+    share: Share,
+) -> Result<Share, OutOfMemory>
+    requires site { IsSite (common site.now) }
+    requires ready { IsReady (common site.now) share }
+    ensures { IfOk result (λ after. HasWorked (common site.now) share 0 after) }
+{
+    let worked = work_by_own(site, number, share);
+    if worked.is_err() {
+        site.queue.stop();
+    }
+    worked
 }

@@ -5,9 +5,11 @@
 
 mod counts;
 mod entry_texts;
+mod next;
 mod tool;
 mod workers;
 
 pub use counts::workers_for;
+pub use next::next_walk_shared;
 pub use tool::ByWorkers;
 pub use workers::Workers;

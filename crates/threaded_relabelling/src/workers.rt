@@ -52,8 +52,8 @@ impl<'r, R: Threads + Wait + Sync> Workers<'r, R> {
     }
 }
 
-// Walks over a tree by so many workers.
-fn walk_shared<'a, R: Threads + Wait + Sync>(
+/// Walks over a tree by so many workers.
+pub fn walk_shared<'a, R: Threads + Wait + Sync>(
     rt: &R,
     alloc: Global,
     input: &WalkInput<'a>,

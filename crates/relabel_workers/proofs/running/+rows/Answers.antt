@@ -26,18 +26,18 @@ use Rattle.relabel_workers.specs.contracts.share.Share as ShareType
 use Rattle.std.proofs.Crossing.{crosses, sync}
 use Rattle.dir_queue.proofs.Sending.{queue_sync}
 use Rattle.label_base.proofs.Sending.{row_sync}
-use Rattle.relabel_workers.specs.Held.{HasWorked, common}
+use Rattle.relabel_workers.specs.Held.{HasHandWorked, HasWorked, common}
 use Rattle.relabel_workers.proofs.Sending.{captures_send, claims_sync, share_send, options_sync}
 use Rattle.relabel_workers.proofs.Sending.{word_sync}
-use Rattle.relabel_workers.proofs.ShareLemmas.{claims_both, ended, queue_both}
+use Rattle.relabel_workers.proofs.ShareLemmas.{ended, hand_claims, hand_ended, hand_queue}
 use Rattle.relabel_workers.proofs.running.+rows.Goals as goal
 
-pub run_both-join-mine-requires-send-A : goal.run_both-join-mine-requires-send-A
-run_both-join-mine-requires-send-A g t c κs within = search (sendable, crosses, share_send) depth 20
+pub run_both-join-other-requires-send-A : goal.run_both-join-other-requires-send-A
+run_both-join-other-requires-send-A g t c κs within = search (sendable, crosses, share_send) depth 20
 
 -- what the first closure captures, each by its type: a search over so many ends at its count
-pub run_both-join-mine-requires-send-F : goal.run_both-join-mine-requires-send-F
-run_both-join-mine-requires-send-F g t c κs within =
+pub run_both-join-other-requires-send-F : goal.run_both-join-other-requires-send-F
+run_both-join-other-requires-send-F g t c κs within =
     let lent : List RattleType = ShrRef (named 6) κs.1.1.1.1.1.1.0 Tree.the_row ∷ ShrRef (named 7)
     κs.1.1.1.1.1.1.1.0 Selected.the_row ∷ ShrRef (named 8) κs.1.1.1.1.1.1.1.1.0
     (Row.the_row NormPath.the_row) ∷ ShrRef (named 9) κs.1.1.1.1.1.1.1.1.1.0
@@ -88,30 +88,34 @@ run_both-join-mine-requires-send-F g t c κs within =
     lent each in
     record { owned = whole.owned; leaving = (param_send 1 T whole).leaving }
 
-pub run_both-join_shares-requires-clause-into : goal.run_both-join_shares-requires-clause-into
-run_both-join_shares-requires-clause-into g t c = ended
-    (IfOk-at_ok (HasWorked (common c.args.site.now) c.args.share 0) c.in_ok-mine.was
-    c.join-mine.ensures.first)
+pub run_both-add_share-requires-clause-into : goal.run_both-add_share-requires-clause-into
+run_both-add_share-requires-clause-into g t c = hand_ended
+    (IfOk-at_ok (HasHandWorked (common c.args.site.now) c.args.hand (length c.args.passes.queue))
+    c.in_ok-mine.was c.join-other.ensures.second)
 
-pub run_both-join_shares-requires-clause-from : goal.run_both-join_shares-requires-clause-from
-run_both-join_shares-requires-clause-from g t c = ended
-    (IfOk-at_ok (HasWorked (common c.args.site.now) c.args.next (length c.args.passes.queue))
-    c.in_ok-others.was c.join-mine.ensures.second)
+pub run_both-add_share-requires-clause-from : goal.run_both-add_share-requires-clause-from
+run_both-add_share-requires-clause-from g t c = ended
+    (IfOk-at_ok (HasWorked (common c.args.site.now) c.args.next 0) c.in_ok-other.was
+    c.join-other.ensures.first)
 
 pub run_both-returns-clause-queue_stands : goal.run_both-returns-clause-queue_stands
 run_both-returns-clause-queue_stands g t c =
-    let a = IfOk-at_ok (HasWorked (common c.args.site.now) c.args.share 0) c.in_ok-mine.was
-    c.join-mine.ensures.first in
-    let b = IfOk-at_ok (HasWorked (common c.args.site.now) c.args.next (length c.args.passes.queue))
-    c.in_ok-others.was c.join-mine.ensures.second in
-    queue_both c.args.share c.in_ok-mine.field-0 c.args.next c.in_ok-others.field-0
-    (length c.args.passes.queue) c.join_shares.result a.stands b.stands c.join_shares.ensures.stands
+    let a = IfOk-at_ok
+    (HasHandWorked (common c.args.site.now) c.args.hand (length c.args.passes.queue))
+    c.in_ok-mine.was c.join-other.ensures.second in
+    let b = IfOk-at_ok (HasWorked (common c.args.site.now) c.args.next 0) c.in_ok-other.was
+    c.join-other.ensures.first in
+    hand_queue c.args.hand.share c.in_ok-mine.field-0.share c.args.next c.in_ok-other.field-0
+    (length c.args.passes.queue) c.add_share.result a.worked.stands b.stands
+    c.add_share.ensures.stands
 
 pub run_both-returns-clause-claims_stand : goal.run_both-returns-clause-claims_stand
 run_both-returns-clause-claims_stand g t c =
-    let a = IfOk-at_ok (HasWorked (common c.args.site.now) c.args.share 0) c.in_ok-mine.was
-    c.join-mine.ensures.first in
-    let b = IfOk-at_ok (HasWorked (common c.args.site.now) c.args.next (length c.args.passes.queue))
-    c.in_ok-others.was c.join-mine.ensures.second in
-    claims_both c.args.share c.in_ok-mine.field-0 c.args.next c.in_ok-others.field-0
-    (length c.args.passes.queue) c.join_shares.result a.stands b.stands c.join_shares.ensures.stands
+    let a = IfOk-at_ok
+    (HasHandWorked (common c.args.site.now) c.args.hand (length c.args.passes.queue))
+    c.in_ok-mine.was c.join-other.ensures.second in
+    let b = IfOk-at_ok (HasWorked (common c.args.site.now) c.args.next 0) c.in_ok-other.was
+    c.join-other.ensures.first in
+    hand_claims c.args.hand.share c.in_ok-mine.field-0.share c.args.next c.in_ok-other.field-0
+    (length c.args.passes.queue) c.add_share.result a.worked.stands b.stands
+    c.add_share.ensures.stands
