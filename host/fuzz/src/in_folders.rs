@@ -37,10 +37,7 @@ pub fn plain_paths(input: &[u8]) {
 }
 
 /// Of the paths those at or above another one.
-fn names_below<'a>(
-    kept: &'a [Vec<u8>],
-    path: &'a [u8],
-) -> impl Iterator<Item = &'a Vec<u8>> + 'a {
+fn names_below<'a>(kept: &'a [Vec<u8>], path: &'a [u8]) -> impl Iterator<Item = &'a Vec<u8>> + 'a {
     kept.iter().filter(move |above| {
         let mut steps = names(path);
         names(above).all(|name| steps.next() == Some(name))
@@ -135,7 +132,9 @@ pub fn path(input: &[u8]) {
     }
     let found = root.path_of(input);
     if let Ok(path) = &found {
-        assert!(path.starts_with(b"/") && (is_plain(path) && !path.ends_with(b"/") || path == b"/"));
+        assert!(
+            path.starts_with(b"/") && (is_plain(path) && !path.ends_with(b"/") || path == b"/")
+        );
         let at = root.outside(path);
         assert!(is_at_or_below(&at, &root.at));
         let metadata = std::fs::symlink_metadata(as_path(&at)).expect("not there");

@@ -98,8 +98,7 @@ pub fn records(text: &[u8], links: bool) {
         if record.path.len() > LONGEST_PATH || name.len() > 255 {
             continue;
         }
-        let status =
-            Status { device: record.device, inode: record.inode, ..Status::default() };
+        let status = Status { device: record.device, inode: record.inode, ..Status::default() };
         let entry = Shelf::default().add(name, &status, record.kind, NO_LABEL);
         push(&mut written, &entry, links, record.label, above, name);
         kept.push(record);

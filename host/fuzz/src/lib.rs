@@ -92,6 +92,7 @@ fn read(choice: u8, input: &[u8]) {
 /// # Safety
 /// There are `length` bytes at `bytes`, or the length is 0.
 #[no_mangle]
+// SAFETY: only libFuzzer calls it, with the bytes and their length.
 pub unsafe extern "C" fn LLVMFuzzerTestOneInput(bytes: *const u8, length: usize) -> i32 {
     if length > 0 {
         // SAFETY: libFuzzer gives so many bytes, and leaves them while this runs.
