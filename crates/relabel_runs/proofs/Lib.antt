@@ -5,3 +5,4 @@ pub mod ClosedLemmas
 pub mod WalkLemmas
 pub mod ShownLemmas
 pub mod RunLemmas
+pub mod WitnessLemmas

@@ -1,3 +1,4 @@
 pub mod Runs
 pub mod Premises
 pub mod Laws
+pub mod Witness

@@ -6,6 +6,7 @@
 mod walking;
 
 ghost use Rattle.relabel_runs.specs.Laws.{NoneSkipped, OneMoreRunKeepsLabels, SkippingKeepsLabels};
+ghost use Rattle.relabel_runs.specs.Witness.{TreeRunsHappen};
 
 pub use walking::next_walk;
 
@@ -28,4 +29,10 @@ pub fn one_more_run_keeps_labels()
 /// With skipping off, no directory is skipped.
 pub fn none_is_skipped()
     ensures { NoneSkipped }
+{}
+
+/// There are runs over a tree that meet all that is asked of runs: each digests a directory, and the
+/// first changes a label. So nothing that is asked rules all runs out.
+pub fn tree_runs_happen()
+    ensures { TreeRunsHappen }
 {}
